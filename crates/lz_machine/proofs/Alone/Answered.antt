@@ -1,9 +1,6 @@
 -- What a call of one actor alone has answered, and what a call that was cut off leaves.
-use Rattle.std.proofs.Common.{◌≡◌, inl, inr, ℕ, suc, ◌<◌, true, false, List, [], ◌∷◌, Option, refl, sym, ap, ◌∙◌, subst}
-use mathlib.Core.Bool.{false≢true}
-use Rattle.std.proofs.lemmas.Option.{none-some}
+use Rattle.std.proofs.Common.{◌≡◌, ℕ, suc, ◌<◌, true, false, List, [], ◌∷◌, Option, refl, arith}
 use Rattle.lz_slot.specs.declared.command.Command.{Command}
-use Rattle.lz_slot.specs.declared.command.Command.TheVariants.{Add, Remove, Has}
 use Rattle.lz_slot.specs.declared.history.Mark.TheVariants.{Call}
 use Rattle.lz_slot.specs.declared.history.Cut.TheVariants.{Halted as cut_halted, Device as cut_device}
 use Rattle.lz_slot.specs.Sets.{Keys}
@@ -11,9 +8,9 @@ use Rattle.lz_slot.specs.Bytes.{Holds}
 use Rattle.lz_slot.specs.Histories.{History, Life, Fits, lives}
 use Rattle.lz_list.specs.Traces.{Trace, halt_word}
 use Rattle.lz_machine.specs.declared.event.Reply.{Reply}
-use Rattle.lz_machine.specs.declared.event.Reply.TheVariants.{Yes, No, Full, Worn, OldFile, Halted, Device}
+use Rattle.lz_machine.specs.declared.event.Reply.TheVariants.{Yes, Halted, Device}
 use Rattle.lz_machine.specs.declared.caller.Progress.TheVariants.{Answering}
-use Rattle.lz_machine.specs.Runs.{Start, State, Up, Down, Point, MayLeave, reply_at, mark_of, start_keys}
+use Rattle.lz_machine.specs.Runs.{Start, State, Up, Down, Point, MayLeave, mark_of, start_keys}
 use Rattle.lz_machine.specs.CallersSound.{View, Relies}
 use Rattle.lz_machine.specs.Sound.{IsSound}
 use Rattle.lz_machine.specs.Alone.{has_cut, IsPlain, ArePlain}
@@ -45,38 +42,17 @@ reply_ends i _ = refl
 
 -- a call that was cut off finds the service halted
 pub cut_word : (v : View) (c : Command) (P0 P : Trace) (changed : Option ℕ) (M : History) (i : ℕ) (reply : Reply) → Relies v c (Answering reply) P0 P changed → has_cut (mark_of i reply ∷ M) ≡ true → has_cut M ≡ false → halt_word P ≡ 1
-cut_word v (Add k) P0 P changed M i Halted h cut clean = h.0
-cut_word v (Remove k) P0 P changed M i Halted h cut clean = h.0
-cut_word v (Has k) P0 P changed M i Halted h cut clean = h.0
-cut_word v (Add k) P0 P changed M i Device h cut clean = h.0
-cut_word v (Remove k) P0 P changed M i Device h cut clean = h.0
-cut_word v (Has k) P0 P changed M i Device h cut clean = h.0
-cut_word v c P0 P changed M i _ h cut clean = absurd (false≢true (sym clean ∙ cut))
+cut_word v c P0 P changed M i reply h cut clean = grind arith
 
 -- what a reply's list leads to is served
 pub served_reply : (n i a : ℕ) (c : Command) (reply : Reply) (M : History) (S : Keys) (L : List ℕ) (T : Keys) → i < n → Ended i M → has_cut M ≡ false → Fits S (mark_of i reply ∷ Call i a c ∷ M) L T → IsPlain S (mark_of i reply ∷ Call i a c ∷ M) T
-served_reply n i a c Yes M S L T low h clean fits = served n (mark_of i Yes ∷ Call i a c ∷ M) S L T (refl, low, h) clean fits
-served_reply n i a c No M S L T low h clean fits = served n (mark_of i No ∷ Call i a c ∷ M) S L T (refl, low, h) clean fits
-served_reply n i a c (Full counts) M S L T low h clean fits = served n (mark_of i (Full counts) ∷ Call i a c ∷ M) S L T (refl, low, h) clean fits
-served_reply n i a c Worn M S L T low h clean fits = served n (mark_of i Worn ∷ Call i a c ∷ M) S L T (refl, low, h) clean fits
-served_reply n i a c OldFile M S L T low h clean fits = served n (mark_of i OldFile ∷ Call i a c ∷ M) S L T (refl, low, h) clean fits
 served_reply n i a c Halted M S L T low h clean fits = served_cut i a c cut_halted M S L T h clean fits
 served_reply n i a c Device M S L T low h clean fits = served_cut i a c cut_device M S L T h clean fits
+served_reply n i a c reply M S L T low h clean fits = served n (mark_of i reply ∷ Call i a c ∷ M) S L T (refl, low, h) clean fits
 
 -- once a call was cut off, the next ones change nothing
-served_on : (S : Keys) (i a : ℕ) (c : Command) (M : History) (T : Keys) → has_cut M ≡ true → IsPlain S (Call i a c ∷ M) T → IsPlain S M T
-served_on S i a c M T cut (inl h) = h
-served_on S i a c M T cut (inr h) = absurd (false≢true (sym h.0 ∙ cut))
-
-reply_is : {one other : Reply} → Answering one ≡ Answering other → one ≡ other
-reply_is e = cc
-
 pub served_halting : (S : Keys) (i a : ℕ) (c : Command) (reply : Reply) (M : History) (T : Keys) → IsHalting (Answering reply) → has_cut M ≡ true → IsPlain S (Call i a c ∷ M) T → IsPlain S (mark_of i reply ∷ Call i a c ∷ M) T
-served_halting S i a c reply M T (inl is) cut h = absurd (none-some _ (ap reply_at (sym is)))
-served_halting S i a c reply M T (inr (inl is)) cut h = absurd (none-some _ (ap reply_at (sym is)))
-served_halting S i a c reply M T (inr (inr (inl is))) cut h = subst (λ (r : Reply). IsPlain S (mark_of i r ∷ Call i a c ∷ M) T) (sym (reply_is is)) (refl, h)
-served_halting S i a c reply M T (inr (inr (inr (inl is)))) cut h = subst (λ (r : Reply). IsPlain S (mark_of i r ∷ Call i a c ∷ M) T) (sym (reply_is is)) (refl, served_on S i a c M T cut h)
-served_halting S i a c reply M T (inr (inr (inr (inr is)))) cut h = subst (λ (r : Reply). IsPlain S (mark_of i r ∷ Call i a c ∷ M) T) (sym (reply_is is)) (refl, served_on S i a c M T cut h)
+served_halting S i a c reply M T h7 cut h = grind arith
 
 -- the lists of a sound point
 pub left_at : (start : Start) (q : Point) (t : List ℕ) → IsSound start q → MayLeave q.state t → IsLeft q t (lives (start_keys start) q.marks)

@@ -1,6 +1,6 @@
 -- Where one actor is alone, a call that is answered full has found each slot to be the node of another key.
-use Rattle.std.proofs.Common.{◌≡◌, ◌≢◌, inl, inr, ℕ, zero, suc, ◌+◌, ◌≤◌, ◌<◌, not, nat_lt, Bool, true, false, List, [], ◌∷◌, length, Option, Some, None, refl, sym, ap, ◌∙◌, subst, arith}
-use Rattle.std.specs.Prelude.{if◌then◌else◌, ◌==◌}
+use Rattle.std.proofs.Common.{◌≡◌, ◌≢◌, inl, inr, ℕ, zero, suc, ◌≤◌, ◌<◌, not, Bool, true, false, List, [], ◌∷◌, length, Option, Some, None, refl, sym, ap, ◌∙◌, subst, arith}
+use Rattle.std.specs.Prelude.{if◌then◌else◌}
 use Rattle.std.specs.List.{list_all}
 use mathlib.Core.Bool.{false≢true}
 use Rattle.std.proofs.lemmas.Bool.Decides.{nat_tests}
@@ -14,7 +14,6 @@ use Rattle.lz_disk.specs.Images.{Medium}
 use Rattle.lz_vault.specs.declared.vault.Stage.TheVariants.{Opening, Open}
 use Rattle.lz_allot.specs.declared.sight.Sight.{Sight}
 use Rattle.lz_allot.specs.Uses.{Use, Free, Limbo, use_of, collect, collect_at, lowest_free, is_free as is_free_use, has_left}
-use Rattle.lz_list.specs.declared.walk.Look.TheVariants.{AtHead}
 use Rattle.lz_list.specs.declared.walk.Met.TheVariants.{Absent, Unmarked, Marked}
 use Rattle.lz_list.specs.declared.place.Place.{Place}
 use Rattle.lz_list.specs.Words.{Words}
@@ -27,13 +26,13 @@ use Rattle.lz_flush.specs.Settling.{may_answer}
 use Rattle.lz_machine.specs.declared.actor.Hold.TheVariants.{Nothing}
 use Rattle.lz_machine.specs.declared.event.Outcome.{Outcome}
 use Rattle.lz_machine.specs.declared.event.Outcome.TheVariants.{Done, Value, Slot, NoSlot, Taken as was_taken, Busy, True, False, NotNow}
-use Rattle.lz_machine.specs.declared.event.Reply.TheVariants.{Yes, No, Full, Halted}
+use Rattle.lz_machine.specs.declared.event.Reply.TheVariants.{Yes, No, Full}
 use Rattle.lz_machine.specs.declared.caller.Sequence.{Sequence}
 use Rattle.lz_machine.specs.declared.caller.Sequence.TheVariants.{Adding}
 use Rattle.lz_machine.specs.declared.caller.Progress.{Progress}
 use Rattle.lz_machine.specs.declared.caller.Progress.TheVariants.{Playing, LoadsHalt, Walking, Reserving, SeeingPins, Claiming, Checking, Answering}
 use Rattle.lz_machine.specs.Yards.{Shape, Yard, actor_in, cell_in, stage_in}
-use Rattle.lz_machine.specs.Calls.{progress_after, goes_on, hops_on, rests, after_event, changes, events_of}
+use Rattle.lz_machine.specs.Calls.{progress_after, goes_on, hops_on, rests, after_event, changes}
 use Rattle.lz_machine.specs.Runs.{Caller}
 use Rattle.lz_machine.specs.Notes.{Notes}
 use Rattle.lz_machine.specs.SlotsSound.{closes, has_removed_node, IsGateOpened, IsNodeStage, IsOnChain, SlotStands, is_node, is_held, is_out, is_free, is_limbo}
@@ -150,11 +149,7 @@ module _ (n calls : ℕ) (y : Yard) (callers : List (Option Caller)) (disk : Med
 
 -- What follows an event, in words of what an adding knows.
 calm_goes : (y : Yard) (P : Trace) (c : Command) (sequence : Sequence) (i : ℕ) → WalkStands y P (goes_on sequence) c → WalkStands y P (after_event c sequence i) c
-calm_goes y P c sequence i h = go (nat_lt (i + 1) (length (events_of c sequence)))
-  where
-    go : (b : Bool) → WalkStands y P (if b then Playing sequence (i + 1) else goes_on sequence) c
-    go true = tt
-    go false = h
+calm_goes y P c sequence i h = grind arith
 
 pub stands_playing : (y : Yard) (P : Trace) (shape : Shape) (c : Command) (sequence : Sequence) (i : ℕ) → WalkStands y P (goes_on sequence) c → (outcome : Outcome) → WalkStands y P (progress_after shape c (Playing sequence i) outcome) c
 stands_playing y P shape c sequence i h Done = calm_goes y P c sequence i h
@@ -169,17 +164,7 @@ stands_playing y P shape c sequence i h NotNow = calm_goes y P c sequence i h
 stands_playing y P shape c sequence i h _ = tt
 
 pub stands_halt : (y : Yard) (P : Trace) (shape : Shape) (c : Command) (outcome : Outcome) → WalkStands y P (progress_after shape c LoadsHalt outcome) c
-stands_halt y P shape c (Value v) = go (v == 1)
-  where
-    of_command : (d : Command) → WalkStands y P (Walking None AtHead) d
-    of_command (Add k) = tt
-    of_command (Remove k) = tt
-    of_command (Has k) = tt
-
-    go : (b : Bool) → WalkStands y P (if b then Answering Halted else Walking None AtHead) c
-    go true = tt
-    go false = of_command c
-stands_halt y P shape c _ = tt
+stands_halt y P shape c outcome = grind arith
 
 pub stands_claim : (y : Yard) (P : Trace) (shape : Shape) (c : Command) (aim : Option ℕ) (pred : Place) (curr : Option ℕ) (outcome : Outcome) → WalkStands y P (progress_after shape c (Claiming aim pred curr) outcome) c
 stands_claim y P shape c aim pred curr (Value v) = tt

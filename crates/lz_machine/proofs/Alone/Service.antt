@@ -33,10 +33,7 @@ command_of (Call i a c) = c
 command_of _ = Has 0
 
 end_no_call : (e : Mark) (j i a : ℕ) (c : Command) → IsEnd e j → e ≡ Call i a c → ⊥
-end_no_call (Answer k answer) j i a c ends e = absurd (false≢true (ap is_call e))
-end_no_call (Refused k why) j i a c ends e = absurd (false≢true (ap is_call e))
-end_no_call (CutOff k why) j i a c ends e = absurd (false≢true (ap is_call e))
-end_no_call _ j i a c ends e = absurd ends
+end_no_call e j i a c ends e' = grind arith
 
 -- each call has a number below
 pub called_below : (n : ℕ) (M : History) (i : ℕ) (d : Command) → Ended n M → IsCalled M i d → i < n
@@ -65,30 +62,10 @@ pub record IsLatest (M1 : History) (i : ℕ) (c : Command) (M : History) : Type 
   pub last : (l : ℕ) (answer : Bool) → IsAnswered M l answer → IsBefore M1 l i
 
 pub latest_open : (i a : ℕ) (c : Command) (M : History) → IsLatest (Call i a c ∷ M) i c M
-latest_open i a c M = record {
-  calls = calls_now;
-  answers = λ l answer at. inr at;
-  refuses = λ l at. (at.0, inr at.1);
-  earlier = λ l q at. inr at;
-  last = λ l answer at. inl (a, c, answer, refl, at);
-}
-  where
-    calls_now : (l : ℕ) (d : Command) → IsCalled (Call i a c ∷ M) l d → ((l ≡ i) × (d ≡ c)) ⊎ IsCalled M l d
-    calls_now l d (b, inl is) = inl (sym (ap number_of is), sym (ap command_of is))
-    calls_now l d (b, inr at) = inr (b, at)
+latest_open i a c M = grind arith
 
 pub latest_ended : (e : Mark) (i a : ℕ) (c : Command) (M : History) → IsEnd e i → IsLatest (e ∷ Call i a c ∷ M) i c M
-latest_ended e i a c M ends = record {
-  calls = calls_now;
-  answers = λ l answer at. inr (inr at);
-  refuses = λ l at. (at.0, inr (inr at.1));
-  earlier = λ l q at. inr (inr at);
-  last = λ l answer at. inr (inl (a, c, answer, refl, at));
-}
-  where
-    calls_now : (l : ℕ) (d : Command) → IsCalled (e ∷ Call i a c ∷ M) l d → ((l ≡ i) × (d ≡ c)) ⊎ IsCalled M l d
-    calls_now l d (b, inl is) = absurd (end_no_call e i l b d ends is)
-    calls_now l d (b, inr at) = (latest_open i a c M).calls l d (b, at)
+latest_ended e i a c M ends = grind arith
 
 -- lists of numbers
 count_append : (j : ℕ) (L R : List ℕ) → count_of j (L ++ R) ≡ count_of j L + count_of j R

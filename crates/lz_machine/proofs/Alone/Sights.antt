@@ -1,15 +1,14 @@
 -- What has been seen of the passes, where one actor is alone: which limbo slots a pass has left.
-use Rattle.std.proofs.Common.{◌≡◌, ◌≢◌, ◌⊎◌, ⊎_elim, inl, inr, ℕ, zero, suc, ◌≤◌, ◌%◌, Bool, true, false, List, [], ◌∷◌, length, refl, sym, ap, ◌∙◌, subst, arith, length-set, get_or-set_same, get_or-set_other}
-use Rattle.std.specs.Prelude.{if◌then◌else◌, slice_set, slice_index_or}
+use Rattle.std.proofs.Common.{◌≡◌, ◌≢◌, ◌⊎◌, ⊎_elim, inl, inr, ℕ, zero, suc, ◌≤◌, ◌%◌, true, false, List, [], ◌∷◌, length, refl, sym, ap, ◌∙◌, subst, arith, length-set, get_or-set_same, get_or-set_other}
+use Rattle.std.specs.Prelude.{slice_set, slice_index_or}
 use Rattle.std.specs.List.{list_all}
 use mathlib.Core.Bool.{false≢true}
 use Rattle.std.proofs.lemmas.Bool.{cases_eq, cases_lt}
-use Rattle.std.proofs.lemmas.Bool.Decides.{nat_tests}
 use Rattle.std.proofs.lemmas.List.{get_or_past}
 use Rattle.lz_slot.specs.Counted.{of_pass, set_of_pass}
 use Rattle.lz_allot.specs.declared.sight.Sight.{Sight}
-use Rattle.lz_allot.specs.declared.sight.Sight.TheVariants.{Unseen, Inside, Left}
-use Rattle.lz_allot.specs.Uses.{Use, Free, Taken, Limbo, use_of, collect_at, collect, see_pin_at, see_pin, sight_after, has_left}
+use Rattle.lz_allot.specs.declared.sight.Sight.TheVariants.{Inside, Left}
+use Rattle.lz_allot.specs.Uses.{Use, Taken, Limbo, use_of, collect_at, collect, see_pin_at, see_pin, sight_after, has_left}
 use Rattle.lz_machine.proofs.Frames.Uses.{use_map, limbo_same}
 
 -- pass b has left each limbo slot
@@ -37,13 +36,7 @@ left_set uses r b u no_limbo left s seen is = ⊎_elim
     (set_cases uses r s u)
 
 collect_limbo : (u : Use) (seen : List Sight) → collect_at u ≡ Limbo seen → (u ≡ Limbo seen) × (list_all has_left seen ≡ false)
-collect_limbo Free seen is = absurd cc
-collect_limbo Taken seen is = absurd cc
-collect_limbo (Limbo x) seen is = go (list_all has_left x) refl is
-  where
-    go : (b : Bool) → list_all has_left x ≡ b → (if b then Free else Limbo x) ≡ Limbo seen → (Limbo x ≡ Limbo seen) × (list_all has_left seen ≡ false)
-    go true all e = absurd cc
-    go false all e = (e, subst (λ (q : List Sight). list_all has_left q ≡ false) (limbo_same e) all)
+collect_limbo u seen is = grind arith
 
 pub collected_limbo : (uses : List Use) (s : ℕ) (seen : List Sight) → use_of (collect uses) s ≡ Limbo seen → (use_of uses s ≡ Limbo seen) × (list_all has_left seen ≡ false)
 collected_limbo uses s seen is = collect_limbo (use_of uses s) seen (sym (use_map collect_at uses s refl) ∙ is)
@@ -72,9 +65,8 @@ own_sight seen (suc i) x = elim (cases_lt i (length seen)) [
 ]
 
 seen_limbo : (p v : ℕ) (u : Use) (seen : List Sight) → see_pin_at p v u ≡ Limbo seen → (old : List Sight) × (u ≡ Limbo old) × (seen ≡ set_of_pass old p (sight_after v (of_pass old p Left)))
-seen_limbo p v Free seen is = absurd cc
-seen_limbo p v Taken seen is = absurd cc
 seen_limbo p v (Limbo x) seen is = (x, refl, sym (limbo_same is))
+seen_limbo p v _ seen is = absurd cc
 
 -- a slot in limbo was so before a pin was seen
 pub saw : (uses : List Use) (p v s : ℕ) (seen : List Sight) → use_of (see_pin p v uses) s ≡ Limbo seen → (old : List Sight) × (use_of uses s ≡ Limbo old) × (seen ≡ set_of_pass old p (sight_after v (of_pass old p Left)))
@@ -92,13 +84,7 @@ left_seen uses p v b left s seen is =
 
 -- and one that is seen outside has left
 leaves : (v : ℕ) (x : Sight) → v % 2 ≡ 0 → ((u : ℕ) → x ≡ Inside u → u % 2 ≡ 1) → sight_after v x ≡ Left
-leaves v Unseen even odd = grind (arith, nat_tests, even)
-leaves v (Inside u) even odd = let is = odd u refl in go (cases_eq v u) is
-  where
-    go : (v ≡ u) ⊎ (v ≢ u) → u % 2 ≡ 1 → sight_after v (Inside u) ≡ Left
-    go (inl same) is = absurd (omega (arith, same, even, is))
-    go (inr other) is = grind (arith, nat_tests, other)
-leaves v Left even odd = refl
+leaves v x even odd = grind arith
 
 pub seen_outside : (uses : List Use) (p v : ℕ) → v % 2 ≡ 0 → IsSeenOdd uses p → HasLeft (see_pin p v uses) p
 seen_outside uses p v even odd s seen is =

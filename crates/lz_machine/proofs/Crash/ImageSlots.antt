@@ -9,11 +9,11 @@ use Rattle.std.proofs.lemmas.Option.{slice_get-get_or, same_Some}
 use Rattle.lz_slot.specs.Sets.{Keys}
 use Rattle.lz_slot.specs.Bytes.{slot_at}
 use Rattle.lz_slot.specs.declared.slot.SlotRead.{SlotRead}
-use Rattle.lz_slot.specs.declared.slot.SlotRead.TheVariants.{Closed as Shut, Member, BadKey}
+use Rattle.lz_slot.specs.declared.slot.SlotRead.TheVariants.{Closed as Shut, Member}
 use Rattle.lz_slot.specs.Histories.{History}
 use Rattle.lz_disk.specs.Images.{Medium, IsImage}
 use Rattle.lz_vault.specs.declared.vault.Stage.{Stage}
-use Rattle.lz_vault.specs.declared.vault.Stage.TheVariants.{Closed, KeyLoose, Keyed, Opening, Open, Closing}
+use Rattle.lz_vault.specs.declared.vault.Stage.TheVariants.{Closing}
 use Rattle.lz_vault.specs.Stages.{MayRead}
 use Rattle.lz_vault.proofs.Reading.{image_reads}
 use Rattle.lz_list.specs.Words.{place_number, link_to}
@@ -50,8 +50,7 @@ found t (suc n) k = reads_key k (slot_at t n) || found t n k
 
 key_read : (k : ℕ) (r : SlotRead) → reads_key k r ≡ true → r ≡ Member k
 key_read k (Member j) is = ap Member (grind (arith, nat_tests, is))
-key_read k Shut is = absurd (false≢true is)
-key_read k BadKey is = absurd (false≢true is)
+key_read k _ is = absurd (false≢true is)
 
 pub found_in : (t : List ℕ) (n k : ℕ) → found t n k ≡ true → (i : ℕ) × (i < n) × (slot_at t i ≡ Member k)
 found_in t zero k is = absurd (false≢true is)
@@ -75,35 +74,13 @@ not_both j r shut is = absurd cc
 
 -- a slot that is read as a key's
 pub member_read : (stage : Stage) (k j : ℕ) (r : SlotRead) → MayRead stage k r → r ≡ Member j → (k ≡ j) × (IsGateOpened stage ⊎ (stage ≡ Closing))
-member_read Closed k j r may is = absurd (not_both j r may is)
-member_read KeyLoose k j r may is = absurd (not_both j r may is)
-member_read Keyed k j r may is = absurd (not_both j r may is)
-member_read Opening k j r (inl may) is = absurd (not_both j r may is)
-member_read Opening k j r (inr may) is = (same may is, inl (inl refl))
-  where
-    same : r ≡ Member k → r ≡ Member j → k ≡ j
-    same one other = cc
-member_read Open k j r may is = (same may is, inl (inr refl))
-  where
-    same : r ≡ Member k → r ≡ Member j → k ≡ j
-    same one other = cc
-member_read Closing k j r (inl may) is = absurd (not_both j r may is)
-member_read Closing k j r (inr may) is = (same may is, inr refl)
-  where
-    same : r ≡ Member k → r ≡ Member j → k ≡ j
-    same one other = cc
+member_read stage k j r may is = grind arith
 
 pub shut_read : (stage : Stage) (k : ℕ) (r : SlotRead) → MayRead stage k r → IsGateClosed stage → r ≡ Shut
-shut_read Opening k r may is = absurd (grind (arith, is))
-shut_read Open k r may is = absurd (grind (arith, is))
-shut_read Closing k r may is = absurd (grind (arith, is))
-shut_read _ k r may is = may
+shut_read stage k r may is = grind arith
 
 pub one_or_other : (stage : Stage) (k : ℕ) (r : SlotRead) → MayRead stage k r → (r ≡ Shut) ⊎ (r ≡ Member k)
-one_or_other Opening k r may = may
-one_or_other Open k r may = inr may
-one_or_other Closing k r may = may
-one_or_other _ k r may = inl may
+one_or_other stage k r may = grind arith
 
 -- An actor has opened the gate of the slot, and rests on the place of its key.
 pub record IsOpened (y : Yard) (P : Trace) (s k : ℕ) : Type 0 where

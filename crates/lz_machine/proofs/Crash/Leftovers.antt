@@ -1,5 +1,5 @@
 -- What a crash may leave at any time, also inside a call of the device, has a list; so a crash inside a call keeps the invariant.
-use Rattle.std.proofs.Common.{◌≡◌, ◌≢◌, inl, inr, ℕ, Bool, true, false, List, [], ◌∷◌, ◌++◌, Option, Some, None, refl, sym, ap, ◌∙◌, subst}
+use Rattle.std.proofs.Common.{◌≡◌, ◌≢◌, inl, inr, ℕ, Bool, true, false, List, [], ◌∷◌, ◌++◌, Option, Some, None, refl, sym, ap, ◌∙◌, subst, arith}
 use mathlib.Core.Bool.{false≢true}
 use Rattle.lz_slot.specs.Sets.{Keys}
 use Rattle.lz_slot.specs.Bytes.{Holds}
@@ -45,16 +45,10 @@ image_of_down start shape M P calls disk t (life ∷ earlier) image h = (h.1, h.
 
 -- A preparing settles nothing.
 lasts_before_key : (s v : ℕ) (P : Trace) (M : History) (S : Keys) → Lasts (key_prepared s v ∷ P) M S → Lasts P M S
-lasts_before_key s v P M S h = record {
-  has = λ k told none. h.has k (record { begins = inl refl; member = told.member; settled = told.settled }) none;
-  lacks = λ k told none. h.lacks k (record { begins = inl refl; no_member = told.no_member; settled = told.settled }) none;
-}
+lasts_before_key s v P M S h = grind arith
 
 lasts_before_link : (s v : ℕ) (P : Trace) (M : History) (S : Keys) → Lasts (link_prepared s v ∷ P) M S → Lasts P M S
-lasts_before_link s v P M S h = record {
-  has = λ k told none. h.has k (record { begins = inl refl; member = told.member; settled = told.settled }) none;
-  lacks = λ k told none. h.lacks k (record { begins = inl refl; no_member = told.no_member; settled = told.settled }) none;
-}
+lasts_before_link s v P M S h = grind arith
 
 has_list_before : (slots : ℕ) (life : Life) (P Q : Trace) (t : List ℕ) → ((S : Keys) → Lasts Q life.history S → Lasts P life.history S) → HasList slots life Q t → HasList slots life P t
 has_list_before slots life P Q t before h = record { found = h.found; calls = h.calls; holds = h.holds; fits = h.fits; lasts = before h.found h.lasts }

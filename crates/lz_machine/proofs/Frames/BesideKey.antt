@@ -1,9 +1,8 @@
 -- An actor that has opened its slot's gate stands beside its key's place.
-use Rattle.std.proofs.Common.{◌≡◌, inl, inr, ℕ, Bool, true, Some, refl, sym, ◌∙◌, subst}
+use Rattle.std.proofs.Common.{◌≡◌, ℕ, Bool, true, Some, refl, sym, ◌∙◌, subst, arith}
 use mathlib.Core.Bool.{false≢true}
 use Rattle.std.proofs.lemmas.Option.{same_Some}
 use Rattle.lz_vault.specs.declared.vault.Stage.{Stage}
-use Rattle.lz_vault.specs.declared.vault.Stage.TheVariants.{Closed, KeyLoose, Keyed, Opening, Open, Closing}
 use Rattle.lz_list.specs.Traces.{Trace, key_word}
 use Rattle.lz_machine.specs.declared.actor.Actor.{Actor}
 use Rattle.lz_machine.specs.declared.actor.Hold.{Hold}
@@ -14,18 +13,10 @@ use Rattle.lz_machine.proofs.Frames.HeldLocks.{rests_on_pair}
 
 -- a gate that is surely closed is neither opened nor written open
 pub opened_shut : (stage : Stage) → IsGateOpened stage → IsGateClosed stage → ⊥
-opened_shut stage (inl e) (inl f) = absurd (let g : Opening ≡ Closed = sym e ∙ f in cc)
-opened_shut stage (inl e) (inr (inl f)) = absurd (let g : Opening ≡ KeyLoose = sym e ∙ f in cc)
-opened_shut stage (inl e) (inr (inr f)) = absurd (let g : Opening ≡ Keyed = sym e ∙ f in cc)
-opened_shut stage (inr e) (inl f) = absurd (let g : Open ≡ Closed = sym e ∙ f in cc)
-opened_shut stage (inr e) (inr (inl f)) = absurd (let g : Open ≡ KeyLoose = sym e ∙ f in cc)
-opened_shut stage (inr e) (inr (inr f)) = absurd (let g : Open ≡ Keyed = sym e ∙ f in cc)
+opened_shut stage h1 h2 = grind arith
 
 pub opened_written : (stage : Stage) → IsGateOpened stage → IsGateWritten stage → ⊥
-opened_written stage (inl e) (inl f) = absurd (let g : Opening ≡ Closing = sym e ∙ f in cc)
-opened_written stage (inl e) (inr f) = absurd (let g : Opening ≡ Closed = sym e ∙ f in cc)
-opened_written stage (inr e) (inl f) = absurd (let g : Open ≡ Closing = sym e ∙ f in cc)
-opened_written stage (inr e) (inr f) = absurd (let g : Open ≡ Closed = sym e ∙ f in cc)
+opened_written stage h1 h2 = grind arith
 
 -- an actor that has opened its slot's gate stands beside its key's place
 pub beside_of : (buckets : ℕ) (dead : Bool) (hold : Hold) (actor : Actor) (P : Trace) (t : ℕ) → RestsOn buckets hold actor P → opens dead hold ≡ true → actor.slot ≡ Some t → IsBeside buckets (key_word t P) actor.pred actor.curr P × (rests_on_pair hold ≡ true)

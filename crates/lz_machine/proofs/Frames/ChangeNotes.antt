@@ -1,6 +1,5 @@
 -- The change that is noted of a pass that is inside is that which was published for it since it went in.
-use Rattle.std.proofs.Common.{◌≡◌, inl, inr, ℕ, zero, suc, ◌+◌, ◌≤◌, ◌%◌, ◌==◌, ◌&&◌, if◌then◌else◌, Bool, true, false, List, [], ◌∷◌, ◌++◌, length, Option, Some, None, refl, sym, ap, ◌∙◌, arith}
-use mathlib.Core.Bool.{false≢true}
+use Rattle.std.proofs.Common.{◌≡◌, inl, inr, ℕ, ◌+◌, ◌≤◌, ◌%◌, ◌==◌, ◌&&◌, if◌then◌else◌, Bool, true, false, List, [], ◌∷◌, ◌++◌, length, Option, Some, None, refl, sym, ap, ◌∙◌, arith}
 use Rattle.std.specs.Prelude.{nat_le}
 use Rattle.std.proofs.lemmas.Bool.{cases_eq}
 use Rattle.std.proofs.lemmas.Bool.Decides.{nat_tests}
@@ -8,16 +7,13 @@ use Rattle.lz_slot.specs.Counted.{set_of_pass}
 use Rattle.lz_slot.specs.declared.command.Command.{Command}
 use Rattle.lz_slot.proofs.Counted.{of_pass_same}
 use Rattle.lz_vault.specs.declared.vault.Stage.{Stage}
-use Rattle.lz_vault.specs.declared.vault.Stage.TheVariants.{Open, Closed}
+use Rattle.lz_vault.specs.declared.vault.Stage.TheVariants.{Open}
 use Rattle.lz_list.specs.declared.publishing.Publishing.TheVariants.{Linked as linked, Marked as marked}
 use Rattle.lz_list.specs.Traces.{Trace}
 use Rattle.lz_machine.specs.declared.event.Event.{Event}
-use Rattle.lz_machine.specs.declared.event.Event.TheVariants.{Link, Mark, Settle}
-use Rattle.lz_machine.specs.declared.event.Reply.TheVariants.{Worn as SaysWorn, OldFile as SaysOldFile}
-use Rattle.lz_machine.specs.declared.caller.Sequence.TheVariants.{Pinning}
+use Rattle.lz_machine.specs.declared.event.Event.TheVariants.{Link, Mark}
 use Rattle.lz_machine.specs.declared.caller.Progress.{Progress}
-use Rattle.lz_machine.specs.declared.caller.Progress.TheVariants.{Playing, Answering}
-use Rattle.lz_machine.specs.Yards.{Yard, IsInside, actor_at, cell_at, pin_in}
+use Rattle.lz_machine.specs.Yards.{Yard, IsInside, actor_at, pin_in}
 use Rattle.lz_machine.specs.Table.{publishes, settling}
 use Rattle.lz_machine.specs.Runs.{Caller}
 use Rattle.lz_machine.specs.Notes.{Notes}
@@ -43,14 +39,10 @@ is_change _ = false
 
 settling_none : (stage : Stage) (s : ℕ) (P : Trace) (b n : ℕ) → own_change b n (settling stage s ++ P) ≡ own_change b n P
 settling_none Open s P b n = refl
-settling_none Closed s P b n = refl
 settling_none _ s P b n = refl
 
 event_none : (y : Yard) (a : ℕ) (e : Event) (P : Trace) (b n : ℕ) → is_change e ≡ false → own_change b n (publishes y (actor_at y a) a e ++ P) ≡ own_change b n P
-event_none y a Link P b n quiet = absurd (false≢true (sym quiet))
-event_none y a Mark P b n quiet = absurd (false≢true (sym quiet))
-event_none y a (Settle s) P b n quiet = settling_none (cell_at y s).stage s P b n
-event_none y a _ P b n quiet = refl
+event_none y a e P b n quiet = grind arith
 
 -- no change is published
 pub told_quiet : (new : List ℕ) (y : Yard) (a : ℕ) (e : Event) (P : Trace) (changed : ℕ → Option ℕ) → is_change e ≡ false → IsTold new P changed (publishes y (actor_at y a) a e ++ P) changed
@@ -114,11 +106,7 @@ side_out true side = refl
 side_out false side = absurd (omega (arith, side))
 
 before_pin : (v : View) (c : Command) (at : Progress) (P0 P : Trace) (changed : Option ℕ) → is_before_pin at ≡ true → Relies v c at P0 P changed → changed ≡ None
-before_pin v c (Playing Pinning zero) P0 P changed outside h = h.1
-before_pin v c (Playing Pinning (suc i)) P0 P changed outside h = absurd h
-before_pin v c (Answering SaysWorn) P0 P changed outside h = h.1
-before_pin v c (Answering SaysOldFile) P0 P changed outside h = h.1
-before_pin v c _ P0 P changed outside h = absurd (false≢true outside)
+before_pin v c at P0 P changed outside h = grind arith
 
 pub none_outside : (v : View) (pin : ℕ) (caller : Option Caller) (P0 P : Trace) (changed : Option ℕ) → pin % 2 ≡ 0 → IsCaller v pin caller P0 P changed → changed ≡ None
 none_outside v pin None P0 P changed even h = h.1

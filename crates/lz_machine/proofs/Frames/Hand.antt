@@ -1,5 +1,5 @@
 -- A turn that changes node locks and what its actor has in hand, and nothing else, keeps the invariant.
-use Rattle.std.proofs.Common.{◌≡◌, ◌≢◌, ℕ, ◌≤◌, List, length, Option, Some, sym, ◌∙◌, subst, arith}
+use Rattle.std.proofs.Common.{◌≡◌, ◌≢◌, ℕ, ◌≤◌, List, length, Option, Some, sym, subst, arith}
 use Rattle.lz_slot.specs.Counted.{set_of_pass}
 use Rattle.lz_slot.specs.Histories.{History}
 use Rattle.lz_slot.proofs.Counted.{of_pass_same, of_pass_other, length-set_of_pass}
@@ -25,13 +25,7 @@ use Rattle.lz_machine.proofs.Frames.SameYard.{KeepsTail, in_passes, tails_turn}
 pub reuse_turn : (shape : Shape) (pins : List ℕ) (uses : List Use) (actors actors' : List Actor) (P : Trace) (begun : ℕ → Trace)
     → ((b : ℕ) → (actor_in actors' b).slot ≡ (actor_in actors b).slot)
     → ReuseSound shape pins uses actors P begun → ReuseSound shape pins uses actors' P begun
-reuse_turn shape pins uses actors actors' P begun same h = record {
-  worn = h.worn;
-  sights = h.sights;
-  seen = h.seen;
-  free = h.free;
-  reserved = λ a b s hand inside. h.reserved a b s (sym (same b) ∙ hand) inside;
-}
+reuse_turn shape pins uses actors actors' P begun same h = grind arith
 
 -- the yard with other locks and another actor
 abbrev pub in_hands : Yard → NodeLocks → ℕ → Actor → Yard

@@ -1,5 +1,5 @@
 -- What an actor relies on because of its locks stays when another publishes.
-use Rattle.std.proofs.Common.{◌≡◌, ◌≢◌, inl, inr, ℕ, zero, suc, Bool, true, false, List, ◌∷◌, Option, Some, None, refl, sym, ap, ◌∙◌, subst, arith}
+use Rattle.std.proofs.Common.{◌≡◌, ◌≢◌, ℕ, zero, suc, Bool, true, false, List, ◌∷◌, Some, refl, sym, ap, ◌∙◌, subst, arith}
 use Rattle.std.proofs.lemmas.Bool.Decides.{nat_tests}
 use Rattle.lz_list.specs.declared.place.Place.{Place}
 use Rattle.lz_list.specs.declared.place.Place.TheVariants.{Bucket, Node}
@@ -41,12 +41,7 @@ module _ (buckets : ℕ) (e : Publishing) (actor : Actor) (P : Trace) (leaves : 
   low_stays k low = omega (arith, low, leaves.place_rank)
 
   high_stays : (k : ℕ) → IsHigh k (link_to actor.curr) P → IsHigh k (link_to actor.curr) (e ∷ P)
-  high_stays k high = go actor.curr refl high
-    where
-      go : (curr : Option ℕ) → actor.curr ≡ curr → IsHigh k (link_to curr) P → IsHigh k (link_to curr) (e ∷ P)
-      go None is h = inl refl
-      go (Some t) is (inl none) = absurd (omega (arith, none))
-      go (Some t) is (inr above) = inr (omega (arith, above, leaves.node_word t is))
+  high_stays k high = grind arith
 
   -- the pair stands round a key still
   pub beside_stays : (k : ℕ) → IsBeside buckets k actor.pred actor.curr P → IsBeside buckets k actor.pred actor.curr (e ∷ P)
@@ -142,64 +137,21 @@ unlinked_leaves buckets slots k x s p actor P law leaving apart = record {
 
 -- A marking of another node.
 pub marked_leaves : (buckets k s p : ℕ) (actor : Actor) (P : Trace) → ((t : ℕ) → actor.curr ≡ Some t → t ≢ s) → ((t : ℕ) → actor.slot ≡ Some t → t ≢ s) → LeavesPair buckets (marked k s p) actor P
-marked_leaves buckets k s p actor P other apart = record {
-  own_word = λ t slot. refl;
-  node_word = λ t node. refl;
-  place_rank = rank_same (marked k s p) P (λ t. refl) (place_number actor.pred);
-  mark = λ t node. grind (arith, nat_tests, other t node);
-  faces = λ j n at h. record { there = h.there; next = next_same buckets (bucket_of buckets j) (marked k s p) P refl (λ t. refl) (place_number actor.pred) n h.next };
-  ready = λ j n t slot h. record { loose = h.loose; key = h.key; link = h.link; no_mark = grind (arith, nat_tests, apart t slot, h.no_mark); not_added = h.not_added; not_removed = h.not_removed };
-}
+marked_leaves buckets k s p actor P other apart = grind arith
 
 -- A preparing of a slot that is neither the actor's, nor its node, nor its place.
 pub key_leaves : (buckets s v : ℕ) (actor : Actor) (P : Trace) → ((t : ℕ) → actor.slot ≡ Some t → t ≢ s) → ((t : ℕ) → actor.curr ≡ Some t → t ≢ s) → ((t : ℕ) → place_number actor.pred ≡ suc t → t ≢ s) → LeavesPair buckets (key_prepared s v) actor P
-key_leaves buckets s v actor P own node place = record {
-  own_word = λ t slot. grind (arith, nat_tests, own t slot);
-  node_word = λ t curr. grind (arith, nat_tests, node t curr);
-  place_rank = rank_stays (place_number actor.pred) refl;
-  mark = λ t curr. refl;
-  faces = λ j n at h. record { there = h.there; next = next_same buckets (bucket_of buckets j) (key_prepared s v) P refl (λ t. refl) (place_number actor.pred) n h.next };
-  ready = λ j n t slot h. record { loose = h.loose; key = grind (arith, nat_tests, own t slot, h.key); link = h.link; no_mark = h.no_mark; not_added = h.not_added; not_removed = h.not_removed };
-}
-  where
-    rank_stays : (z : ℕ) → place_number actor.pred ≡ z → rank_at (λ t. key_word t (key_prepared s v ∷ P)) z ≡ rank_at (λ t. key_word t P) z
-    rank_stays zero is = refl
-    rank_stays (suc t) is = let apart = place t is in grind (arith, nat_tests, apart)
+key_leaves buckets s v actor P own node place = grind arith
 
 pub link_leaves : (buckets s v : ℕ) (actor : Actor) (P : Trace) → ((t : ℕ) → actor.slot ≡ Some t → t ≢ s) → ((t : ℕ) → actor.curr ≡ Some t → t ≢ s) → ((t : ℕ) → place_number actor.pred ≡ suc t → t ≢ s) → LeavesPair buckets (link_prepared s v) actor P
-link_leaves buckets s v actor P own node place = record {
-  own_word = λ t slot. refl;
-  node_word = λ t curr. refl;
-  place_rank = rank_same (link_prepared s v) P (λ t. refl) (place_number actor.pred);
-  mark = λ t curr. grind (arith, nat_tests, node t curr);
-  faces = λ j n at h. record { there = h.there; next = next_stays j (place_number actor.pred) refl n h.next };
-  ready = λ j n t slot h. record { loose = h.loose; key = h.key; link = grind (arith, nat_tests, own t slot, h.link); no_mark = grind (arith, nat_tests, own t slot, h.no_mark); not_added = grind (arith, nat_tests, own t slot, h.not_added); not_removed = grind (arith, nat_tests, own t slot, h.not_removed) };
-}
-  where
-    next_stays : (j z : ℕ) → place_number actor.pred ≡ z → (n : ℕ) → next_link buckets (bucket_of buckets j) P z ≡ n → next_link buckets (bucket_of buckets j) (link_prepared s v ∷ P) z ≡ n
-    next_stays j zero is n h = h
-    next_stays j (suc t) is n h = let apart = place t is in grind (arith, nat_tests, apart, h)
+link_leaves buckets s v actor P own node place = grind arith
 
 -- A flag on another slot, and a halt.
 pub settled_leaves : (buckets s : ℕ) (c : Change) (actor : Actor) (P : Trace) → ((t : ℕ) → actor.slot ≡ Some t → t ≢ s) → LeavesPair buckets (settled s c) actor P
-settled_leaves buckets s c actor P own = record {
-  own_word = λ t slot. refl;
-  node_word = λ t curr. refl;
-  place_rank = rank_same (settled s c) P (λ t. refl) (place_number actor.pred);
-  mark = λ t curr. refl;
-  faces = λ j n at h. record { there = h.there; next = next_same buckets (bucket_of buckets j) (settled s c) P refl (λ t. refl) (place_number actor.pred) n h.next };
-  ready = λ j n t slot h. record { loose = h.loose; key = h.key; link = h.link; no_mark = h.no_mark; not_added = grind (arith, nat_tests, own t slot, h.not_added); not_removed = grind (arith, nat_tests, own t slot, h.not_removed) };
-}
+settled_leaves buckets s c actor P own = grind arith
 
 pub halted_leaves : (buckets : ℕ) (actor : Actor) (P : Trace) → LeavesPair buckets halted actor P
-halted_leaves buckets actor P = record {
-  own_word = λ t slot. refl;
-  node_word = λ t curr. refl;
-  place_rank = rank_same halted P (λ t. refl) (place_number actor.pred);
-  mark = λ t curr. refl;
-  faces = λ j n at h. record { there = h.there; next = next_same buckets (bucket_of buckets j) halted P refl (λ t. refl) (place_number actor.pred) n h.next };
-  ready = λ j n t slot h. record { loose = h.loose; key = h.key; link = h.link; no_mark = h.no_mark; not_added = h.not_added; not_removed = h.not_removed };
-}
+halted_leaves buckets actor P = grind arith
 
 -- so what is said of locks stays, where it leaves each actor's pair
 pub locks_published : (shape : Shape) (locks : NodeLocks) (actors : List Actor) (e : Publishing) (P : Trace) → ((a : ℕ) → LeavesPair shape.buckets e (actor_in actors a) P) → LocksSound shape locks actors P → LocksSound shape locks actors (e ∷ P)
@@ -209,5 +161,4 @@ locks_published shape locks actors e P leaves h = record { heads = h.heads; node
 pub one_place : (buckets j k : ℕ) (p q : Place) → InBucket buckets j p → InBucket buckets k q → bucket_of buckets j ≡ bucket_of buckets k → place_number p ≡ place_number q → p ≡ q
 one_place buckets j k (Bucket b) (Bucket c) at there same number = ap Bucket (at ∙ same ∙ sym there)
 one_place buckets j k (Node s) (Node t) at there same number = ap Node (omega (arith, number))
-one_place buckets j k (Bucket b) (Node t) at there same number = absurd (omega (arith, number))
-one_place buckets j k (Node s) (Bucket c) at there same number = absurd (omega (arith, number))
+one_place buckets j k _ _ at there same number = absurd (omega (arith, number))

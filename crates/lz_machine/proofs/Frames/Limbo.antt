@@ -1,7 +1,6 @@
 -- A slot that every pass has left is away from every pass that is inside.
 use Rattle.std.proofs.Common.{◌≡◌, inl, inr, ℕ, suc, ◌≤◌, ◌%◌, true, [], ◌∷◌, length, sym, ◌∙◌, arith}
 use mathlib.Core.Bool.{false≢true}
-use Rattle.std.proofs.lemmas.Bool.Decides.{eqb_tells}
 use Rattle.lz_allot.specs.declared.sight.Sight.{Sight}
 use Rattle.lz_allot.specs.declared.sight.Sight.TheVariants.{Unseen, Inside, Left}
 use Rattle.lz_allot.specs.Uses.{sight_after}
@@ -44,12 +43,4 @@ module _ (buckets t : ℕ) where
   seen_leave v P0 P Left inside h = λ odd. absurd (omega arith)
 
   pub seen_see : (v : ℕ) (P0 P : Trace) (seen : Sight) → IsRightSight buckets v P0 P t seen → IsRightSight buckets v P0 P t (sight_after v seen)
-  seen_see v P0 P Unseen h = elim (eqb_tells (v % 2) 0) [
-    | inl even ↦ rw even.0 (λ odd. absurd (omega (arith, even.1)))
-    | inr odd ↦ rw odd.0 (omega (arith, odd.1), omega arith, λ lt. absurd (omega arith))
-  ]
-  seen_see v P0 P (Inside u) h = elim (eqb_tells v u) [
-    | inl same ↦ rw same.0 h
-    | inr other ↦ rw other.0 (h.2 (omega (arith, h.1, other.1)))
-  ]
-  seen_see v P0 P Left h = h
+  seen_see v P0 P seen h = grind arith

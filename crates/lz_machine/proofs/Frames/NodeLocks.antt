@@ -1,8 +1,6 @@
 -- Node locks: what a claim and a release make of them.
 use Rattle.std.proofs.Common.{◌≡◌, ◌≢◌, ◌⊎◌, inl, inr, ℕ, zero, suc, ◌<◌, ◌≤◌, true, false, List, length, Option, Some, None, refl, sym, ap, ◌∙◌, subst, arith, get_or-set_other, get_or-set_same, length-set}
 use mathlib.Core.Bool.{false≢true}
-use Rattle.std.proofs.lemmas.Bool.{cases_eq}
-use Rattle.std.proofs.lemmas.Bool.Decides.{nat_tests}
 use Rattle.lz_list.specs.declared.place.Place.{Place}
 use Rattle.lz_list.specs.declared.place.Place.TheVariants.{Bucket, Node}
 use Rattle.lz_list.specs.Traces.{Trace}
@@ -12,23 +10,8 @@ use Rattle.lz_machine.specs.Yards.{Shape, actor_in}
 use Rattle.lz_machine.specs.LocksSound.{has_locks, HasPlace, HasLock, RestsOn, LocksSound}
 use Rattle.lz_machine.proofs.Frames.ActorTable.{by_actor}
 
-bucket_same : {b c : ℕ} → Bucket b ≡ Bucket c → b ≡ c
-bucket_same e = cc
-
-node_same : {s t : ℕ} → Node s ≡ Node t → s ≡ t
-node_same e = cc
-
 pub place_cases : (p q : Place) → (p ≡ q) ⊎ (p ≢ q)
-place_cases (Bucket b) (Bucket c) = elim (cases_eq b c) [
-  | inl same ↦ inl (ap Bucket same)
-  | inr other ↦ inr (λ e. other (bucket_same e))
-]
-place_cases (Node s) (Node t) = elim (cases_eq s t) [
-  | inl same ↦ inl (ap Node same)
-  | inr other ↦ inr (λ e. other (node_same e))
-]
-place_cases (Bucket b) (Node t) = inr (λ e. absurd cc)
-place_cases (Node s) (Bucket c) = inr (λ e. absurd cc)
+place_cases p q = grind arith
 
 -- the place is one of the table's
 abbrev pub IsPlaceIn : NodeLocks → Place → Type 0
@@ -43,14 +26,12 @@ module _ (a : ℕ) where
   owner_other : (locks : NodeLocks) (place other : Place) → other ≢ place → owner (with_owner locks place a) other ≡ owner locks other
   owner_other locks (Bucket b) (Bucket c) apart = get_or-set_other locks.heads b c a 0 (λ same. apart (ap Bucket same))
   owner_other locks (Node s) (Node t) apart = get_or-set_other locks.nodes s t a 0 (λ same. apart (ap Node same))
-  owner_other locks (Bucket b) (Node t) apart = refl
-  owner_other locks (Node s) (Bucket c) apart = refl
+  owner_other locks _ _ apart = refl
 
   in_still : (locks : NodeLocks) (place other : Place) → IsPlaceIn locks other → IsPlaceIn (with_owner locks place a) other
   in_still locks (Bucket b) (Bucket c) lt = omega (arith, lt, length-set locks.heads b a)
   in_still locks (Node s) (Node t) lt = omega (arith, lt, length-set locks.nodes s a)
-  in_still locks (Bucket b) (Node t) lt = lt
-  in_still locks (Node s) (Bucket c) lt = lt
+  in_still locks _ _ lt = lt
 
   with_lengths : (locks : NodeLocks) (place : Place) → (length (with_owner locks place a).heads ≡ length locks.heads) × (length (with_owner locks place a).nodes ≡ length locks.nodes)
   with_lengths locks (Bucket b) = (length-set locks.heads b a, refl)
@@ -81,11 +62,7 @@ module _ (a : ℕ) where
 
 -- a pair that is free has no owner
 pub pair_free : (locks : NodeLocks) (pred : Place) (curr : Option ℕ) (place : Place) → is_pair_free locks pred curr ≡ true → HasPlace place (claimed_places pred curr) → owner locks place ≡ 0
-pair_free locks pred None place free (inl same) = subst (λ (q : Place). owner locks q ≡ 0) same (grind (arith, nat_tests, free))
-pair_free locks pred None place free (inr none) = absurd none
-pair_free locks pred (Some s) place free (inl same) = subst (λ (q : Place). owner locks q ≡ 0) same (grind (arith, nat_tests, free))
-pair_free locks pred (Some s) place free (inr (inl same)) = subst (λ (q : Place). owner locks q ≡ 0) same (grind (arith, nat_tests, free))
-pair_free locks pred (Some s) place free (inr (inr none)) = absurd none
+pair_free locks pred curr place free h5 = grind arith
 
 -- no actor is 0
 pub no_lock : (actors : List Actor) (b : ℕ) (place : Place) → HasLock (actor_in actors b) place → 1 ≤ b

@@ -1,7 +1,6 @@
 -- A turn of one actor: the other actors' part is as before, and so is the ledger, where the call goes on without a publishing.
 use Rattle.std.proofs.Common.{◌≡◌, ◌≢◌, inl, inr, ℕ, zero, suc, ◌≤◌, [], ◌∷◌, ◌++◌, Bool, true, List, length, Option, Some, None, refl, sym, ap, ◌∙◌, subst, arith}
 use Rattle.std.proofs.lemmas.Bool.{cases_eq, cases_lt}
-use Rattle.std.proofs.lemmas.Bool.Decides.{eqb_tells}
 use Rattle.std.proofs.lemmas.List.{get_or_past}
 use Rattle.std.proofs.lemmas.Option.{same_Some, none-some}
 use Rattle.lz_slot.specs.declared.format.Format.{Format}
@@ -45,12 +44,7 @@ pub carry : (buckets passes : ℕ) (format : Format) (cells : List Cell) (dead :
     → actor' ≡ actor → pin' ≡ pin → caller' ≡ caller → P0' ≡ P0 → changed' ≡ changed
     → CallerSound (record { buckets = buckets; passes = passes; format = format; cells = cells; dead = dead; actor = actor }) pin caller P0 P changed
     → CallerSound (record { buckets = buckets; passes = passes; format = format; cells = cells; dead = dead; actor = actor' }) pin' caller' P0' P changed'
-carry buckets passes format cells dead P actor actor' pin pin' caller caller' P0 P0' changed changed' e1 e2 e3 e4 e5 h =
-    subst (λ (q : Actor). CallerSound (record { buckets = buckets; passes = passes; format = format; cells = cells; dead = dead; actor = q }) pin' caller' P0' P changed') (sym e1)
-    (subst (λ (q : ℕ). CallerSound (record { buckets = buckets; passes = passes; format = format; cells = cells; dead = dead; actor = actor }) q caller' P0' P changed') (sym e2)
-    (subst (λ (q : Option Caller). CallerSound (record { buckets = buckets; passes = passes; format = format; cells = cells; dead = dead; actor = actor }) pin q P0' P changed') (sym e3)
-    (subst (λ (q : Trace). CallerSound (record { buckets = buckets; passes = passes; format = format; cells = cells; dead = dead; actor = actor }) pin caller q P changed') (sym e4)
-    (subst (λ (q : Option ℕ). CallerSound (record { buckets = buckets; passes = passes; format = format; cells = cells; dead = dead; actor = actor }) pin caller P0 P q) (sym e5) h))))
+carry buckets passes format cells dead P actor actor' pin pin' caller caller' P0 P0' changed changed' e1 e2 e3 e4 e5 h = grind arith
 
 module _ (callers : List (Option Caller)) (a : ℕ) (caller : Caller) (at : caller_at callers a ≡ Some caller) (next : Progress) where
   pub moved_same : caller_at (moving callers a caller next) a ≡ Some (moved caller next)
@@ -140,10 +134,7 @@ has_pending callers changed a j caller at does (suc m) low le none = elim (cases
 ]
   where
     once : (i : ℕ) → times i (record { number = i; command = caller.command; answer = None; changes = true; position = j } ∷ []) ≡ 1
-    once i = elim (eqb_tells i i) [
-      | inl same ↦ rw same.0 refl
-      | inr other ↦ absurd (other.1 refl)
-    ]
+    once i = grind arith
 
 -- a call that has changed something has a row
 pub has_entry : (passes a j : ℕ) (callers : List (Option Caller)) (notes : Notes) (caller : Caller) → caller_at callers a ≡ Some caller → notes.changed a ≡ Some j → a ≤ passes → times caller.number (entries passes callers notes) ≡ 0 → ⊥

@@ -1,7 +1,6 @@
 -- A turn that changes one slot, and what its actor has in hand: what is said of the other slots stays.
-use Rattle.std.proofs.Common.{◌≡◌, ◌≢◌, inl, inr, ℕ, suc, ◌<◌, Bool, true, false, List, length, Some, refl, sym, ap, ◌∙◌, subst}
+use Rattle.std.proofs.Common.{◌≡◌, ◌≢◌, inl, inr, ℕ, suc, ◌<◌, Bool, true, false, List, length, Some, refl, sym, ap, ◌∙◌, subst, arith}
 use mathlib.Core.Bool.{false≢true}
-use Rattle.std.proofs.lemmas.Option.{same_Some}
 use Rattle.lz_vault.specs.declared.vault.Stage.{Stage}
 use Rattle.lz_vault.specs.declared.vault.Stage.TheVariants.{Closed, Opening}
 use Rattle.lz_vault.specs.Stages.{Cell}
@@ -39,30 +38,12 @@ other_grips dead dead' s old new g = record {
 
 -- or where the slot is that of its node
 pub node_grips : (dead dead' : Bool) (s : ℕ) (old new : Actor) → old.curr ≡ Some s → new.curr ≡ Some s → new.slot ≡ old.slot → opens dead old.hold ≡ false → unlocks new.hold ≡ false → KeepsOtherGrips dead dead' s old new
-node_grips dead dead' s old new was now slot opened locked = record {
-  slot = λ t apart is. sym slot ∙ is;
-  still_slot = λ t apart is. slot ∙ is;
-  out = λ t apart is. absurd (apart (same_Some _ _ (sym is.node ∙ now)));
-  still_out = λ t apart is. absurd (apart (same_Some _ _ (sym is.node ∙ was)));
-  closer = λ t apart is. absurd (apart (same_Some _ _ (sym is.node ∙ was)));
-  opener = λ t apart has is. absurd (false≢true (sym opened ∙ is));
-  unlock = λ t apart has is. absurd (false≢true (sym locked ∙ is));
-  shut = λ t apart curr is. absurd (apart (same_Some _ _ (sym curr ∙ now)));
-}
+node_grips dead dead' s old new was now slot opened locked = grind arith
 
 -- or where it has no other slot in hand, and has done nothing to a node
 pub slot_grips : (dead dead' : Bool) (s : ℕ) (old new : Actor) → ((t : ℕ) → t ≢ s → old.slot ≡ Some t → ⊥) → ((t : ℕ) → t ≢ s → new.slot ≡ Some t → ⊥)
     → closes dead old.hold ≡ false → has_removed_node old.hold ≡ false → has_removed_node new.hold ≡ false → shuts new.hold ≡ false → KeepsOtherGrips dead dead' s old new
-slot_grips dead dead' s old new no_more none closed out no_more_out shut_yet = record {
-  slot = λ t apart is. absurd (none t apart is);
-  still_slot = λ t apart is. absurd (no_more t apart is);
-  out = λ t apart is. absurd (false≢true (sym no_more_out ∙ is.removed));
-  still_out = λ t apart is. absurd (false≢true (sym out ∙ is.removed));
-  closer = λ t apart is. absurd (false≢true (sym closed ∙ is.closes));
-  opener = λ t apart has is. absurd (none t apart has);
-  unlock = λ t apart has is. absurd (none t apart has);
-  shut = λ t apart curr is. absurd (false≢true (sym shut_yet ∙ is));
-}
+slot_grips dead dead' s old new no_more none closed out no_more_out shut_yet = grind arith
 
 -- the other slots' nodes are where they were
 pub record KeepsOtherNodes (buckets s : ℕ) (P P' : Trace) : Type 0 where
@@ -153,10 +134,7 @@ module _ (shape : Shape) (cells cells' : List Cell) (dead dead' : Bool) (uses us
         (λ b other curr is. own.others_closed b other (ap (λ (q : Actor). q.curr) (sym (hand_b b other)) ∙ curr) (ap (λ (q : Actor). shuts q.hold) (sym (hand_b b other)) ∙ is))
 
     own_apart : (b d : ℕ) → (actor_in actors' b).slot ≡ Some s → IsOut (actor_in actors' d) s → ⊥
-    own_apart b d slot out =
-        let one = subst (λ (q : ℕ). (actor_in actors' q).slot ≡ Some s) (own_hand b slot).0 slot in
-        let two = subst (λ (q : ℕ). IsOut (actor_in actors' q) s) (own_out d out).0 out in
-        own.hand_out (slot_now one) (subst (λ (q : Actor). IsOut q s) hand_a two)
+    own_apart b d slot out = grind arith
 
     -- so what is said of slots stays, but for the flags
     pub slot_turn : length uses' ≡ length uses → SlotsSound shape cells dead uses actors P

@@ -202,11 +202,7 @@ module _ (n calls : ℕ) (y : Yard) (callers : List (Option Caller)) (disk : Med
 
   -- its place and its node are on a chain, and so not the slot
   pair_apart : ((t : ℕ) → (actor_in y.actors a).curr ≡ Some t → t ≢ s) × ((t : ℕ) → place_number (actor_in y.actors a).pred ≡ suc t → t ≢ s)
-  pair_apart =
-      let faces = (checked.beside s h.1.slot).round.faces in (
-        λ t node. chain_apart (key_word t P) t (held_node y.shape P Checked (actor_in y.actors a) sound.trace.lawful checked t node refl),
-        λ t place. chain_apart (key_word s P) t (subst (λ (q : ℕ). on 0 (chain_of y.shape.buckets (key_word s P) P) q ≡ true) place faces.there),
-      )
+  pair_apart = grind arith
 
   -- the pair alone, without the slot, which is the one that is prepared
   abbrev pair : Actor

@@ -22,7 +22,7 @@ use Rattle.lz_machine.specs.Yards.{Yard, Shape, IsInside, actor_in, pin_in, stag
 use Rattle.std.specs.Prelude.{slice_set}
 use Rattle.lz_machine.specs.Runs.{Caller, with_words}
 use Rattle.lz_machine.specs.Notes.{Notes}
-use Rattle.lz_machine.specs.SlotsSound.{SlotStands, is_node, is_held, is_out, is_free, is_limbo, IsNodeStage, IsOnChain, SlotsSound}
+use Rattle.lz_machine.specs.SlotsSound.{IsNodeStage, IsOnChain, SlotsSound}
 use Rattle.lz_machine.specs.Sound.{TraceSound, Sound}
 use Rattle.lz_machine.proofs.Frames.ChainSlots.{reuse_published}
 use Rattle.lz_machine.proofs.Frames.LoadedWord.{link_next, link_mark, link_removed}
@@ -74,14 +74,7 @@ module _ (n calls : ℕ) (y : Yard) (callers : List (Option Caller)) (disk : Med
   -- a slot on which a pass that is inside may stand is a node, or was taken out
   pub stood_stands : (a s b : ℕ) → IsInside (pin_in y.words.pins a) → Stood y.shape.buckets b (notes.begun a) P (suc s) → s < y.shape.slots
       → (IsOnChain y.shape y.vault.cells y.uses P s × IsNodeStage y.vault.cells y.vault.dead y.actors P s) ⊎ (stage_in y.vault.cells s ≡ Closed)
-  stood_stands a s b inside stood lt = go (sound.slots.each s lt)
-    where
-      go : SlotStands y.shape y.vault.cells y.vault.dead y.uses y.actors P s → (IsOnChain y.shape y.vault.cells y.uses P s × IsNodeStage y.vault.cells y.vault.dead y.actors P s) ⊎ (stage_in y.vault.cells s ≡ Closed)
-      go (is_node chain stage) = inl (chain, stage)
-      go (is_held d slot) = absurd (sound.reuse.reserved a d s slot inside b stood)
-      go (is_out d out) = inr (sound.slots.out d s out).stage
-      go (is_free loose free stage) = absurd (sound.reuse.free a s free inside b stood)
-      go (is_limbo sights loose limbo stage) = inr stage
+  stood_stands a s b inside stood lt = grind arith
 
   module _ (s : ℕ) (c : Change) (lt : s < y.shape.slots) (allows : Allows c (stage_in y.vault.cells s)) (apart : (b t : ℕ) → (actor_in y.actors b).slot ≡ Some t → t ≢ s) where
     -- the node whose flag is set is the one that the settling names
@@ -91,17 +84,7 @@ module _ (n calls : ℕ) (y : Yard) (callers : List (Option Caller)) (disk : Med
         linking_apart t s P (h.same ∙ sym same) (omega (arith, h.same, h.some))
 
     not_opening : Allows c (stage_in y.vault.cells s) → stage_in y.vault.cells s ≢ Opening
-    not_opening = go c
-      where
-        open_opening : Open ≡ Opening → ⊥
-        open_opening e = absurd cc
-
-        closed_opening : Closed ≡ Opening → ⊥
-        closed_opening e = absurd cc
-
-        go : (change : Change) → Allows change (stage_in y.vault.cells s) → stage_in y.vault.cells s ≢ Opening
-        go Added is e = open_opening (sym is ∙ e)
-        go Removed is e = closed_opening (sym is ∙ e)
+    not_opening h0 = grind arith
 
     is_added : (k t : ℕ) → key_word t P ≡ k → on 0 (chain_of y.shape.buckets k P) (suc t) ≡ true → is_settled (linking k P) (settled s c ∷ P) ≡ true → stage_in y.vault.cells t ≢ Opening
     is_added k t key there is = elim (eqb_tells (linking_in s P) (linking k P)) [

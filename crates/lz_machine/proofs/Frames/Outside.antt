@@ -1,8 +1,6 @@
 -- Actors that answer without a pin, and the pin words after an Answer.
-use Rattle.std.proofs.Common.{◌≡◌, ◌≢◌, inl, inr, ℕ, ◌+◌, ◌≤◌, ◌%◌, ◌==◌, ◌&&◌, ◌||◌, not, if◌then◌else◌, Bool, true, false, length, refl, sym, ap, ◌∙◌, arith}
-use mathlib.Core.Bool.{false≢true}
-use Rattle.std.proofs.lemmas.Bool.{cases_Bool, cases_eq}
-use Rattle.std.proofs.lemmas.Bool.Decides.{nat_tests, eqb_tells}
+use Rattle.std.proofs.Common.{◌≡◌, ◌≢◌, ℕ, ◌+◌, ◌≤◌, ◌%◌, ◌==◌, ◌&&◌, ◌||◌, not, if◌then◌else◌, Bool, true, false, length, refl, ap, ◌∙◌, arith}
+use Rattle.std.proofs.lemmas.Bool.Decides.{nat_tests}
 use Rattle.lz_slot.specs.Counted.{of_pass}
 use Rattle.lz_slot.proofs.Counted.{of_pass_same, of_pass_other}
 use Rattle.lz_allot.specs.Uses.{is_outside}
@@ -25,13 +23,7 @@ or_true false = refl
 
 -- such an actor is outside
 pub out_even : (actor : Actor) (pin : ℕ) → stays_out actor pin ≡ true → pin % 2 ≡ 0
-out_even actor pin is = elim (eqb_tells pin last_pin) [
-  | inl last ↦ ap (λ (q : ℕ). q % 2) last.1
-  | inr fresh ↦ elim (cases_Bool (is_outside pin)) [
-    | inl outside ↦ even_of pin outside
-    | inr inside ↦ absurd (false≢true (sym (ap (λ (b : Bool). b || (is_outside pin && actor.refused)) fresh.0 ∙ ap (λ (b : Bool). b && actor.refused) inside) ∙ is))
-  ]
-]
+out_even actor pin is = grind arith
 
 -- the last pin
 pub worn_out : (actor : Actor) (pin : ℕ) → pin ≡ last_pin → stays_out actor pin ≡ true
@@ -48,14 +40,7 @@ out_needs actor pin is = ap (λ (b : Bool). not (is_outside pin) || b) is ∙ or
 
 -- after its Answer a pass is outside
 pub answered_even : (actor : Actor) (pin : ℕ) → (not (is_outside pin) || stays_out actor pin) ≡ true → pin_answered actor pin % 2 ≡ 0
-answered_even actor pin may = go (stays_out actor pin) refl may
-  where
-    go : (out : Bool) → stays_out actor pin ≡ out → (not (is_outside pin) || out) ≡ true → (if out then pin else pin + 1) % 2 ≡ 0
-    go true is may = out_even actor pin is
-    go false is may = elim (cases_eq (pin % 2) 0) [
-      | inl even ↦ absurd (false≢true (sym (ap (λ (b : Bool). not b || false) (outside_even pin even)) ∙ may))
-      | inr odd ↦ omega (arith, odd)
-    ]
+answered_even actor pin may = grind arith
 
 -- the pin words after an Answer
 module _ (y : Yard) (actor : Actor) (a : ℕ) where
@@ -72,10 +57,3 @@ module _ (y : Yard) (actor : Actor) (a : ℕ) where
       go : (out : Bool) → of_pass (if out then y.words else set y.words (pin_at a) (pin_of y a + 1)).pins b 0 ≡ of_pass y.words.pins b 0
       go true = refl
       go false = of_pass_other y.words.pins a b (pin_of y a + 1) 0 other
-
-  pub answered_halt : (words_after y actor a Answer).halt ≡ y.words.halt
-  answered_halt = go (stays_out actor (pin_of y a))
-    where
-      go : (out : Bool) → (if out then y.words else set y.words (pin_at a) (pin_of y a + 1)).halt ≡ y.words.halt
-      go true = refl
-      go false = refl

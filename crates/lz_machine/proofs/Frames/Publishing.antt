@@ -10,7 +10,7 @@ use Rattle.lz_slot.specs.declared.command.Command.TheVariants.{Add, Remove, Has}
 use Rattle.lz_slot.specs.Sets.{key_of}
 use Rattle.lz_list.specs.declared.place.Place.{Place}
 use Rattle.lz_list.specs.declared.publishing.Publishing.{Publishing}
-use Rattle.lz_list.specs.declared.publishing.Publishing.TheVariants.{Linked as linked, KeyPrepared as key_prepared, Halted as halted}
+use Rattle.lz_list.specs.declared.publishing.Publishing.TheVariants.{Linked as linked, Halted as halted}
 use Rattle.lz_list.specs.declared.walk.Look.{Look}
 use Rattle.lz_list.specs.declared.walk.Look.TheVariants.{AtHead, AtKey, AtMet, AtBelow}
 use Rattle.lz_list.specs.Words.{place_number, link_to}
@@ -35,13 +35,12 @@ use Rattle.lz_machine.specs.Runs.{Caller}
 use Rattle.lz_machine.specs.Kept.{upto}
 use Rattle.lz_machine.specs.Stands.{IsWalking, WasBetween}
 use Rattle.lz_machine.specs.Yards.{IsInside}
-use Rattle.lz_machine.specs.CallersSound.{View, IsWritten, IsAimed, IsBeyond, HasEnded, IsLooking, IsSince, HasMet, RestsYes, RestsNo, WasAbsent, IsSettledChange, MayAnswer, HasAdded, HasMarked, MayRest, IsEmptyHanded, ReliesWriting, ReliesAdding, ReliesRemoving, ReliesOn, Relies, IsCaller, CallerSound, is_before_pin, side_of}
+use Rattle.lz_machine.specs.CallersSound.{View, IsWritten, IsAimed, IsBeyond, HasEnded, IsLooking, IsSince, RestsYes, RestsNo, WasAbsent, IsSettledChange, MayAnswer, HasAdded, HasMarked, MayRest, IsEmptyHanded, ReliesWriting, ReliesAdding, ReliesRemoving, ReliesOn, Relies, IsCaller, CallerSound, is_before_pin, side_of}
 use Rattle.lz_machine.specs.SlotsSound.{shuts}
 use Rattle.lz_machine.proofs.Ledger.Growth.{upto_more, yes_stays, no_stays}
 
 pub halt_stays : (e : Publishing) (P : Trace) → halt_word P ≡ 1 → halt_word (e ∷ P) ≡ 1
 halt_stays halted P is = refl
-halt_stays (linked k s p) P is = is
 halt_stays _ _ is = is
 
 -- the node of the actor's pair, on which it relies
@@ -53,32 +52,15 @@ relies_on_node _ = false
 
 -- an actor that has closed a gate relies on its node, which is on its chain
 pub shut_relies : (hold : Hold) → shuts hold ≡ true → relies_on_node hold ≡ true
-shut_relies GateClosed e = refl
-shut_relies Marked e = refl
-shut_relies Checked e = refl
-shut_relies _ e = absurd (false≢true e)
+shut_relies hold e = grind arith
 
 module _ (buckets slots : ℕ) (e : Publishing) (P : Trace) (law : Lawful buckets slots (e ∷ P)) where
   -- a node on a chain keeps its key word and its linking
   pub node_word : (t b : ℕ) → on 0 (chain buckets b P) (suc t) ≡ true → key_word t (e ∷ P) ≡ key_word t P
-  node_word t b there = go e law.0
-    where
-      go : (f : Publishing) → May buckets slots f P → key_word t (f ∷ P) ≡ key_word t P
-      go (key_prepared s v) loose = elim (eqb_tells s t) [
-        | inl same ↦ absurd (false≢true (sym (loose b) ∙ ap (λ (q : ℕ). on 0 (chain buckets b P) (suc q)) same.1 ∙ there))
-        | inr f ↦ rw f.0
-      ]
-      go _ may = refl
+  node_word t b there = grind arith
 
   pub node_linking : (t b : ℕ) → on 0 (chain buckets b P) (suc t) ≡ true → linking_in t (e ∷ P) ≡ linking_in t P
-  node_linking t b there = go e law.0
-    where
-      go : (f : Publishing) → May buckets slots f P → linking_in t (f ∷ P) ≡ linking_in t P
-      go (linked k s p) may = elim (eqb_tells s t) [
-        | inl same ↦ absurd (false≢true (sym (may.loose b) ∙ ap (λ (q : ℕ). on 0 (chain buckets b P) (suc q)) same.1 ∙ there))
-        | inr f ↦ rw f.0
-      ]
-      go _ may = refl
+  node_linking t b there = grind arith
 
   -- and so does its key
   pub key_linking : (k t : ℕ) → on 0 (chain_of buckets k P) (suc t) ≡ true → key_word t P ≡ k → linking k (e ∷ P) ≡ linking k P
@@ -155,15 +137,8 @@ module _ (buckets slots : ℕ) (e : Publishing) (P : Trace) (law : Lawful bucket
   pub since_stays : (P0 R : Trace) → IsSince P0 R P → IsSince P0 R (e ∷ P)
   since_stays P0 R h = record { from = h.from; upto = inr h.upto }
 
-  pub met_stays : (k s : ℕ) (mark : Bool) (P0 : Trace) → HasMet buckets k s mark P0 P → HasMet buckets k s mark P0 (e ∷ P)
-  met_stays k s mark P0 h = record { then = h.then; since = since_stays P0 h.then h.since; stood = h.stood; key = h.key; met = h.met }
-
   rest_stays : (c : Command) (reply : Reply) (s : ℕ) (P0 : Trace) → MayRest buckets c reply s P0 P → MayRest buckets c reply s P0 (e ∷ P)
-  rest_stays (Has k) Yes s P0 h = met_stays k s false P0 h
-  rest_stays (Has k) No s P0 h = met_stays k s true P0 h
-  rest_stays (Add k) No s P0 h = met_stays k s false P0 h
-  rest_stays (Remove k) No s P0 h = met_stays k s true P0 h
-  rest_stays _ _ s _ h = absurd h
+  rest_stays c reply s P0 h = grind arith
 
   pub rests_yes_stays : (k : ℕ) (P0 : Trace) → RestsYes k P0 P → RestsYes k P0 (e ∷ P)
   rests_yes_stays k P0 h = record { then = h.then; since = since_stays P0 h.then h.since; settled = yes_stays e P h.then k h.settled }
@@ -259,13 +234,12 @@ module _ (buckets slots : ℕ) (e : Publishing) (P : Trace) (law : Lawful bucket
     removing_stays : (k s i : ℕ) → actor.curr ≡ Some s → ReliesRemoving v k s i P changed → ReliesRemoving v k s i (e ∷ P) changed
     removing_stays k s zero is h = (h.0, node_word_stays s k is Checked h.0 refl h.1, h.2)
     removing_stays k s (suc zero) is h = (h.0, node_word_stays s k is GateClosed h.0 refl h.1, h.2)
-    removing_stays k s (suc (suc zero)) is h = (h.0, marked_stays k s is h.0 h.1)
-    removing_stays k s (suc (suc (suc zero))) is h = (h.0, marked_stays k s is h.0 h.1)
     removing_stays k s (suc (suc (suc (suc zero)))) is h =
         (h.0, node_word_stays s k is Marked h.0 refl h.1, removed_stays k s is h.0 h.1 h.2, change_stays k changed h.3)
     removing_stays k s (suc (suc (suc (suc (suc zero))))) is h = (h.0, change_stays k changed h.1)
     removing_stays k s (suc (suc (suc (suc (suc (suc zero)))))) is h = (h.0, change_stays k changed h.1)
     removing_stays k s (suc (suc (suc (suc (suc (suc (suc i))))))) is h = absurd h
+    removing_stays k s _ is h = (h.0, marked_stays k s is h.0 h.1)
 
     module _ (inside : IsInside pin) (quiet : IsQuiet buckets P0 P) where
       adding_stays : (k s i : ℕ) → ReliesAdding v k s i P0 P changed → ReliesAdding v k s i P0 (e ∷ P) changed
@@ -303,11 +277,7 @@ module _ (buckets slots : ℕ) (e : Publishing) (P : Trace) (law : Lawful bucket
 
     -- a call whose pass is outside has nothing but what it keeps while idle
     outside_stays : (c : Command) (at : Progress) → is_before_pin at ≡ true → Relies v c at P0 P changed → Relies v c at P0 (e ∷ P) changed
-    outside_stays c (Playing Pinning zero) is h = (idle_stays actor h.0, h.1, h.2)
-    outside_stays c (Playing Pinning (suc i)) is h = absurd h
-    outside_stays c (Answering SaysWorn) is h = (idle_stays actor h.0, h.1, h.2)
-    outside_stays c (Answering SaysOldFile) is h = (idle_stays actor h.0, h.1, h.2, h.3)
-    outside_stays c _ is h = absurd (false≢true is)
+    outside_stays c at is h = grind arith
 
     caller_stands : (caller : Option Caller) → (IsInside pin → IsQuiet buckets P0 P) → IsCaller v pin caller P0 P changed → IsCaller v pin caller P0 (e ∷ P) changed
     caller_stands None quiet h = (idle_stays actor h.0, h.1)

@@ -106,10 +106,7 @@ IsShort slots _ = Unit {0}
 
 -- next links stay so
 pub small_stays : (buckets slots : ℕ) (e : Publishing) (P : Trace) → Lawful buckets slots (e ∷ P) → IsShort slots e → ((t : ℕ) → node_next buckets t P ≤ slots) → (t : ℕ) → node_next buckets t (e ∷ P) ≤ slots
-small_stays buckets slots (linked k s p) P law short small t = grind (arith, nat_tests, small t, law.0.in_range)
-small_stays buckets slots (unlinked k s p) P law short small t = grind (arith, nat_tests, small t, small s)
-small_stays buckets slots (link_prepared s v) P law short small t = grind (arith, nat_tests, small t, short)
-small_stays buckets slots _ _ law short small t = small t
+small_stays buckets slots e P law short small t = grind arith
 
 pub opening_small : (buckets slots : ℕ) (found : Chain) → IsFound slots found → (t : ℕ) → node_next buckets t (opening buckets found) ≤ slots
 opening_small buckets slots [] is t = omega arith

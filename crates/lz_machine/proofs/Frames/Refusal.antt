@@ -1,5 +1,5 @@
 -- Whether an actor's call was refused says nothing of what it has in hand.
-use Rattle.std.proofs.Common.{◌≡◌, ◌≢◌, ℕ, ◌≤◌, Bool, true, false, List, length, Option, None, if◌then◌else◌, refl, sym, ap, ◌∙◌, subst}
+use Rattle.std.proofs.Common.{◌≡◌, ◌≢◌, ℕ, ◌≤◌, Bool, true, false, List, length, Option, None, if◌then◌else◌, refl, sym, ap, ◌∙◌, subst, arith}
 use Rattle.lz_slot.specs.declared.command.Command.{Command}
 use Rattle.lz_slot.specs.Counted.{set_of_pass}
 use Rattle.lz_slot.specs.Histories.{History, Life}
@@ -9,7 +9,6 @@ use Rattle.lz_list.specs.Traces.{Trace}
 use Rattle.lz_machine.specs.declared.event.Reply.TheVariants.{OldFile as SaysOldFile}
 use Rattle.lz_machine.specs.declared.actor.Actor.{Actor}
 use Rattle.lz_machine.specs.declared.actor.Hold.{Hold}
-use Rattle.lz_machine.specs.declared.actor.Hold.TheVariants.{Checked, GateOpened, GateClosed, Marked}
 use Rattle.lz_machine.specs.declared.caller.Progress.TheVariants.{Answering}
 use Rattle.lz_machine.specs.Yards.{Yard, actor_at, idle_actor, actor_in, pin_in}
 use Rattle.lz_machine.specs.Table.{is_old}
@@ -34,32 +33,16 @@ begun_outside false = refl
 
 -- what it relies on, where its actor has noted whether it was refused
 pub begun_relies : (v : View) (c : Command) (P0 P : Trace) (changed : Option ℕ) → v.actor.refused ≡ is_old v.format c → IsEmptyHanded v.actor P → changed ≡ None → Relies v c (begun v.format c) P0 P changed
-begun_relies v c P0 P changed noted idle none = go (is_old v.format c) refl
-  where
-    go : (b : Bool) → is_old v.format c ≡ b → Relies v c (if b then Answering SaysOldFile else first_progress) P0 P changed
-    go true is = (idle, none, is, noted ∙ is)
-    go false is = (idle, none, is)
+begun_relies v c P0 P changed noted idle none = grind arith
 
 abbrev noted : Actor → Bool → Actor
 noted actor refused = record actor { refused = refused }
 
 grips_noted : (dead : Bool) (actor : Actor) (refused : Bool) → KeepsGrips dead dead actor (noted actor refused)
-grips_noted dead actor refused = record {
-  slot = refl;
-  out = λ s is. record { node = is.node; removed = is.removed };
-  still_out = λ s is. record { node = is.node; removed = is.removed };
-  closer = λ s is. record { node = is.node; closes = is.closes };
-  opener = λ is. is;
-  unlock = λ is. is;
-  shut = λ s at is. (at, is);
-}
+grips_noted dead actor refused = grind arith
 
 rests_noted : (buckets : ℕ) (actor : Actor) (refused : Bool) (P : Trace) (hold : Hold) → RestsOn buckets hold actor P → RestsOn buckets hold (noted actor refused) P
-rests_noted buckets actor refused P Checked h = record { beside = h.beside; before = h.before }
-rests_noted buckets actor refused P GateOpened h = record { own = h.own; slot = h.slot; beside = h.beside; ready = h.ready }
-rests_noted buckets actor refused P GateClosed h = record { node = h.node; curr = h.curr; before = h.before; marked = h.marked }
-rests_noted buckets actor refused P Marked h = record { node = h.node; curr = h.curr; before = h.before; marked = h.marked }
-rests_noted buckets actor refused P _ h = tt
+rests_noted buckets actor refused P hold h = grind arith
 
 module _ (n calls : ℕ) (y : Yard) (callers : List (Option Caller)) (disk : Medium) (M : History) (P : Trace) (notes : Notes) (a : ℕ) (c : Command) (low : 1 ≤ a) (high : a ≤ length y.actors) (none : caller_at callers a ≡ None) (sound : Sound n calls y callers disk M P notes) where
   abbrev x : Actor

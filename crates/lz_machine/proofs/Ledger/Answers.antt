@@ -72,14 +72,7 @@ module _ (members : ℕ → Keys) (rows : List Row) (right : Each (IsRight membe
       })
 
   leads_change : (j : ℕ) (L : List Row) → Each (λ r. IsRight members r × ((r.changes && (r.position == j)) ≡ true)) L → Moves (members j) (members (suc j)) L → Leads (members j) L (members (suc j))
-  leads_change j [] each moves = record { gives = tt; ends_in = λ k. sym (moves k) }
-  leads_change j (r ∷ []) each moves =
-      let place : r.position ≡ j = grind (arith, nat_tests, each.0.1) in
-      record {
-        gives = (subst (λ (i : ℕ). MatchOption r.answer (Unit {0}) (λ a. reply r.command (members i (key_of r.command)) ≡ a)) place each.0.0.answer, tt);
-        ends_in = λ k. sym (moves k);
-      }
-  leads_change j (r ∷ q ∷ L) each moves = absurd moves
+  leads_change j L each moves = grind arith
 
   pub listed_leads : (n : ℕ) → ((j : ℕ) → j < n → Moves (members j) (members (suc j)) (change_at j rows)) → Leads (members 0) (listed rows n) (members n)
   listed_leads zero moves = leads_quiet (members 0) (quiet_at 0 rows) (each_weaker _ _ (right_quiet 0) _ (each_filter _ _ rows right))

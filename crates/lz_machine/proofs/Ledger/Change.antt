@@ -68,16 +68,10 @@ abbrev pub changes_at : Notes → ℕ → ℕ → Notes
 changes_at notes a position = record { begun = notes.begun; changed = λ b. if b == a then Some position else notes.changed b; ended = notes.ended }
 
 pub changed_same : (notes : Notes) (a position : ℕ) → (changes_at notes a position).changed a ≡ Some position
-changed_same notes a position = elim (eqb_tells a a) [
-  | inl same ↦ rw same.0 refl
-  | inr other ↦ absurd (other.1 refl)
-]
+changed_same notes a position = grind arith
 
 pub changed_other : (notes : Notes) (a position b : ℕ) → b ≢ a → (changes_at notes a position).changed b ≡ notes.changed b
-changed_other notes a position b other = elim (eqb_tells b a) [
-  | inl same ↦ absurd (other same.1)
-  | inr away ↦ rw away.0 refl
-]
+changed_other notes a position b other = grind arith
 
 -- the row of the change that ends a trace of this length
 abbrev pub row_of : Caller → ℕ → Row
@@ -221,11 +215,7 @@ module _ (n calls passes : ℕ) (callers : List (Option Caller)) (e : Publishing
   }
 
   row_in : IsRowIn M r
-  row_in = record {
-    is_called = under_way.called;
-    answers = λ b is. absurd (under_way.no_answer b is);
-    not_refused = under_way.no_refusal;
-  }
+  row_in = grind arith
 
   -- a row whose call was answered has ended
   answered_front : (x : Row) (b : Bool) → HasRow x old → IsAnswered M x.number b → HasRow x parts.front

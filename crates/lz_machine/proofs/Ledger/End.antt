@@ -2,7 +2,7 @@
 -- that ended.
 use Rattle.std.proofs.Common.{◌≡◌, ◌≢◌, ◌⊎◌, ⊎_elim, inl, inr, ℕ, ◌<◌, ◌≤◌, ◌+◌, Bool, true, false, List, [], ◌∷◌, ◌++◌, length, Option, Some, None, refl, sym, ap, ◌∙◌, subst, arith}
 use Rattle.std.proofs.lemmas.Bool.{cases_eq}
-use Rattle.std.proofs.lemmas.Bool.Decides.{nat_tests, eqb_tells}
+use Rattle.std.proofs.lemmas.Bool.Decides.{nat_tests}
 use Rattle.std.proofs.lemmas.List.{append-nil}
 use Rattle.std.proofs.lemmas.Option.{none-some}
 use Rattle.lz_slot.specs.declared.command.Command.{Command}
@@ -118,10 +118,7 @@ module _ (n calls passes : ℕ) (callers : List (Option Caller)) (P : Trace) (M 
       split = ap (times i) old_is ∙ omega (arith, times_append i E (F ++ (pended ++ B)), times_append i F (pended ++ B), times_append i pended B, times_append i E (F ++ B), times_append i F B)
 
       own : (j : ℕ) → times i (pending_row (Some caller) (Some j)) ≡ 1
-      own j = elim (eqb_tells caller.number caller.number) [
-        | inl same ↦ rw same.0 refl
-        | inr other ↦ absurd (other.1 refl)
-      ]
+      own j = grind arith
 
       go : (changed : Option ℕ) → notes.changed a ≡ changed → times i rows ≡ 0
       go None is = omega (arith, split, no_entry n calls passes callers P M notes a caller at is sound)
@@ -231,14 +228,7 @@ module _ (n calls passes : ℕ) (callers : List (Option Caller)) (P : Trace) (M 
   other_call b one other is same = other (sound.apart b a one caller is at same)
 
   open_still : (j : ℕ) (c : Command) → (j ≡ i → may_have_tail caller.progress ≡ true) → IsUnderWay M j c → IsUnderWay (m ∷ M) j c
-  open_still j c apart h = record {
-    called = (h.called.0, inr h.called.1);
-    no_answer = λ b is. ⊎_elim (λ now. let e = ends.answers j b now in clash e.1 (apart e.0)) (λ before. h.no_answer b before) is;
-    no_refusal = λ is. ⊎_elim (λ now. let e = ends.refuses j is.0 now in clash e.1 (apart e.0)) (λ before. h.no_refusal (is.0, before)) is.1;
-  }
-    where
-      clash : {b : Bool} → b ≡ false → b ≡ true → ⊥
-      clash x z = let e = sym x ∙ z in absurd cc
+  open_still j c apart h = grind arith
 
   is_open : (b : ℕ) (one : Caller) → caller_at (ending callers a) b ≡ Some one → (b ≢ a) × (caller_at callers b ≡ Some one)
   is_open b one is = elim (cases_eq b a) [

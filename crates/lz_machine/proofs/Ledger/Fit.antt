@@ -1,7 +1,8 @@
 -- The list that a trace and a ledger give fits the history.
-use Rattle.std.proofs.Common.{◌≡◌, ◌⊎◌, ⊎_elim, inl, inr, ℕ, zero, suc, ◌<◌, ◌≤◌, Bool, true, not, ◌==◌, ◌&&◌, List, [], ◌∷◌, ◌++◌, length, filter, Option, Some, None, MatchOption, refl, sym, ap, subst, arith}
+use Rattle.std.proofs.Common.{◌≡◌, ◌⊎◌, ⊎_elim, inl, inr, ℕ, zero, suc, ◌<◌, ◌≤◌, Bool, true, not, ◌==◌, ◌&&◌, List, [], ◌∷◌, ◌++◌, length, filter, Option, None, MatchOption, refl, sym, ap, ◌∙◌, subst, arith}
 use Rattle.std.proofs.lemmas.Bool.{cases_Bool, cases_lt}
 use Rattle.std.proofs.lemmas.Bool.Decides.{nat_tests}
+use Rattle.std.proofs.lemmas.Option.{none-some}
 use Rattle.lz_slot.specs.Sets.{key_of, Keys, after, reply}
 use Rattle.lz_slot.specs.Histories.{IsRefused, History, IsAnswered, IsBefore, IsListed, count_of, IsEarlier, Runs, Fits}
 use Rattle.lz_list.specs.Traces.{Trace, Lawful}
@@ -107,13 +108,10 @@ module _ (n : ℕ) (P : Trace) (rows tail : List Row) (M : History) (ledger : Is
       let q = row_of j (listed rows (length P) ++ tail) at_j in
       subst (λ (x : ℕ). IsEarlier x j (numbers (listed rows (length P) ++ tail))) r.2 (subst (λ (y : ℕ). IsEarlier r.0.number y (numbers (listed rows (length P) ++ tail))) q.2 (earlier_rows r.0 q.0 (listed rows (length P) ++ tail) (go r.0 q.0 (subst (λ (x : ℕ). IsBefore M x q.0.number) (sym r.2) (subst (λ (y : ℕ). IsBefore M i y) (sym q.2) before)) (has_append r.0 (listed rows (length P)) tail r.1) (has_append q.0 (listed rows (length P)) tail q.1))))
     where
-      none≢some : (o : Option Bool) (a : Bool) → o ≡ None → o ≡ Some a → ⊥
-      none≢some o a none some = cc
-
       go : (r q : Row) → IsBefore M r.number q.number → HasRow r (listed rows (length P)) ⊎ HasRow r tail → HasRow q (listed rows (length P)) ⊎ HasRow q tail → Stands r q (listed rows (length P) ++ tail)
       go r q before (inr last) _ =
           let told = was_answered r.number q.number M before in
-          absurd (none≢some r.answer told.0 (each_has (λ r. r.answer ≡ None) r tail ledger.tail_open last) ((each_has (IsRowIn M) r (rows ++ tail) ledger.calls (has_right r rows tail last)).answers told.0 told.1))
+          absurd (none-some told.0 (sym (each_has (λ r. r.answer ≡ None) r tail ledger.tail_open last) ∙ (each_has (IsRowIn M) r (rows ++ tail) ledger.calls (has_right r rows tail last)).answers told.0 told.1))
       go r q before (inl first) (inr last) = stands_across r q (listed rows (length P)) tail first last
       go r q before (inl first) (inl second) =
           let at_r = has_listed (length P) r rows first in

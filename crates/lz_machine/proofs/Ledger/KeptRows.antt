@@ -1,7 +1,8 @@
 -- For each image the rows that it keeps are a ledger too.
-use Rattle.std.proofs.Common.{◌≡◌, ⊎_elim, inl, inr, ℕ, suc, ◌≤◌, Bool, true, false, not, ◌==◌, ◌&&◌, List, [], ◌∷◌, ◌++◌, length, filter, Option, Some, None, refl, sym, ap, ◌∙◌, subst, arith}
+use Rattle.std.proofs.Common.{◌≡◌, ⊎_elim, inl, inr, ℕ, suc, ◌≤◌, Bool, true, false, not, ◌==◌, ◌&&◌, List, [], ◌∷◌, ◌++◌, length, filter, Some, refl, sym, ap, ◌∙◌, subst, arith}
 use Rattle.std.proofs.lemmas.Bool.{cases_Bool}
 use Rattle.std.proofs.lemmas.Bool.Decides.{nat_tests}
+use Rattle.std.proofs.lemmas.Option.{none-some}
 use Rattle.lz_slot.specs.declared.command.Command.{Command}
 use Rattle.lz_slot.specs.declared.command.Command.TheVariants.{Add, Remove}
 use Rattle.lz_slot.specs.Sets.{key_of, Keys}
@@ -39,15 +40,12 @@ module _ (n : ℕ) (P : Trace) (drop : Keys) (may : MayDrop n P drop) where
         let last : last_change (key_of r.command) P ≡ suc r.position = grind (arith, nat_tests) in
         let within = (row.changing does).within in
         let late : last_change (key_of r.command) P ≤ length (upto (suc r.position) P) = omega (arith, last, length-upto (suc r.position) P) in
-        let said : r.answer ≡ Some true = ⊎_elim (λ none. absurd (none≢some r.answer a none answer)) (λ some. some) (row.changing does).answer in
+        let said : r.answer ≡ Some true = ⊎_elim (λ none. absurd (none-some a (sym none ∙ answer))) (λ some. some) (row.changing does).answer in
         absurd (⊎_elim
         (λ told. yes_is_kept (key_of r.command) (upto (suc r.position) P) P told late (may.open_change (key_of r.command) dropped))
         (λ told. no_is_kept (key_of r.command) (upto (suc r.position) P) P told late (may.open_change (key_of r.command) dropped))
         (entry.told does said))
   ]
-    where
-      none≢some : (o : Option Bool) (a : Bool) → o ≡ None → o ≡ Some a → ⊥
-      none≢some o a none some = cc
 
   pub kept_ledger : (entries tail : List Row) (M : History) → IsLedger n P entries tail M → Each (IsSettledEntry P) entries → IsLedger n P (kept_rows P drop entries) tail M
   kept_ledger entries tail M h settled_ones = record {

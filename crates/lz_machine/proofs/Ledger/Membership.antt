@@ -8,7 +8,7 @@ use Rattle.lz_slot.specs.declared.command.Command.TheVariants.{Add, Remove}
 use Rattle.lz_slot.specs.Sets.{key_of, Keys, reply, moved}
 use Rattle.lz_slot.proofs.Sets.{after_at}
 use Rattle.lz_list.specs.declared.publishing.Publishing.{Publishing}
-use Rattle.lz_list.specs.declared.publishing.Publishing.TheVariants.{Linked as linked, Marked as marked, Unlinked as unlinked, Settled as settled, KeyPrepared as key_prepared, LinkPrepared as link_prepared, Halted as halted}
+use Rattle.lz_list.specs.declared.publishing.Publishing.TheVariants.{Linked as linked, Marked as marked, Settled as settled, Halted as halted}
 use Rattle.lz_list.specs.Traces.{Trace, Begins, member, linking, is_settled, is_removed, Lawful, SettledYes, SettledNo}
 use Rattle.lz_list.proofs.Traces.Hindsight.{lawful_begins}
 use Rattle.lz_machine.specs.Ledgers.{Row, IsRight, Moves}
@@ -119,10 +119,7 @@ module _ (n : ℕ) (P : Trace) (drop : Keys) (may : MayDrop n P drop) where
   ]
     where
       right_from : (was : Bool) → r.answer ≡ Some (reply r.command was) → moved (key_of r.command) r.command was ≡ was → kept_keys n P drop r.position (key_of r.command) ≡ was → IsRight (kept_keys n P drop) r
-      right_from was answer leaves is = record {
-        answer = subst (λ (o : Option Bool). MatchOption o (Unit {0}) (λ a. reply r.command (kept_keys n P drop r.position (key_of r.command)) ≡ a)) (sym answer) (ap (reply r.command) is);
-        quiet = λ _. ap (moved (key_of r.command) r.command) is ∙ leaves ∙ sym is;
-      }
+      right_from was answer leaves is = grind arith
 
   last_is_change : (k j : ℕ) (Q : Trace) → last_change k Q ≡ suc j → changes_key k (publishing j Q) ≡ true
   last_is_change k j [] is = absurd (omega arith)
@@ -180,15 +177,9 @@ module _ (n : ℕ) (P : Trace) (drop : Keys) (may : MayDrop n P drop) where
     rows_move buckets slots law (marked k s p) is fit =
         let may_mark = (subst (Lawful buckets slots) (next j early late (marked k s p) is) (lawful_begins buckets slots (upto (suc j) P) P (upto_begins (suc j) P) law)).0 in
         move_by (marked k s p) k (Remove k) false is (λ q other. grind (arith, nat_tests)) (grind (arith, nat_tests)) (grind (arith, nat_tests)) may_mark.0 (λ q b other. grind (arith, nat_tests)) (λ b. grind (arith, nat_tests)) (drop k && (last_change k P == suc j)) refl fit
-    rows_move buckets slots law (unlinked k s p) is fit = subst (Moves (kept_keys n P drop j) (kept_keys n P drop (suc j))) (sym fit) (λ q. stays j early late (unlinked k s p) is q refl)
-    rows_move buckets slots law (settled s r) is fit = subst (Moves (kept_keys n P drop j) (kept_keys n P drop (suc j))) (sym fit) (λ q. stays j early late (settled s r) is q refl)
-    rows_move buckets slots law (key_prepared s v) is fit = subst (Moves (kept_keys n P drop j) (kept_keys n P drop (suc j))) (sym fit) (λ q. stays j early late (key_prepared s v) is q refl)
-    rows_move buckets slots law (link_prepared s v) is fit = subst (Moves (kept_keys n P drop j) (kept_keys n P drop (suc j))) (sym fit) (λ q. stays j early late (link_prepared s v) is q refl)
     rows_move buckets slots law halted is fit = subst (Moves (kept_keys n P drop j) (kept_keys n P drop (suc j))) (sym fit) (λ q. stays j early late halted is q refl)
+    rows_move buckets slots law e is fit = subst (Moves (kept_keys n P drop j) (kept_keys n P drop (suc j))) (sym fit) (λ q. stays j early late e is q refl)
 
   -- before the life began nothing moves
   pub begins_still : (j : ℕ) → j < n → (k : ℕ) → kept_keys n P drop (suc j) k ≡ kept_keys n P drop j k
-  begins_still j lt k =
-      let at : max n j ≡ n = omega arith in
-      let at_next : max n (suc j) ≡ n = omega arith in
-      rw (at, at_next)
+  begins_still j lt k = grind arith

@@ -1,7 +1,7 @@
 -- The ledger stays when the trace grows by a publishing that changes no membership.
 use Rattle.std.proofs.Common.{◌≡◌, ⊎_elim, inl, inr, ℕ, suc, ◌≤◌, List, [], ◌∷◌, length, refl, sym, subst, arith}
 use Rattle.std.proofs.lemmas.Bool.{cases_Bool, cases_lt}
-use Rattle.std.proofs.lemmas.Bool.Decides.{nat_tests, eqb_tells}
+use Rattle.std.proofs.lemmas.Bool.Decides.{nat_tests}
 use Rattle.std.specs.Prelude.{Option}
 use Rattle.lz_slot.specs.Histories.{History}
 use Rattle.lz_slot.specs.Sets.{key_of}
@@ -27,10 +27,7 @@ none_late n j P (r ∷ rows) late h = elim (cases_Bool r.changes) [
 ]
 
 pub last_publishing : (e : Publishing) (P : Trace) → publishing (length P) (e ∷ P) ≡ e
-last_publishing e P = elim (eqb_tells (length P) (length P)) [
-  | inl same ↦ rw same.0 refl
-  | inr other ↦ absurd (other.1 refl)
-]
+last_publishing e P = grind arith
 
 -- it is no linking and no marking
 abbrev pub IsNoChange : Publishing → Type 0

@@ -1,17 +1,17 @@
 -- The last row of a call, by what it replies, and the ledger with it.
 use Rattle.std.proofs.Common.{◌≡◌, ◌⊎◌, ⊎_elim, inl, inr, ℕ, ◌≤◌, ◌==◌, Bool, true, false, List, [], ◌∷◌, ◌++◌, length, Option, Some, None, refl, sym, ap, ◌∙◌, subst, arith}
 use mathlib.Core.Bool.{false≢true}
-use Rattle.std.proofs.lemmas.Bool.Decides.{nat_tests, eqb_tells}
+use Rattle.std.proofs.lemmas.Bool.Decides.{nat_tests}
 use Rattle.lz_slot.specs.declared.command.Command.{Command}
 use Rattle.lz_slot.specs.declared.command.Command.TheVariants.{Add, Remove, Has}
 use Rattle.lz_slot.specs.declared.history.Mark.{Mark}
-use Rattle.lz_slot.specs.declared.history.Mark.TheVariants.{Call, Answer, Refused, Cut}
+use Rattle.lz_slot.specs.declared.history.Mark.TheVariants.{Answer, Refused, Cut}
 use Rattle.lz_slot.specs.declared.history.Refusal.{Refusal}
 use Rattle.lz_slot.specs.declared.history.Refusal.TheVariants.{Full as refused_full, Worn as refused_worn, OldFile as refused_old_file}
 use Rattle.lz_slot.specs.declared.history.Cut.{Cut as CutWhy}
 use Rattle.lz_slot.specs.declared.history.Cut.TheVariants.{Halted as cut_halted, Device as cut_device}
 use Rattle.lz_slot.specs.Sets.{key_of, reply, moved}
-use Rattle.lz_slot.specs.Histories.{History, HasMark, IsAnswered, IsUnderWay}
+use Rattle.lz_slot.specs.Histories.{History, IsUnderWay}
 use Rattle.lz_list.specs.Traces.{Trace, Begins, SettledYes, SettledNo}
 use Rattle.lz_machine.specs.declared.event.Reply.{Reply}
 use Rattle.lz_machine.specs.declared.event.Reply.TheVariants.{Yes, No, Full, Worn as SaysWorn, OldFile as SaysOldFile, Halted, Device}
@@ -40,34 +40,13 @@ upto_is R (e ∷ P) (inr there) = let le = shorter R P there in grind (arith, na
 
 -- a mark that ends a call
 answer_mark : (i : ℕ) (b leaves : Bool) → leaves ≡ false → EndsCall (Answer i b) i leaves
-answer_mark i b leaves is = record {
-  no_call = λ j a c e. absurd cc;
-  answers = λ j d e. (sym (number e), is);
-  refuses = λ j why e. absurd cc;
-}
-  where
-    number : {j : ℕ} {d : Bool} → Answer i b ≡ Answer j d → i ≡ j
-    number e = cc
+answer_mark i b leaves is = grind arith
 
 refused_mark : (i : ℕ) (why : Refusal) (leaves : Bool) → leaves ≡ false → EndsCall (Refused i why) i leaves
-refused_mark i why leaves is = record {
-  no_call = λ j a c e. absurd cc;
-  answers = λ j d e. absurd cc;
-  refuses = λ j other e. (sym (number e), is);
-}
-  where
-    number : {j : ℕ} {other : Refusal} → Refused i why ≡ Refused j other → i ≡ j
-    number e = cc
+refused_mark i why leaves is = grind arith
 
 cut_mark : (i : ℕ) (why : CutWhy) (leaves : Bool) → EndsCall (Cut i why) i leaves
-cut_mark i why leaves = record {
-  no_call = λ j a c e. absurd cc;
-  answers = λ j d e. absurd cc;
-  refuses = λ j other e. absurd cc;
-}
-
-same_answer : {i j : ℕ} {b d : Bool} → Answer i b ≡ Answer j d → b ≡ d
-same_answer e = cc
+cut_mark i why leaves = grind arith
 
 -- the row of a call that is answered with this at this position, or not answered
 abbrev pub row_with : ℕ → Command → Option Bool → Bool → ℕ → Row
@@ -96,10 +75,7 @@ module _ (n calls passes : ℕ) (callers : List (Option Caller)) (P : Trace) (M 
   under_way = sound.open_call a caller at
 
   itself : (i == i) ≡ true
-  itself = elim (eqb_tells i i) [
-    | inl same ↦ same.0
-    | inr other ↦ absurd (other.1 refl)
-  ]
+  itself = grind arith
 
   one_row : (r : Row) → r.number ≡ i → times i (r ∷ []) ≤ 1
   one_row r number = grind (arith, nat_tests, number)
@@ -118,14 +94,7 @@ module _ (n calls passes : ℕ) (callers : List (Option Caller)) (P : Trace) (M 
 
   -- a row of this call, where it is answered so
   answered_row : (b : Bool) (r : Row) → r.number ≡ i → r.command ≡ c → r.answer ≡ Some b → IsRowIn (Answer i b ∷ M) r
-  answered_row b r number command answer = record {
-    is_called = (under_way.called.0, inr (subst (λ (q : ℕ). HasMark (Call q under_way.called.0 r.command) M) (sym number) (subst (λ (q : Command). HasMark (Call i under_way.called.0 q) M) (sym command) under_way.called.1)));
-    answers = λ d is. ⊎_elim (λ now. answer ∙ ap Some (same_answer now)) (λ before. absurd (under_way.no_answer d (subst (λ (q : ℕ). IsAnswered M q d) number before))) is;
-    not_refused = λ is. ⊎_elim (λ now. absurd (answer_refused now)) (λ before. absurd (under_way.no_refusal (is.0, subst (λ (q : ℕ). HasMark (Refused q is.0) M) number before))) is.1;
-  }
-    where
-      answer_refused : {j : ℕ} {why : Refusal} → Answer i b ≡ Refused j why → ⊥
-      answer_refused e = absurd cc
+  answered_row b r number command answer = grind arith
 
   -- an answer that rests on what others changed
   quiet_row : (b : Bool) (position : ℕ) → leaves ≡ false → notes.changed a ≡ None → IsRowOf n P (row_with i c (Some b) false position) → IsInside (pin_in pins a) → length (notes.begun a) ≤ position → Ends (Answer i b)
@@ -267,9 +236,6 @@ module _ (n calls passes : ℕ) (callers : List (Option Caller)) (P : Trace) (M 
   ends (Add k) No at (inr h) may = rests_yes n calls passes callers P M notes a i (Add k) No at le sound pins after false refl (moved_yes k) refl h.0 h.1 may.0 may.1
   ends (Remove k) Yes at (inr h) may = changed_row n calls passes callers P M notes a i (Remove k) Yes at le sound pins after refl may
   ends (Remove k) No at (inr h) may = rests_no n calls passes callers P M notes a i (Remove k) No at le sound pins after false refl (moved_no k) refl h.0 h.1 may.0 may.1
-  ends (Has k) (Full counts) at h may = refused_row n calls passes callers P M notes a i (Has k) (Full counts) at le sound pins after refused_full refl may.0
-  ends (Add k) (Full counts) at h may = refused_row n calls passes callers P M notes a i (Add k) (Full counts) at le sound pins after refused_full refl may.0
-  ends (Remove k) (Full counts) at h may = refused_row n calls passes callers P M notes a i (Remove k) (Full counts) at le sound pins after refused_full refl may.0
   ends (Has k) SaysWorn at h may = refused_row n calls passes callers P M notes a i (Has k) SaysWorn at le sound pins after refused_worn refl may
   ends (Has k) SaysOldFile at h may = refused_row n calls passes callers P M notes a i (Has k) SaysOldFile at le sound pins after refused_old_file refl may
   ends (Add k) SaysWorn at h may = refused_row n calls passes callers P M notes a i (Add k) SaysWorn at le sound pins after refused_worn refl may
@@ -279,3 +245,4 @@ module _ (n calls passes : ℕ) (callers : List (Option Caller)) (P : Trace) (M 
   ends c Halted at h may = cut_row n calls passes callers P M notes a i c Halted at le sound pins after cut_halted
   ends c Device at h may = cut_row n calls passes callers P M notes a i c Device at le sound pins after cut_device
   ends _ _ at (inl e) may = absurd (false≢true e)
+  ends c (Full counts) at h may = refused_row n calls passes callers P M notes a i c (Full counts) at le sound pins after refused_full refl may.0

@@ -1,5 +1,5 @@
 -- The first open, and each later one, begins a sound life: at a point.
-use Rattle.std.proofs.Common.{◌≡◌, ℕ, ◌≤◌, List, [], ◌∷◌, length, refl, ◌∙◌}
+use Rattle.std.proofs.Common.{◌≡◌, ℕ, ◌≤◌, List, [], ◌∷◌, length, refl, ◌∙◌, arith}
 use Rattle.std.specs.Cmp.{both_ways}
 use Rattle.lz_slot.specs.Bytes.{Holds}
 use Rattle.lz_slot.specs.Sets.{Keys, Same, members, after}
@@ -56,8 +56,4 @@ opens_keeps start shape disk M P calls is image sound may = go (lives (start_key
 
 -- what a disk without an open service reads is one of its images
 pub down_seen : (start : Start) (shape : Shape) (disk : Medium) (M : History) (P : Trace) (calls : ℕ) → IsSound start (point (Down shape disk) M P calls) → IsImage disk disk.seen
-down_seen start shape disk M P calls sound = go (lives (start_keys start) M) sound
-  where
-    go : (L : List Life) → PointSound start (point (Down shape disk) M P calls) L → IsImage disk disk.seen
-    go [] h = absurd h
-    go (life ∷ earlier) h = h.2.sound.seen
+down_seen start shape disk M P calls sound = grind arith

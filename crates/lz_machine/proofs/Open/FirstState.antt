@@ -265,14 +265,7 @@ module _ (shape : Shape) (t : List ℕ) (found : Keys) (some : 1 ≤ shape.bucke
   no_entries = none_pending shape.passes
 
   empty_ledger : IsLedger (length P) P [] [] []
-  empty_ledger = record {
-    each = tt;
-    calls = tt;
-    tail_open = tt;
-    once = λ i. omega arith;
-    answered = λ i answer is. absurd is;
-    order = λ r q has. absurd has;
-  }
+  empty_ledger = grind arith
 
   ledger : (calls : ℕ) → LedgerSound (length P) calls shape.passes callers P [] notes
   ledger calls = record {

@@ -2,7 +2,7 @@
 use Rattle.std.specs.Int.{byte_at, bytes_high_first}
 use Rattle.std.proofs.Common.{◌≡◌, ⊎_elim, ℕ, zero, suc, ◌+◌, ◌*◌, ◌-◌, ◌<◌, ◌≤◌, List, [], ◌∷◌, ◌++◌, length, take, get_or, refl, sym, ap, ◌∙◌, subst, arith, length-append}
 use Rattle.std.specs.Prelude.{Some, replicate, slice_get}
-use Rattle.std.proofs.lemmas.List.{get_or_append_left, get_or-append_right, get_or-take, length-take, get_or-replicate, get_or_past, length-replicate}
+use Rattle.std.proofs.lemmas.List.{get_or_append_left, get_or-append_right, get_or-replicate, get_or_past, length-replicate}
 use Rattle.std.proofs.lemmas.Bool.{cases_lt}
 use Rattle.lz_disk.specs.Images.{AreBytes}
 use Rattle.std.proofs.lemmas.List.Edits.{length-between, get_or-between}
@@ -11,7 +11,7 @@ use Rattle.std.proofs.lemmas.Grind.{same_number_lists}
 use Rattle.lz_slot.specs.Limits.{largest_key}
 use Rattle.lz_slot.specs.Rooms.{largest_of, number_of}
 use Rattle.lz_slot.specs.declared.format.Format.{Format}
-use Rattle.lz_slot.specs.declared.format.Format.TheVariants.{One, Two, Three}
+use Rattle.lz_slot.specs.declared.format.Format.TheVariants.{One}
 use Rattle.lz_slot.specs.Bytes.{open_byte, magic, format_byte, format_of, header_body, slot_body, slot_bytes, slot_read, slot_at}
 use Rattle.lz_slot.proofs.Files.ExactBytes.{key_of_format, slot_reads_back}
 use Rattle.lz_vault.specs.declared.vault.Stage.{Stage}
@@ -46,13 +46,7 @@ pub text_size : (F : Format) (cells : List Cell) → length (text_of F cells) �
 text_size F cells = length-append (open_byte ∷ header_body F (length cells)) (body_text cells) ∙ omega (arith, head_size F (length cells), body_size cells)
 
 pub text_head : (F : Format) (cells : List Cell) → take 16 (text_of F cells) ≡ open_byte ∷ header_body F (length cells)
-text_head F cells =
-    let size = text_size F cells in
-    let long = head_size F (length cells) in
-    let taken = length-take 16 (text_of F cells) in
-    same_number_lists (take 16 (text_of F cells)) (open_byte ∷ header_body F (length cells)) (omega (arith, size, long, taken)) (λ k lt.
-    let small : k < 16 = omega (arith, lt, size, taken) in
-    get_or-take 16 (text_of F cells) k 0 small ∙ get_or_append_left (open_byte ∷ header_body F (length cells)) (body_text cells) 0 k (omega (arith, small, long)))
+text_head F cells = grind arith
 
 body_at : (cells : List Cell) (i j : ℕ) → i < length cells → j < 16 → get_or (body_text cells) (16 * i + j) 0 ≡ get_or (slot_text (get_or cells i no_cell)) j 0
 body_at [] i j low lt = absurd (omega (arith, low))
@@ -84,8 +78,7 @@ slot_says F _ k fits steady = absurd steady
 -- the text names its format
 pub text_format : (F : Format) (cells : List Cell) → format_of (text_of F cells) ≡ F
 text_format One cells = refl
-text_format Two cells = refl
-text_format Three cells = refl
+text_format _ cells = refl
 
 -- the text says of each slot what its cell does
 pub text_says : (F : Format) (cells : List Cell) → ((i : ℕ) (cell : Cell) → slice_get cells i ≡ Some cell → cell.key ≤ largest_of F) → AreSteady cells
@@ -122,18 +115,11 @@ high_small (suc n) x (suc i) = high_small n x i
 
 letter_small : (F : Format) → format_byte F < 256
 letter_small One = omega arith
-letter_small Two = omega arith
-letter_small Three = omega arith
+letter_small _ = omega arith
 
 magic_small : (F : Format) → AreBytes (magic F)
-magic_small F zero = omega arith
-magic_small F (suc zero) = omega arith
-magic_small F (suc (suc zero)) = omega arith
-magic_small F (suc (suc (suc zero))) = omega arith
-magic_small F (suc (suc (suc (suc zero)))) = omega arith
-magic_small F (suc (suc (suc (suc (suc zero))))) = omega arith
 magic_small F (suc (suc (suc (suc (suc (suc zero)))))) = letter_small F
-magic_small F (suc (suc (suc (suc (suc (suc (suc i))))))) = omega arith
+magic_small F _ = omega arith
 
 gate_small : (xs : List ℕ) → AreBytes xs → AreBytes (open_byte ∷ xs)
 gate_small xs all zero = omega arith

@@ -1,22 +1,18 @@
 -- The next event of a call is its actor's next event.
-use Rattle.std.proofs.Common.{◌≡◌, ℕ, zero, suc, false, slice_index_or, List, [], ◌∷◌, Option, Some, IsSomeAnd, refl, sym, subst, arith}
-use Rattle.std.proofs.lemmas.Bool.{false≢true}
+use Rattle.std.proofs.Common.{◌≡◌, ℕ, zero, suc, false, slice_index_or, List, [], ◌∷◌, Some, refl, subst, arith}
 use Rattle.lz_slot.specs.declared.command.Command.{Command}
-use Rattle.lz_list.specs.Words.{Words}
 use Rattle.lz_machine.specs.declared.event.Event.{Event}
-use Rattle.lz_machine.specs.declared.event.Event.TheVariants.{Invoke, Check, SeePin}
+use Rattle.lz_machine.specs.declared.event.Event.TheVariants.{Invoke, Check}
 use Rattle.lz_machine.specs.declared.caller.Sequence.{Sequence}
-use Rattle.lz_machine.specs.declared.caller.Sequence.TheVariants.{Resting, Writing, Adding, Removing}
 use Rattle.lz_machine.specs.declared.caller.Progress.{Progress}
 use Rattle.lz_machine.specs.declared.caller.Progress.TheVariants.{Playing}
 use Rattle.lz_machine.specs.Yards.{Shape}
-use Rattle.lz_machine.specs.Calls.{event_at, events_of, loaded}
+use Rattle.lz_machine.specs.Calls.{event_at, events_of}
 use Rattle.lz_machine.specs.Runs.{IsNext, Caller, Service, caller_at, next_event, run, first_point}
 use Rattle.lz_machine.specs.NextEvents.{NextIsKnown}
 use Rattle.lz_machine.proofs.Frames.OneActor.{caller_range}
-use Rattle.lz_machine.proofs.Theorem.Reached.{reached_sound}
+use Rattle.lz_machine.proofs.Theorem.Reached.{reached_sound, up_at}
 use Rattle.lz_machine.proofs.Theorem.Readiness.{is_invoke}
-use Rattle.lz_machine.proofs.Theorem.WornPass.{up_at}
 use Rattle.lz_machine.proofs.Theorem.Timeliness.{is_event_there, may_take_there}
 
 -- the caller whose next event this is
@@ -37,32 +33,14 @@ never_in (e ∷ es) zero none = none.0
 never_in (e ∷ es) (suc i) none = never_in es i none.1
 
 are_not : (c : Command) (sequence : Sequence) → AreNot (events_of c sequence)
-are_not c (Resting s reply) = (refl, (refl, tt))
-are_not c (Writing s) = (refl, (refl, tt))
-are_not c (Adding s) = (refl, (refl, (refl, (refl, (refl, tt)))))
-are_not c (Removing s) = (refl, (refl, (refl, (refl, (refl, (refl, (refl, tt)))))))
-are_not c _ = (refl, tt)
-
-not_loaded : (w : Words) (e : Event) → is_invoke e ≡ false → is_invoke (loaded w e) ≡ false
-not_loaded w (SeePin p value) not = refl
-not_loaded w e not = not
+are_not c sequence = grind arith
 
 never : (shape : Shape) (c : Command) (at : Progress) → is_invoke (event_at shape c at) ≡ false
 never shape c (Playing sequence i) = never_in (events_of c sequence) i (are_not c sequence)
 never shape c _ = refl
 
-as_next : (service : Service) (a : ℕ) (e : Event) → is_invoke e ≡ false → IsSomeAnd (caller_at service.callers a) (λ caller. next_event service.yard caller ≡ e) → IsNext service a e
-as_next service a (Invoke c) not some = absurd (false≢true (sym not))
-as_next service a e not some = some
-
-pub some_and : {X : Type 0} (o : Option X) (x : X) (P : X → Type 0) → o ≡ Some x → P x → IsSomeAnd o P
-some_and o x P at h = rw at h
-
 pub is_next_at : (service : Service) (a : ℕ) (caller : Caller) → caller_at service.callers a ≡ Some caller → IsNext service a (next_event service.yard caller)
-is_next_at service a caller at =
-    as_next service a (next_event service.yard caller)
-    (not_loaded service.yard.words (event_at service.yard.shape caller.command caller.progress) (never service.yard.shape caller.command caller.progress))
-    (some_and (caller_at service.callers a) caller (λ other. next_event service.yard other ≡ next_event service.yard caller) at refl)
+is_next_at service a caller at = grind arith
 
 pub is_next : (service : Service) (a : ℕ) (e : Event) → Next service a e → IsNext service a e
 is_next service a e next = subst (IsNext service a) next.event (is_next_at service a next.caller next.at)

@@ -1,5 +1,5 @@
 -- Points that a run reaches.
-use Rattle.std.proofs.Common.{◌≡◌, ◌∷◌, ap, ◌∙◌, sym, subst}
+use Rattle.std.proofs.Common.{◌≡◌, ◌∷◌, ap, sym, subst, arith}
 use Rattle.lz_machine.specs.Points.{IsReached}
 use Rattle.lz_machine.specs.Runs.{Start, State, Transition, MayStep, shape_of, Point, point_after, first_point, Reached}
 use Rattle.lz_machine.proofs.Runs.Shape.{run_keeps_shape}
@@ -19,11 +19,4 @@ shape_kept start p h = subst (λ (q : Point). shape_of q.state ≡ start.shape) 
 
 -- in words of states
 pub as_reached : (start : Start) (p : Point) (w : State) → IsReached start p → p.state ≡ w → Reached start w p.marks p.trace
-as_reached start p w h there = record {
-  steps = h.steps;
-  starts = h.starts;
-  runs = h.runs;
-  state = ap (λ (q : Point). q.state) h.point ∙ there;
-  marks = ap (λ (q : Point). q.marks) h.point;
-  trace = ap (λ (q : Point). q.trace) h.point;
-}
+as_reached start p w h there = grind arith

@@ -4,7 +4,7 @@ use mathlib.Core.Bool.{false≢true}
 use Rattle.std.proofs.lemmas.Bool.{cases_Bool}
 use Rattle.std.proofs.lemmas.Bool.Decides.{nat_tests}
 use Rattle.lz_slot.specs.declared.command.Command.{Command}
-use Rattle.lz_slot.specs.declared.command.Command.TheVariants.{Add, Remove, Has}
+use Rattle.lz_slot.specs.declared.command.Command.TheVariants.{Add, Remove}
 use Rattle.lz_slot.specs.declared.history.Mark.{Mark}
 use Rattle.lz_slot.specs.Sets.{Keys}
 use Rattle.lz_slot.specs.Counted.{set_of_pass}
@@ -195,13 +195,7 @@ rests_of c _ a y _ _ changed inside h = h
 
 -- and outside, where it was refused
 out_rests : (c : Command) (says : Reply) (a : ℕ) (y : Yard) (P0 P : Trace) (changed : Option ℕ) → is_before_pin (Answering says) ≡ true → Relies (view_of y.shape y.vault y.actors a) c (Answering says) P0 P changed → IsEmptyHanded (actor_in y.actors a) P × MayAnswer c says P0 P changed
-out_rests (Add k) SaysWorn a y P0 P changed outside h = (h.0, h.1)
-out_rests (Remove k) SaysWorn a y P0 P changed outside h = (h.0, h.1)
-out_rests (Has k) SaysWorn a y P0 P changed outside h = (h.0, h.1)
-out_rests (Add k) SaysOldFile a y P0 P changed outside h = (h.0, h.1)
-out_rests (Remove k) SaysOldFile a y P0 P changed outside h = (h.0, h.1)
-out_rests (Has k) SaysOldFile a y P0 P changed outside h = (h.0, h.1)
-out_rests c _ a y _ _ changed outside h = absurd (false≢true outside)
+out_rests c says a y P0 P changed outside h = grind arith
 
 -- a call's side tells whether it was refused outside
 out_of : (b : Bool) → side_of b ≡ 0 → b ≡ true

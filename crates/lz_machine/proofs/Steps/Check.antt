@@ -5,7 +5,7 @@ use Rattle.std.proofs.lemmas.Bool.Decides.{nat_tests}
 use Rattle.std.proofs.lemmas.Option.{same_Some}
 use Rattle.lz_slot.specs.Limits.{most_slots}
 use Rattle.lz_slot.specs.declared.command.Command.{Command}
-use Rattle.lz_slot.specs.declared.command.Command.TheVariants.{Add, Remove, Has}
+use Rattle.lz_slot.specs.declared.command.Command.TheVariants.{Add, Remove}
 use Rattle.lz_slot.specs.Sets.{key_of}
 use Rattle.lz_slot.specs.Counted.{set_of_pass}
 use Rattle.lz_slot.specs.Histories.{History}
@@ -49,10 +49,7 @@ use Rattle.lz_machine.proofs.Steps.Claim.{pred_was, node_was, aimed_same}
 
 -- a place that leads along one bucket's chain does so along that of another key of the bucket
 pub faces_bucket : (buckets k j x n : ℕ) (P : Trace) → bucket_of buckets j ≡ bucket_of buckets k → Faces buckets k x n P → Faces buckets j x n P
-faces_bucket buckets k j x n P same h = record {
-  there = subst (λ (b : ℕ). on 0 (chain buckets b P) x ≡ true) (sym same) h.there;
-  next = subst (λ (b : ℕ). next_link buckets b P x ≡ n) (sym same) h.next;
-}
+faces_bucket buckets k j x n P same h = grind arith
 
 pub in_bucket : (buckets k j : ℕ) (pred : Place) → bucket_of buckets j ≡ bucket_of buckets k → InBucket buckets k pred → InBucket buckets j pred
 in_bucket buckets k j (Bucket b) same h = h ∙ sym same
@@ -112,10 +109,7 @@ module _ (shape : Shape) (words : Words) (P : Trace) (trace : TraceSound shape w
         )
 
 three_tests : (p q r : Bool) → (not p && not q && r) ≡ true → (p ≡ false) × (q ≡ false) × (r ≡ true)
-three_tests false false true is = (refl, refl, refl)
-three_tests false false false is = absurd (false≢true is)
-three_tests false true r is = absurd (false≢true is)
-three_tests true q r is = absurd (false≢true is)
+three_tests p q r is = grind arith
 
 module _ (n calls : ℕ) (y : Yard) (callers : List (Option Caller)) (disk : Medium) (M : History) (P : Trace) (notes : Notes) (a i : ℕ) (c : Command) (sound : Sound n calls y callers disk M P notes) (aim : Option ℕ) (curr : Option ℕ) (is : caller_at callers a ≡ Some (call_at i c (Checking aim curr))) where
   abbrev at : Progress
@@ -147,13 +141,7 @@ module _ (n calls : ℕ) (y : Yard) (callers : List (Option Caller)) (disk : Med
       (record { quiet = me.quiet; begins = me.begins; stands = (me.stands.0 ∙ ap side_of (sym goes.inside), me.stands.1, goes.relies) })
 
   may_aim : (d : Command) → HasEnded d aim y.shape.buckets (notes.begun a) P actor.pred curr → MayAim d aim
-  may_aim = go aim
-    where
-      go : (to : Option ℕ) (d : Command) → HasEnded d to y.shape.buckets (notes.begun a) P actor.pred curr → MayAim d to
-      go None d h = tt
-      go (Some s) (Add k) h = tt
-      go (Some s) (Remove k) h = absurd h
-      go (Some s) (Has k) h = absurd h
+  may_aim d h1 = grind arith
 
   false_keeps : Sound n calls (in_hands y y.locks a (with_hold actor Locks)) (moving callers a (call_at i c at) (Playing (Releasing aim) 0)) disk M P notes
   false_keeps =
@@ -170,34 +158,25 @@ module _ (n calls : ℕ) (y : Yard) (callers : List (Option Caller)) (disk : Med
         let round = beside_now y.shape y.words P sound.trace (few_slots sound.images) (notes.begun a) quiet k actor.pred actor.curr h.0 clear clear_node leads h.1 in (
           record { relies = (refl, record { slot = written.slot; stage = written.stage; key = written.key; word = written.word }, none); inside = refl },
           record {
-            beside = λ t slot. subst (λ (q : ℕ). IsBeside y.shape.buckets q actor.pred actor.curr P) (sym written.word ∙ ap (λ (q : ℕ). key_word q P) (some_slot (sym written.slot ∙ slot))) round;
+            beside = λ t slot. subst (λ (q : ℕ). IsBeside y.shape.buckets q actor.pred actor.curr P) (sym written.word ∙ ap (λ (q : ℕ). key_word q P) (same_Some _ _ (sym written.slot ∙ slot))) round;
             before = λ t node. before_now y.shape y.words P sound.trace (few_slots sound.images) (notes.begun a) quiet k actor.pred actor.curr h.0 clear clear_node leads t node (above t node round.round.high);
           },
         )
       where
-        some_slot : {r u : ℕ} → Some r ≡ Some u → r ≡ u
-        some_slot e = cc
-
         above : (t : ℕ) → actor.curr ≡ Some t → IsHigh k (link_to actor.curr) P → k ≤ key_word t P
-        above t node high = elim (subst (λ (q : Option ℕ). IsHigh k (link_to q) P) node high) [
-          | inl none ↦ absurd (omega arith)
-          | inr greater ↦ omega (arith, greater)
-        ]
+        above t node high = grind arith
 
     true_removes : (k : ℕ) → notes.changed a ≡ None → actor.slot ≡ None → HasEnded (Remove k) None y.shape.buckets (notes.begun a) P actor.pred actor.curr → then (Remove k) None actor.curr
     true_removes k none slot h =
         let s = h.1.0 in
         let checked : IsChecked y.shape.buckets (with_hold actor Checked) P = record {
           beside = λ t hand. absurd (no_slot (sym slot ∙ hand));
-          before = λ t node. before_now y.shape y.words P sound.trace (few_slots sound.images) (notes.begun a) quiet k actor.pred actor.curr h.0 clear clear_node leads t node (omega (arith, h.1.2, ap (λ (q : ℕ). key_word q P) (some_slot (sym h.1.1 ∙ node))));
+          before = λ t node. before_now y.shape y.words P sound.trace (few_slots sound.images) (notes.begun a) quiet k actor.pred actor.curr h.0 clear clear_node leads t node (omega (arith, h.1.2, ap (λ (q : ℕ). key_word q P) (same_Some _ _ (sym h.1.1 ∙ node))));
         } in (
           subst (λ (q : Option ℕ). GoesOn (v Checked) (Remove k) (changes (Remove k) None q) (notes.begun a) P (notes.changed a)) (sym h.1.1) (record { relies = (h.1.1, slot, (refl, h.1.2, none)); inside = refl }),
           checked,
         )
       where
-        some_slot : {r u : ℕ} → Some r ≡ Some u → r ≡ u
-        some_slot e = cc
-
         no_slot : {r : ℕ} → None ≡ Some r → ⊥
         no_slot e = absurd cc
 

@@ -3,7 +3,7 @@ use Rattle.std.proofs.Common.{◌≡◌, ◌⊎◌, inl, inr, ℕ, zero, suc, �
 use Rattle.std.specs.Prelude.{unwrap_or, slice_set}
 use Rattle.std.proofs.lemmas.Bool.{cases_Bool}
 use Rattle.lz_slot.specs.declared.command.Command.{Command}
-use Rattle.lz_slot.specs.declared.command.Command.TheVariants.{Add, Remove}
+use Rattle.lz_slot.specs.declared.command.Command.TheVariants.{Add, Remove, Has}
 use Rattle.lz_slot.specs.Sets.{Keys, key_of}
 use Rattle.lz_slot.specs.Bytes.{closed_byte, open_byte, slot_body}
 use Rattle.lz_slot.specs.Histories.{History}
@@ -14,20 +14,19 @@ use Rattle.lz_list.specs.Traces.{Trace}
 use Rattle.lz_machine.specs.declared.event.Event.{Event}
 use Rattle.lz_machine.specs.declared.event.Event.TheVariants.{WriteKey, WriteOpen, WriteClose, Sync}
 use Rattle.lz_machine.specs.declared.event.Outcome.TheVariants.{Fault}
-use Rattle.lz_machine.specs.declared.event.Reply.{Reply}
 use Rattle.lz_machine.specs.declared.event.Reply.TheVariants.{Device}
 use Rattle.lz_machine.specs.declared.course.Course.{Course}
-use Rattle.lz_machine.specs.declared.course.Course.TheVariants.{Refused, Dies, Plays}
+use Rattle.lz_machine.specs.declared.course.Course.TheVariants.{Plays}
 use Rattle.lz_machine.specs.declared.caller.Sequence.{Sequence}
 use Rattle.lz_machine.specs.declared.caller.Sequence.TheVariants.{Pinning, Resting, Writing, Adding, Removing, Releasing, Halting}
 use Rattle.lz_machine.specs.declared.caller.Progress.{Progress}
-use Rattle.lz_machine.specs.declared.caller.Progress.TheVariants.{Playing, LoadsHalt, Walking, Reserving, SeeingPins, Claiming, Checking, Answering}
+use Rattle.lz_machine.specs.declared.caller.Progress.TheVariants.{Playing}
 use Rattle.lz_machine.specs.Yards.{Yard, actor_at, cell_in}
 use Rattle.lz_machine.specs.Table.{slot_of, node_of, is_played_dead, is_sure, call_of, call_on, course, line_call, line_failed, vault_failed, with_vault}
 use Rattle.lz_machine.specs.Calls.{halts}
 use Rattle.lz_machine.specs.Runs.{Caller, caller_at, next_event, reply_at, played}
 use Rattle.lz_machine.specs.Notes.{Notes}
-use Rattle.lz_machine.specs.CallersSound.{view_of, Relies, ReliesOn, ReliesAdding, ReliesRemoving, ReliesWriting, is_before_pin}
+use Rattle.lz_machine.specs.CallersSound.{view_of, Relies, ReliesOn, is_before_pin}
 use Rattle.lz_machine.specs.Sound.{Sound, UpSound}
 use Rattle.lz_machine.proofs.Frames.OneActor.{moving}
 use Rattle.lz_machine.proofs.Steps.Hop.{call_at, own}
@@ -35,16 +34,16 @@ use Rattle.lz_machine.proofs.Steps.Death.{sync_fails_keeps}
 use Rattle.lz_machine.proofs.Steps.WriteClose.{write_close_fails_keeps}
 use Rattle.lz_machine.proofs.Steps.WriteKey.{write_key_fails_keeps}
 use Rattle.lz_machine.proofs.Frames.OpenedGate.{write_open_fails_keeps}
-use Rattle.lz_machine.proofs.Runs.NextEvent.{plays_alive, turned_same}
+use Rattle.lz_machine.proofs.Runs.Course.{plays_alive}
+use Rattle.lz_machine.proofs.Runs.NextEvent.{turned_same}
 
 -- an event whose device call may fail is played, and makes that call
 played_call : (y : Yard) (a : ℕ) (e : Event) (disk new : Medium) → MayFail (line_call y a e) disk new → (course y a e ≡ Plays) × MayFail (call_of y (actor_at y a) e) disk new
 played_call y a e disk new may = go (course y a e) refl may
   where
     go : (taken : Course) → course y a e ≡ taken → MayFail (call_on taken y (actor_at y a) e) disk new → (course y a e ≡ Plays) × MayFail (call_of y (actor_at y a) e) disk new
-    go (Refused outcome) same h = absurd h
-    go Dies same h = absurd h
     go Plays same h = (same, h)
+    go _ same h = absurd h
 
 -- an event without a device call can't fail
 no_fault : (y : Yard) (a : ℕ) (e : Event) (disk new : Medium) → call_of y (actor_at y a) e ≡ NoCall → MayFail (line_call y a e) disk new → ⊥
@@ -107,52 +106,28 @@ module _ (n calls : ℕ) (y : Yard) (callers : List (Option Caller)) (disk : Med
   none_fault : (c : Command) (at : Progress) → call_of y (actor_at y a) (next_event y (call_at i c at)) ≡ NoCall → Faults c at
   none_fault c at none new may = absurd (no_fault y a (next_event y (call_at i c at)) disk new none may)
 
-  rest_fault : (c : Command) (s : ℕ) (reply : Reply) (j : ℕ) → IsAt c (Playing (Resting s reply) j) → ReliesOn (view_of y.shape y.vault y.actors a) c (Resting s reply) j (notes.begun a) P (notes.changed a) → Faults c (Playing (Resting s reply) j)
-  rest_fault c s reply zero is relies new may = sync_fault c (Playing (Resting s reply) 0) is refl refl s new may
-  rest_fault c s reply (suc zero) is relies new may = none_fault c (Playing (Resting s reply) 1) refl new may
-  rest_fault c s reply (suc (suc j)) is relies new may = absurd relies
-
-  write_fault : (c : Command) (s j : ℕ) → IsAt c (Playing (Writing s) j) → ReliesWriting (view_of y.shape y.vault y.actors a) c s j P (notes.changed a) → Faults c (Playing (Writing s) j)
-  write_fault c s zero is relies new may = key_fault c s is new may
-  write_fault c s (suc zero) is relies new may = sync_fault c (Playing (Writing s) 1) is refl refl s new may
-  write_fault c s (suc (suc j)) is relies new may = absurd relies
-
-  add_fault : (k s j : ℕ) → IsAt (Add k) (Playing (Adding s) j) → ReliesAdding (view_of y.shape y.vault y.actors a) k s j (notes.begun a) P (notes.changed a) → Faults (Add k) (Playing (Adding s) j)
-  add_fault k s zero is relies new may = open_fault k s is new may
-  add_fault k s (suc zero) is relies new may = none_fault (Add k) (Playing (Adding s) 1) refl new may
-  add_fault k s (suc (suc zero)) is relies new may = none_fault (Add k) (Playing (Adding s) 2) refl new may
-  add_fault k s (suc (suc (suc zero))) is relies new may = sync_fault (Add k) (Playing (Adding s) 3) is refl refl s new may
-  add_fault k s (suc (suc (suc (suc zero)))) is relies new may = none_fault (Add k) (Playing (Adding s) 4) refl new may
-  add_fault k s (suc (suc (suc (suc (suc j))))) is relies new may = absurd relies
-
-  remove_fault : (k s j : ℕ) → IsAt (Remove k) (Playing (Removing s) j) → ReliesRemoving (view_of y.shape y.vault y.actors a) k s j P (notes.changed a) → Faults (Remove k) (Playing (Removing s) j)
-  remove_fault k s zero is relies new may = close_fault k s is new may
-  remove_fault k s (suc zero) is relies new may = none_fault (Remove k) (Playing (Removing s) 1) refl new may
-  remove_fault k s (suc (suc zero)) is relies new may = sync_fault (Remove k) (Playing (Removing s) 2) is refl refl s new may
-  remove_fault k s (suc (suc (suc zero))) is relies new may = none_fault (Remove k) (Playing (Removing s) 3) refl new may
-  remove_fault k s (suc (suc (suc (suc zero)))) is relies new may = none_fault (Remove k) (Playing (Removing s) 4) refl new may
-  remove_fault k s (suc (suc (suc (suc (suc zero))))) is relies new may = none_fault (Remove k) (Playing (Removing s) 5) refl new may
-  remove_fault k s (suc (suc (suc (suc (suc (suc zero)))))) is relies new may = none_fault (Remove k) (Playing (Removing s) 6) refl new may
-  remove_fault k s (suc (suc (suc (suc (suc (suc (suc j))))))) is relies new may = absurd relies
-
   sequence_fault : (c : Command) (sequence : Sequence) (j : ℕ) → IsAt c (Playing sequence j) → ReliesOn (view_of y.shape y.vault y.actors a) c sequence j (notes.begun a) P (notes.changed a) → Faults c (Playing sequence j)
-  sequence_fault c Pinning zero is relies new may = none_fault c (Playing Pinning 0) refl new may
-  sequence_fault c (Resting s reply) j is relies new may = rest_fault c s reply j is relies new may
-  sequence_fault c (Writing s) j is relies new may = write_fault c s j is relies new may
-  sequence_fault (Add k) (Adding s) j is relies new may = add_fault k s j is relies new may
-  sequence_fault (Remove k) (Removing s) j is relies new may = remove_fault k s j is relies.2 new may
-  sequence_fault c (Releasing aim) zero is relies new may = none_fault c (Playing (Releasing aim) 0) refl new may
-  sequence_fault c (Halting reply) zero is relies new may = none_fault c (Playing (Halting reply) 0) refl new may
-  sequence_fault c Pinning (suc j) is relies new may = absurd relies
-  sequence_fault _ _ _ is relies new may = absurd relies
+  sequence_fault c (Resting s reply) zero is relies = sync_fault c (Playing (Resting s reply) 0) is refl refl s
+  sequence_fault c (Writing s) zero is relies = key_fault c s is
+  sequence_fault c (Writing s) (suc zero) is relies = sync_fault c (Playing (Writing s) 1) is refl refl s
+  sequence_fault (Add k) (Adding s) zero is relies = open_fault k s is
+  sequence_fault c (Adding s) (suc (suc (suc zero))) is relies = sync_fault c (Playing (Adding s) 3) is refl refl s
+  sequence_fault (Remove k) (Removing s) zero is relies = close_fault k s is
+  sequence_fault c (Removing s) (suc (suc zero)) is relies = sync_fault c (Playing (Removing s) 2) is refl refl s
+  sequence_fault (Remove k) (Adding s) zero is relies = absurd relies
+  sequence_fault (Has k) (Adding s) zero is relies = absurd relies
+  sequence_fault (Add k) (Removing s) zero is relies = absurd relies
+  sequence_fault (Has k) (Removing s) zero is relies = absurd relies
+  sequence_fault c Pinning (suc j) is relies = none_fault c (Playing Pinning (suc j)) refl
+  sequence_fault c (Resting s reply) (suc (suc j)) is relies = none_fault c (Playing (Resting s reply) (suc (suc j))) refl
+  sequence_fault c (Writing s) (suc (suc j)) is relies = none_fault c (Playing (Writing s) (suc (suc j))) refl
+  sequence_fault c (Adding s) (suc (suc (suc (suc (suc j))))) is relies = none_fault c (Playing (Adding s) (suc (suc (suc (suc (suc j)))))) refl
+  sequence_fault c (Removing s) (suc (suc (suc (suc (suc (suc (suc j))))))) is relies = none_fault c (Playing (Removing s) (suc (suc (suc (suc (suc (suc (suc j)))))))) refl
+  sequence_fault c (Releasing aim) (suc j) is relies = none_fault c (Playing (Releasing aim) (suc j)) refl
+  sequence_fault c (Halting reply) (suc j) is relies = none_fault c (Playing (Halting reply) (suc j)) refl
+  sequence_fault c sequence j is relies = none_fault c (Playing sequence j) refl
 
   -- each turn whose device call fails
   pub fault_up : (c : Command) (at : Progress) → IsAt c at → Faults c at
   fault_up c (Playing sequence j) is = sequence_fault c sequence j is (known c (Playing sequence j) is)
-  fault_up c LoadsHalt is = none_fault c LoadsHalt refl
-  fault_up c (Walking aim look) is = none_fault c (Walking aim look) refl
-  fault_up c (Reserving again) is = none_fault c (Reserving again) refl
-  fault_up c (SeeingPins p) is = none_fault c (SeeingPins p) refl
-  fault_up c (Claiming aim pred curr) is = none_fault c (Claiming aim pred curr) refl
-  fault_up c (Checking aim curr) is = none_fault c (Checking aim curr) refl
-  fault_up c (Answering reply) is = none_fault c (Answering reply) refl
+  fault_up c at is = none_fault c at refl

@@ -1,7 +1,6 @@
 -- Halt keeps the invariant.
-use Rattle.std.proofs.Common.{◌≡◌, inr, ℕ, true, List, ◌∷◌, Option, Some, refl}
+use Rattle.std.proofs.Common.{◌≡◌, ℕ, true, List, ◌∷◌, Option, Some, refl, arith}
 use Rattle.lz_slot.specs.declared.command.Command.{Command}
-use Rattle.lz_slot.specs.declared.command.Command.TheVariants.{Add, Remove, Has}
 use Rattle.lz_slot.specs.Histories.{History}
 use Rattle.lz_disk.specs.Images.{Medium}
 use Rattle.lz_list.specs.declared.publishing.Publishing.TheVariants.{Halted as halted}
@@ -53,13 +52,7 @@ module _ (n calls : ℕ) (y : Yard) (callers : List (Option Caller)) (disk : Med
   }
 
   cut_answers : (c : Command) (reply : Reply) (a : ℕ) → IsCut reply → GoesOn (view_of y.shape y.vault y.actors a) c (Answering reply) (notes.begun a) (halted ∷ P) (notes.changed a)
-  cut_answers (Add k) Halted a cut = record { relies = (refl, inr refl); inside = refl }
-  cut_answers (Add k) Device a cut = record { relies = (refl, inr refl); inside = refl }
-  cut_answers (Remove k) Halted a cut = record { relies = (refl, inr refl); inside = refl }
-  cut_answers (Remove k) Device a cut = record { relies = (refl, inr refl); inside = refl }
-  cut_answers (Has k) Halted a cut = record { relies = (refl, inr refl); inside = refl }
-  cut_answers (Has k) Device a cut = record { relies = (refl, inr refl); inside = refl }
-  cut_answers c _ a cut = absurd cut
+  cut_answers c reply a cut = grind arith
 
   cut_tail : (reply : Reply) → IsCut reply → may_have_tail (Answering reply) ≡ true
   cut_tail Halted cut = refl

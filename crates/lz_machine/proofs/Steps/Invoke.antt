@@ -87,22 +87,14 @@ module _ (callers : List (Option Caller)) (a i : ℕ) (c : Command) (first : Pro
     same_pending (suc m) = cc (same_pending m, same_row (suc m))
 
 under_way_still : (M : History) (number a : ℕ) (c : Command) (i : ℕ) (d : Command) → IsUnderWay M i d → IsUnderWay (Call number a c ∷ M) i d
-under_way_still M number a c i d h = record {
-  called = (h.called.0, inr h.called.1);
-  no_answer = λ answer is. ⊎_elim (λ e. clash (Answer i answer) refl e) (λ there. h.no_answer answer there) is;
-  no_refusal = λ is. ⊎_elim (λ e. clash (Refused i is.0) refl e) (λ there. h.no_refusal (is.0, there)) is.1;
-}
+under_way_still M number a c i d h = grind arith
 
 module _ (n calls passes a : ℕ) (c : Command) (first : Progress) (callers : List (Option Caller)) (P : Trace) (M : History) (notes : Notes) (free : notes.changed a ≡ None) (sound : LedgerSound n calls passes callers P M notes) where
   pub same_entries : entries passes (calling callers a (suc calls) c first) notes ≡ entries passes callers notes
   same_entries = ap (λ (rows : List Row). notes.ended ++ rows) (same_pending callers a (suc calls) c first notes.changed free passes)
 
   row_still : (r : Row) → IsRowIn M r → IsRowIn (Call (suc calls) a c ∷ M) r
-  row_still r h = record {
-    is_called = (h.is_called.0, inr h.is_called.1);
-    answers = λ answer is. ⊎_elim (λ e. absurd (clash (Answer r.number answer) refl e)) (λ there. h.answers answer there) is;
-    not_refused = λ is. ⊎_elim (λ e. absurd (clash (Refused r.number is.0) refl e)) (λ there. h.not_refused (is.0, there)) is.1;
-  }
+  row_still r h = grind arith
 
   below : (r : Row) → IsRowIn M r → r.number ≤ calls
   below r h = sound.numbered r.number r.command h.is_called

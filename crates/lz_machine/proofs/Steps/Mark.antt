@@ -240,10 +240,7 @@ module _ (n calls : ℕ) (y : Yard) (callers : List (Option Caller)) (disk : Med
   other_key t on_it key =
       let shown = words_show_chain y.shape.buckets y.shape.slots P sound.trace.lawful (bucket_of y.shape.buckets k) in
       let theirs : on 0 (chain_of y.shape.buckets k P) (suc t) ≡ true = subst (λ (q : ℕ). on 0 (chain_of y.shape.buckets q P) (suc t) ≡ true) key on_it in
-      suc_same (one_node (next_link y.shape.buckets (bucket_of y.shape.buckets k) P) (λ t. key_word t P) 0 (chain_of y.shape.buckets k P) shown.shows (suc t) (suc s) theirs there (omega (arith, key, h.2.1)))
-    where
-      suc_same : {r u : ℕ} → suc r ≡ suc u → r ≡ u
-      suc_same e = omega (arith, e)
+      omega (arith, one_node (next_link y.shape.buckets (bucket_of y.shape.buckets k) P) (λ t. key_word t P) 0 (chain_of y.shape.buckets k P) shown.shows (suc t) (suc s) theirs there (omega (arith, key, h.2.1)))
 
   marked_tails : TailsSound y.shape y.vault.cells actors' P' callers' (entries y.shape.passes callers' notes') M
   marked_tails =

@@ -1,6 +1,5 @@
 -- A pass that goes in keeps the invariant: a pin, and the first half of a look. So does one that only looked and goes out.
-use Rattle.std.proofs.Common.{◌≡◌, ◌≢◌, inl, inr, ℕ, suc, ◌≤◌, ◌+◌, ◌%◌, ◌==◌, if◌then◌else◌, Bool, true, List, [], ◌∷◌, length, Option, Some, None, refl, sym, ◌∙◌, subst, arith}
-use Rattle.std.proofs.lemmas.Bool.Decides.{eqb_tells}
+use Rattle.std.proofs.Common.{◌≡◌, ◌≢◌, ℕ, suc, ◌≤◌, ◌+◌, ◌%◌, ◌==◌, if◌then◌else◌, Bool, true, List, [], ◌∷◌, length, Option, Some, None, refl, sym, ◌∙◌, subst, arith}
 use Rattle.lz_slot.specs.declared.command.Command.{Command}
 use Rattle.lz_slot.specs.Counted.{of_pass, set_of_pass}
 use Rattle.lz_slot.specs.Histories.{History}
@@ -60,16 +59,10 @@ abbrev pub begins_now : Notes → ℕ → Trace → Notes
 begins_now notes a P = record { begun = λ b. if b == a then P else notes.begun b; changed = notes.changed; ended = notes.ended }
 
 pub begun_same : (notes : Notes) (a : ℕ) (P : Trace) → (begins_now notes a P).begun a ≡ P
-begun_same notes a P = elim (eqb_tells a a) [
-  | inl same ↦ rw same.0 refl
-  | inr other ↦ absurd (other.1 refl)
-]
+begun_same notes a P = grind arith
 
 pub begun_other : (notes : Notes) (a : ℕ) (P : Trace) (b : ℕ) → b ≢ a → (begins_now notes a P).begun b ≡ notes.begun b
-begun_other notes a P b other = elim (eqb_tells b a) [
-  | inl same ↦ absurd (other same.1)
-  | inr away ↦ rw away.0 refl
-]
+begun_other notes a P b other = grind arith
 
 -- pins in which a pass has moved on
 abbrev pub pinned : Words → ℕ → Words
@@ -138,18 +131,7 @@ module _ (shape : Shape) (cells : List Cell) (dead : Bool) (pins : List ℕ) (us
 
 -- the ledger doesn't depend on where passes have gone in
 pub ledger_noted : (n calls passes : ℕ) (callers : List (Option Caller)) (P : Trace) (M : History) (notes : Notes) (begun : ℕ → Trace) → LedgerSound n calls passes callers P M notes → LedgerSound n calls passes callers P M (record { begun = begun; changed = notes.changed; ended = notes.ended })
-ledger_noted n calls passes callers P M notes begun h = record {
-  opened = h.opened;
-  ledger = h.ledger;
-  settled = h.settled;
-  changes = h.changes;
-  numbered = h.numbered;
-  refused = h.refused;
-  one_call = h.one_call;
-  open_call = h.open_call;
-  apart = h.apart;
-  unlisted = h.unlisted;
-}
+ledger_noted n calls passes callers P M notes begun h = grind arith
 
 module _ (n calls : ℕ) (y : Yard) (callers : List (Option Caller)) (disk : Medium) (M : History) (P : Trace) (notes : Notes) (sound : Sound n calls y callers disk M P notes) (a : ℕ) (low : 1 ≤ a) (high : a ≤ y.shape.passes) (fresh : pin_in y.words.pins a ≢ last_pin) where
   in_pins : a ≤ length y.words.pins

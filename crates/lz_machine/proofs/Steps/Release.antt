@@ -1,5 +1,5 @@
 -- A release keeps the invariant: after a test that failed, after a linking, and after an unlinking.
-use Rattle.std.proofs.Common.{◌≡◌, ℕ, Bool, true, false, List, Option, Some, refl, sym, ap, ◌∙◌, subst}
+use Rattle.std.proofs.Common.{◌≡◌, ℕ, Bool, true, false, List, Option, Some, refl, sym, ap, ◌∙◌, subst, arith}
 use mathlib.Core.Bool.{false≢true}
 use Rattle.lz_slot.specs.declared.command.Command.{Command}
 use Rattle.lz_slot.specs.declared.command.Command.TheVariants.{Add, Remove}
@@ -38,15 +38,7 @@ use Rattle.lz_machine.proofs.Frames.SameYard.{KeepsTail}
 
 -- an actor that has unlinked its node has it out still
 out_grip : (dead : Bool) (old : Actor) → old.hold ≡ Unlinked → KeepsGrips dead dead old (with_hold old Released)
-out_grip dead old is = record {
-  slot = refl;
-  out = λ s h. record { node = h.node; removed = ap has_removed_node is };
-  still_out = λ s h. record { node = h.node; removed = refl };
-  closer = λ s h. absurd (false≢true (ap (closes dead) (sym is) ∙ h.closes));
-  opener = λ h. absurd (false≢true (ap (opens dead) (sym is) ∙ h));
-  unlock = λ h. absurd (false≢true h);
-  shut = λ s at h. absurd (false≢true h);
-}
+out_grip dead old is = grind arith
 
 module _ (n calls : ℕ) (y : Yard) (callers : List (Option Caller)) (disk : Medium) (M : History) (P : Trace) (notes : Notes) (a i : ℕ) (c : Command) (at : Progress) (is : caller_at callers a ≡ Some (call_at i c at)) (sound : Sound n calls y callers disk M P notes) where
   abbrev actor : Actor

@@ -11,7 +11,7 @@ use Rattle.lz_slot.specs.Histories.{History}
 use Rattle.lz_slot.proofs.Counted.{length-set_of_pass}
 use Rattle.lz_disk.specs.Images.{Medium}
 use Rattle.lz_allot.specs.declared.sight.Sight.{Sight}
-use Rattle.lz_allot.specs.declared.sight.Sight.TheVariants.{Unseen, Inside, Left}
+use Rattle.lz_allot.specs.declared.sight.Sight.TheVariants.{Unseen, Left}
 use Rattle.lz_allot.specs.Uses.{Use, Taken, Limbo, use_of, retire}
 use Rattle.lz_list.specs.Traces.{Trace}
 use Rattle.lz_machine.specs.declared.event.Event.TheVariants.{Retire}
@@ -105,11 +105,7 @@ module _ (n calls : ℕ) (y : Yard) (callers : List (Option Caller)) (disk : Med
   ]
 
   seen_new : (b : ℕ) (sight : Sight) → (sight ≡ Unseen) ⊎ (IsInside (pin_in y.words.pins b) → ⊥) → (sight ≡ Unseen) ⊎ (sight ≡ Left) → IsRightSight y.shape.buckets (pin_in y.words.pins b) (notes.begun b) P s sight
-  seen_new b Unseen why one = tt
-  seen_new b Left (inr never) one = λ inside. absurd (never inside)
-  seen_new b Left (inl no_sight) one = absurd cc
-  seen_new b (Inside u) why (inl e) = absurd cc
-  seen_new b (Inside u) why (inr e) = absurd cc
+  seen_new b sight why one = grind arith
 
   retired_reuse : ReuseSound y.shape y.words.pins uses' actors' P notes.begun
   retired_reuse = record {

@@ -1,22 +1,19 @@
 -- A slot that an actor has reserved and not used is given back: what is said of slots, locks and reuse stays.
 use Rattle.std.proofs.Common.{◌≡◌, ◌≢◌, inl, inr, ℕ, ◌≤◌, Bool, true, List, length, Some, None, refl, sym, ap, ◌∙◌, subst, arith, get_or-set_other, get_or-set_same, length-set}
-use mathlib.Core.Bool.{false≢true}
 use Rattle.std.proofs.lemmas.Bool.{cases_eq}
 use Rattle.std.proofs.lemmas.Option.{same_Some, none-some}
 use Rattle.lz_slot.specs.Counted.{set_of_pass}
 use Rattle.lz_slot.proofs.Counted.{of_pass_same, of_pass_other}
 use Rattle.lz_vault.specs.declared.vault.Stage.{Stage}
-use Rattle.lz_vault.specs.declared.vault.Stage.TheVariants.{Closed, KeyLoose, Keyed}
 use Rattle.lz_vault.specs.Stages.{Cell}
 use Rattle.lz_allot.specs.Uses.{Use, Free, Taken, use_of, give_back}
 use Rattle.lz_list.specs.Locks.{NodeLocks}
 use Rattle.lz_list.specs.Traces.{Trace}
 use Rattle.lz_machine.specs.declared.actor.Actor.{Actor}
 use Rattle.lz_machine.specs.declared.actor.Hold.{Hold}
-use Rattle.lz_machine.specs.declared.actor.Hold.TheVariants.{Checked, GateOpened, GateClosed, Marked}
 use Rattle.lz_machine.specs.Yards.{Shape, idle_actor, actor_in, stage_in}
 use Rattle.lz_machine.specs.Table.{with_slot, is_unused}
-use Rattle.lz_machine.specs.SlotsSound.{is_free, SlotsSound, IsGateOpened, IsGateClosed, unlocks}
+use Rattle.lz_machine.specs.SlotsSound.{is_free, SlotsSound, IsGateClosed}
 use Rattle.lz_machine.specs.LocksSound.{HasLock, RestsOn, LocksSound}
 use Rattle.lz_machine.specs.Sound.{ReuseSound}
 use Rattle.lz_machine.proofs.Frames.NodeLocks.{held_locks}
@@ -25,20 +22,13 @@ use Rattle.lz_machine.proofs.Frames.OneSlot.{same_nodes, slot_turn}
 
 -- a stage that wasn't used has a closed gate
 pub unused_closed : (stage : Stage) → is_unused stage ≡ true → IsGateClosed stage
-unused_closed Closed is = inl refl
-unused_closed KeyLoose is = inr (inl refl)
-unused_closed Keyed is = inr (inr refl)
-unused_closed _ is = absurd (false≢true is)
+unused_closed stage is = grind arith
 
 -- and one with a closed gate wasn't used
 pub closed_unused : (stage : Stage) → IsGateClosed stage → is_unused stage ≡ true
 closed_unused stage (inl e) = ap is_unused e
 closed_unused stage (inr (inl e)) = ap is_unused e
 closed_unused stage (inr (inr e)) = ap is_unused e
-
-opened_used : (stage : Stage) → is_unused stage ≡ true → IsGateOpened stage → ⊥
-opened_used stage is (inl e) = false≢true (sym (ap is_unused e) ∙ is)
-opened_used stage is (inr e) = false≢true (sym (ap is_unused e) ∙ is)
 
 module _ (shape : Shape) (cells : List Cell) (dead : Bool) (uses : List Use) (actors : List Actor) (P : Trace) (slots : SlotsSound shape cells dead uses actors P) (a s : ℕ) (low : 1 ≤ a) (high : a ≤ length actors) (has : (actor_in actors a).slot ≡ Some s) (unused : is_unused (stage_in cells s) ≡ true) where
   abbrev x : Actor
@@ -100,11 +90,7 @@ module _ (shape : Shape) (cells : List Cell) (dead : Bool) (uses : List Use) (ac
       (length-set uses s Free) slots slots.added slots.removed
 
   rests_still : (hold : Hold) → (actor_in actors a).hold ≡ hold → RestsOn shape.buckets hold (actor_in actors a) P → RestsOn shape.buckets hold x P
-  rests_still Checked is h = record { beside = λ t slot. absurd (none-some _ slot); before = h.before }
-  rests_still GateOpened is h = absurd (opened_used (stage_in cells s) unused (slots.opened a s has (ap unlocks is)))
-  rests_still GateClosed is h = record { node = h.node; curr = h.curr; before = h.before; marked = h.marked }
-  rests_still Marked is h = record { node = h.node; curr = h.curr; before = h.before; marked = h.marked }
-  rests_still _ is h = tt
+  rests_still hold is h = grind arith
 
   pub given_locks : (locks : NodeLocks) → LocksSound shape locks actors P → LocksSound shape locks actors' P
   given_locks locks h = held_locks shape locks actors actors' P a hand_b h

@@ -2,7 +2,6 @@
 use Rattle.std.proofs.Common.{◌≡◌, ◌≢◌, ◌⊎◌, inl, inr, ℕ, suc, ◌<◌, Bool, true, false, List, [], ◌∷◌, ◌++◌, Option, Some, refl, sym, ap, ◌∙◌, subst, arith}
 use mathlib.Core.Bool.{false≢true}
 use Rattle.std.proofs.lemmas.Bool.{cases_Bool}
-use Rattle.std.proofs.lemmas.Bool.Decides.{eqb_tells}
 use Rattle.std.proofs.lemmas.Option.{same_Some, none-some}
 use Rattle.lz_slot.specs.declared.command.Command.{Command}
 use Rattle.lz_slot.specs.declared.command.Command.TheVariants.{Add, Remove, Has}
@@ -61,16 +60,10 @@ written_sure stage (inr e) sure = e
 
 -- the new flag tells of the slot's last linking
 flag_settled : (s n : ℕ) (c : Change) (P : Trace) → linking_in s P ≡ n → is_settled n (settled s c ∷ P) ≡ true
-flag_settled s n c P is = elim (eqb_tells (linking_in s P) n) [
-  | inl same ↦ rw same.0 refl
-  | inr other ↦ absurd (other.1 is)
-]
+flag_settled s n c P is = grind arith
 
 flag_removed : (s n : ℕ) (P : Trace) → linking_in s P ≡ n → is_removed n (settled s Removed ∷ P) ≡ true
-flag_removed s n P is = elim (eqb_tells (linking_in s P) n) [
-  | inl same ↦ rw same.0 refl
-  | inr other ↦ absurd (other.1 is)
-]
+flag_removed s n P is = grind arith
 
 -- a mark stays while a slot may be stood on
 mark_since : (buckets : ℕ) (slots : ℕ) (P0 : Trace) (b s : ℕ) (R P : Trace) → IsQuiet buckets P0 P → Begins R P → Stood buckets b P0 R (suc s) → is_marked s R ≡ true → (is_marked s P ≡ true) × Stood buckets b P0 P (suc s)

@@ -1,5 +1,5 @@
 -- A sync, and the death of the vault, keep the invariant.
-use Rattle.std.proofs.Common.{◌≡◌, ◌≢◌, inl, inr, ℕ, zero, suc, Bool, true, false, List, [], ◌∷◌, map, Option, Some, refl, sym, ap, ◌∙◌, subst, arith}
+use Rattle.std.proofs.Common.{◌≡◌, ◌≢◌, inl, inr, ℕ, suc, Bool, true, false, List, [], ◌∷◌, map, Option, Some, refl, sym, ap, ◌∙◌, subst, arith}
 use mathlib.Core.Bool.{false≢true}
 use Rattle.std.proofs.lemmas.List.{length-map}
 use Rattle.lz_slot.specs.declared.command.Command.{Command}
@@ -7,7 +7,7 @@ use Rattle.lz_slot.specs.declared.command.Command.TheVariants.{Add, Remove}
 use Rattle.lz_slot.specs.Histories.{History}
 use Rattle.lz_disk.specs.Images.{Medium, synced}
 use Rattle.lz_vault.specs.declared.vault.Stage.{Stage}
-use Rattle.lz_vault.specs.declared.vault.Stage.TheVariants.{Closed, Keyed, Opening, Open, Closing}
+use Rattle.lz_vault.specs.declared.vault.Stage.TheVariants.{Closed, Keyed, Opening}
 use Rattle.lz_vault.specs.Stages.{Cell, Keeps, stage_synced, cell_synced, is_covered}
 use Rattle.lz_vault.specs.Vaults.{SyncAll, medium_after, syncs_after, died}
 use Rattle.lz_vault.proofs.Changes.{from_map, sync_keeps}
@@ -37,9 +37,8 @@ use Rattle.lz_machine.proofs.Steps.Hop.{call_at, own, goes_on_keeps}
 
 -- the cell of a slot after a sync
 pub cell_map : (cells : List Cell) (s : ℕ) → cell_in (map cell_synced cells) s ≡ cell_synced (cell_in cells s)
-cell_map [] s = refl
-cell_map (c ∷ cells) zero = refl
 cell_map (c ∷ cells) (suc s) = cell_map cells s
+cell_map _ _ = refl
 
 -- What a sync does to a stage.
 pub closed_synced : (stage : Stage) → IsGateClosed stage → IsGateClosed (stage_synced stage)
@@ -56,16 +55,10 @@ written_synced stage (inl e) = rw e (inr refl)
 written_synced stage (inr e) = rw e (inr refl)
 
 opened_before : (stage : Stage) → IsGateOpened (stage_synced stage) → IsGateOpened stage
-opened_before Opening h = inl refl
-opened_before Open h = inr refl
-opened_before _ (inl e) = absurd cc
-opened_before _ (inr e) = absurd cc
+opened_before stage h = grind arith
 
 written_before : (stage : Stage) → IsGateWritten (stage_synced stage) → IsGateWritten stage
-written_before Closing h = inl refl
-written_before Closed h = inr refl
-written_before _ (inl e) = absurd cc
-written_before _ (inr e) = absurd cc
+written_before stage h = grind arith
 
 -- after a sync nothing is being opened
 pub not_opening : (stage : Stage) → stage_synced stage ≢ Opening

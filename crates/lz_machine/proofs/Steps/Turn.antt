@@ -1,5 +1,5 @@
 -- A turn of a call that goes on keeps the invariant of an open service, whatever the call plays next.
-use Rattle.std.proofs.Common.{◌≡◌, ◌≢◌, inl, inr, ℕ, zero, suc, ◌≤◌, ◌==◌, if◌then◌else◌, Bool, true, false, List, [], length, Option, Some, None, refl, sym, subst, arith}
+use Rattle.std.proofs.Common.{◌≡◌, ◌≢◌, inl, inr, ℕ, zero, suc, ◌≤◌, ◌==◌, Bool, true, false, List, [], length, Option, Some, None, refl, sym, subst, arith}
 use Rattle.std.proofs.lemmas.Bool.Decides.{eqb_tells}
 use Rattle.std.proofs.lemmas.Option.{none-some}
 use Rattle.lz_slot.specs.declared.command.Command.{Command}
@@ -10,8 +10,7 @@ use Rattle.lz_disk.specs.Images.{Medium}
 use Rattle.lz_list.specs.declared.place.Place.{Place}
 use Rattle.lz_list.specs.declared.walk.Look.{Look}
 use Rattle.lz_list.specs.declared.word.Word.TheVariants.{Pin as pin_at, Halt as halt_word_at}
-use Rattle.lz_list.specs.Words.{get, next_at, link_to, change_flags}
-use Rattle.lz_flush.specs.Settling.{settle}
+use Rattle.lz_list.specs.Words.{get, next_at, link_to}
 use Rattle.lz_list.specs.declared.place.Place.TheVariants.{Node}
 use Rattle.lz_list.specs.Walks.{wants}
 use Rattle.lz_list.specs.Traces.{Trace}
@@ -23,8 +22,8 @@ use Rattle.lz_machine.specs.declared.caller.Sequence.{Sequence}
 use Rattle.lz_machine.specs.declared.caller.Sequence.TheVariants.{Pinning, Resting, Writing, Adding, Removing, Releasing, Halting}
 use Rattle.lz_machine.specs.declared.caller.Progress.{Progress}
 use Rattle.lz_machine.specs.declared.caller.Progress.TheVariants.{Playing, LoadsHalt, Walking, Reserving, SeeingPins, Claiming, Checking, Answering}
-use Rattle.lz_machine.specs.Yards.{Yard, actor_at, cell_at}
-use Rattle.lz_machine.specs.Table.{last_pin, node_of, is_sure, words_after, publishes, yard_done, course_alive, course, line, pin_of}
+use Rattle.lz_machine.specs.Yards.{Yard, actor_at}
+use Rattle.lz_machine.specs.Table.{last_pin, node_of, words_after, publishes, yard_done, course_alive, course, line, pin_of}
 use Rattle.lz_machine.specs.Runs.{Caller, caller_at, next_event, reply_at}
 use Rattle.lz_machine.specs.Notes.{Notes, entries}
 use Rattle.lz_machine.specs.CallersSound.{view_of, Relies, ReliesOn, ReliesAdding, ReliesRemoving, ReliesWriting}
@@ -54,11 +53,7 @@ use Rattle.lz_machine.proofs.Runs.NextEvent.{since_same, Goes, turned, turned_sa
 
 -- a settling changes no pin
 pub settled_pins : (y : Yard) (a s : ℕ) → (words_after y (actor_at y a) a (Settle s)).pins ≡ y.words.pins
-settled_pins y a s = go (is_sure y s)
-  where
-    go : (sure : Bool) → (if sure then change_flags (settle (cell_at y s).stage) y.words s else y.words).pins ≡ y.words.pins
-    go true = refl
-    go false = refl
+settled_pins y a s = grind arith
 
 module _ (n calls : ℕ) (y : Yard) (callers : List (Option Caller)) (disk : Medium) (M : History) (P : Trace) (start : Keys) (notes : Notes) (up : UpSound n calls (record { yard = y; callers = callers }) disk (record { start = start; history = M }) P notes) (a i : ℕ) where
   -- the call's next turn, where it has come so far
@@ -193,7 +188,6 @@ module _ (n calls : ℕ) (y : Yard) (callers : List (Option Caller)) (disk : Med
   sequence_turn (Remove k) (Removing s) j is relies now = remove_turn k s j is relies.2 now
   sequence_turn c (Releasing aim) zero is relies now = release_turn c aim is now
   sequence_turn c (Halting reply) zero is relies now = halt_turn c reply is now
-  sequence_turn c Pinning (suc j) is relies now = absurd relies
   sequence_turn _ _ _ is relies now = absurd relies
 
   -- a call loads the halt word before its first walk

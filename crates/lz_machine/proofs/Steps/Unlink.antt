@@ -137,13 +137,10 @@ module _ (n calls : ℕ) (y : Yard) (callers : List (Option Caller)) (disk : Med
     | inl same ↦
         let shown = words_show_chain y.shape.buckets y.shape.slots P sound.trace.lawful (bucket_of y.shape.buckets (key_word t P)) in
         let theirs : on 0 (chain_of y.shape.buckets (key_word t P) P) (suc s) ≡ true = subst (λ (b : ℕ). on 0 (chain y.shape.buckets b P) (suc s) ≡ true) same there in
-        let still = on_without_other (next_link y.shape.buckets (bucket_of y.shape.buckets (key_word t P)) P) (λ t. key_word t P) k t 0 (chain_of y.shape.buckets (key_word t P) P) shown.shows (λ key. apart (suc_same (one_node (next_link y.shape.buckets (bucket_of y.shape.buckets (key_word t P)) P) (λ t. key_word t P) 0 (chain_of y.shape.buckets (key_word t P) P) shown.shows (suc t) (suc s) on_it theirs (omega (arith, key, h.2.1))))) on_it in
+        let still = on_without_other (next_link y.shape.buckets (bucket_of y.shape.buckets (key_word t P)) P) (λ t. key_word t P) k t 0 (chain_of y.shape.buckets (key_word t P) P) shown.shows (λ key. apart (omega (arith, one_node (next_link y.shape.buckets (bucket_of y.shape.buckets (key_word t P)) P) (λ t. key_word t P) 0 (chain_of y.shape.buckets (key_word t P) P) shown.shows (suc t) (suc s) on_it theirs (omega (arith, key, h.2.1))))) on_it in
         grind (arith, nat_tests, same, still)
     | inr other ↦ grind (arith, nat_tests, other, on_it)
   ]
-    where
-      suc_same : {r u : ℕ} → suc r ≡ suc u → r ≡ u
-      suc_same e = omega (arith, e)
 
   chain_before : (j t : ℕ) → on 0 (chain_of y.shape.buckets j P') (suc t) ≡ true → on 0 (chain_of y.shape.buckets j P) (suc t) ≡ true
   chain_before j t on_it = grind (arith, nat_tests, on_it, on_without k 0 (suc t) (chain_of y.shape.buckets j P))

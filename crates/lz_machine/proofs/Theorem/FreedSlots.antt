@@ -1,18 +1,18 @@
 -- What was seen of passes since a slot was unlinked: one that becomes free was left by each.
 use Rattle.std.proofs.Common.{◌≡◌, ◌≢◌, ◌⊎◌, inl, inr, ⊎_elim, ℕ, zero, suc, ◌+◌, ◌<◌, ◌≤◌, ◌%◌, Bool, true, false, List, [], ◌∷◌, ◌++◌, replicate, Option, Some, None, refl, sym, ap, ◌∙◌, subst, arith}
 use Rattle.std.specs.Prelude.{◌&&◌, if◌then◌else◌, is_some, unwrap_or, slice_set}
-use Rattle.std.proofs.lemmas.Bool.{cases_eq, cases_lt, or_left, or_right, and_parts}
-use Rattle.std.proofs.lemmas.Bool.Decides.{eqb_tells, nat_tests}
+use Rattle.std.proofs.lemmas.Bool.{cases_eq, and_parts}
+use Rattle.std.proofs.lemmas.Bool.Decides.{nat_tests}
 use Rattle.std.proofs.lemmas.List.{get_or-replicate}
 use Rattle.lz_slot.specs.Counted.{of_pass, set_of_pass}
 use Rattle.lz_slot.specs.Histories.{History, Life, lives}
 use Rattle.lz_slot.proofs.Counted.{of_pass_same, of_pass_other}
 use Rattle.lz_disk.specs.Images.{Medium, at_rest}
 use Rattle.lz_vault.specs.declared.vault.Stage.{Stage}
-use Rattle.lz_vault.specs.declared.vault.Stage.TheVariants.{Open, Closed}
+use Rattle.lz_vault.specs.declared.vault.Stage.TheVariants.{Open}
 use Rattle.lz_allot.specs.declared.sight.Sight.{Sight}
 use Rattle.lz_allot.specs.declared.sight.Sight.TheVariants.{Unseen, Inside, Left}
-use Rattle.lz_allot.specs.Uses.{Use, Free, Taken, Limbo, Moment, Pins, use_of, collect, collect_at, lowest_free, is_outside, sight_after, see_pin, was_outside}
+use Rattle.lz_allot.specs.Uses.{Use, Free, Taken, Limbo, Moment, Pins, use_of, collect, collect_at, lowest_free, sight_after, see_pin, was_outside}
 use Rattle.lz_list.specs.declared.word.Word.TheVariants.{Pin as pin_at}
 use Rattle.lz_list.specs.Words.{Words, get}
 use Rattle.lz_list.specs.Traces.{Trace, bucket_of, key_word}
@@ -20,13 +20,13 @@ use Rattle.lz_machine.specs.declared.actor.Actor.{Actor}
 use Rattle.lz_machine.specs.declared.actor.Hold.{Hold}
 use Rattle.lz_machine.specs.declared.actor.Hold.TheVariants.{Marked}
 use Rattle.lz_machine.specs.declared.course.Course.{Course}
-use Rattle.lz_machine.specs.declared.course.Course.TheVariants.{Refused, Dies, Plays}
+use Rattle.lz_machine.specs.declared.course.Course.TheVariants.{Plays}
 use Rattle.lz_machine.specs.declared.event.Event.{Event}
 use Rattle.lz_machine.specs.declared.event.Event.TheVariants.{Pin, Reserve, Link, Settle, Unlink, Retire, SeePin, Answer}
 use Rattle.lz_machine.specs.Yards.{Shape, Yard, actor_at, cell_at, slots_read, pin_in}
 use Rattle.lz_machine.specs.Table.{course, line, line_on, line_publishes, published_on, publishes, settling, words_after, uses_after, node_of, has_marked, is_unused, given_back, reserved, needs, stays_out, pin_answered}
 use Rattle.lz_machine.specs.Calls.{event_at, loaded}
-use Rattle.lz_machine.specs.Runs.{Start, IsStart, Caller, Service, State, Up, Down, Transition, Calls, Turn, Fails, Looks, Trips, Stops, Crashes, CrashesIn, Opens, OpenFails, MayStep, IsRun, run, first_point, caller_at, next_event, start_keys, state_after, after_turn, after_fault, looked, pins_of, unlinkings, moments_of_step, moments, turn_publishes, opened_service}
+use Rattle.lz_machine.specs.Runs.{Start, IsStart, Caller, Service, State, Up, Down, Transition, Turn, Fails, Looks, Stops, Crashes, CrashesIn, Opens, OpenFails, MayStep, IsRun, run, first_point, caller_at, next_event, start_keys, state_after, after_turn, after_fault, looked, pins_of, unlinkings, moments_of_step, moments, turn_publishes, opened_service}
 use Rattle.lz_machine.specs.FreedSlots.{FreedIsAllFree}
 use Rattle.lz_machine.specs.Notes.{Notes}
 use Rattle.lz_machine.specs.LocksSound.{HasClosed, RestsOn}
@@ -45,7 +45,7 @@ use Rattle.lz_machine.proofs.Alone.Room.{no_limbo_read}
 use Rattle.lz_machine.proofs.Crash.ImageSlots.{node_stands}
 use Rattle.lz_machine.proofs.Runs.Shape.{line_keeps_shape}
 use Rattle.lz_machine.proofs.Theorem.Needs.{is_marking}
-use Rattle.lz_machine.proofs.Theorem.Readiness.{plays_needs}
+use Rattle.lz_machine.proofs.Runs.Course.{plays_needs}
 use Rattle.lz_machine.proofs.Theorem.Reached.{reached_sound}
 
 -- What a sight of pass q says of slot s, where the pass's pin word is v.
@@ -54,35 +54,13 @@ IsPast v s q ms Unseen = Unit {0}
 IsPast v s q ms (Inside u) = (u % 2 ≡ 1) × (u ≤ v) × (u < v → was_outside s q ms ≡ true)
 IsPast v s q ms Left = was_outside s q ms ≡ true
 
--- a pass that is outside now was so
-outside_now : (s q v : ℕ) (pins : List ℕ) (ms : List Moment) → pin_in pins q ≡ v → v % 2 ≡ 0 → was_outside s q (Pins pins ∷ ms) ≡ true
-outside_now s q v pins ms at even = or_left (is_outside (pin_in pins q)) (was_outside s q ms) (ap is_outside at ∙ grind (arith, nat_tests, even))
-
 -- it stays so while the pin word goes up by one at most
 past_on : (v w s q : ℕ) (pins : List ℕ) (ms : List Moment) (x : Sight) → pin_in pins q ≡ w → (w ≡ v) ⊎ (w ≡ suc v) → IsPast v s q ms x → IsPast w s q (Pins pins ∷ ms) x
-past_on v w s q pins ms Unseen at goes h = tt
-past_on v w s q pins ms Left at goes h = or_right (is_outside (pin_in pins q)) (was_outside s q ms) h
-past_on v w s q pins ms (Inside u) at (inl same) h = (h.0, omega (arith, h.1, same), λ lt. or_right (is_outside (pin_in pins q)) (was_outside s q ms) (h.2 (omega (arith, lt, same))))
-past_on v w s q pins ms (Inside u) at (inr more) h = (
-  h.0,
-  omega (arith, h.1, more),
-  λ lt. elim (cases_lt u v) [
-    | inl less ↦ or_right (is_outside (pin_in pins q)) (was_outside s q ms) (h.2 less)
-    | inr past ↦ outside_now s q w pins ms at (omega (arith, h.0, h.1, more, past))
-  ],
-)
+past_on v w s q pins ms x at goes h = grind arith
 
 -- and after the pin word was looked at
 past_seen : (v s q : ℕ) (pins : List ℕ) (ms : List Moment) (x : Sight) → pin_in pins q ≡ v → IsPast v s q (Pins pins ∷ ms) x → IsPast v s q (Pins pins ∷ ms) (sight_after v x)
-past_seen v s q pins ms Unseen at h = elim (eqb_tells (v % 2) 0) [
-  | inl even ↦ rw even.0 (outside_now s q v pins ms at even.1)
-  | inr odd ↦ rw odd.0 (omega (arith, odd.1), omega arith, λ lt. absurd (omega (arith, lt)))
-]
-past_seen v s q pins ms (Inside u) at h = elim (eqb_tells v u) [
-  | inl same ↦ rw same.0 h
-  | inr other ↦ rw other.0 (h.2 (omega (arith, h.1, other.1)))
-]
-past_seen v s q pins ms Left at h = h
+past_seen v s q pins ms x at h = grind arith
 
 -- it is said of moments by what they show of the slot
 past_same : (v s q : ℕ) (ms new : List Moment) (x : Sight) → was_outside s q new ≡ was_outside s q ms → IsPast v s q ms x → IsPast v s q new x
@@ -103,11 +81,7 @@ same_seen passes pins uses ms h s q seen low high is = past_on (pin_in pins q) (
 
 -- the value of a pin word that is looked at
 loaded_value : (w : Words) (e : Event) (p v : ℕ) → loaded w e ≡ SeePin p v → v ≡ get w (pin_at p)
-loaded_value w (SeePin q x) p v is = go (get w (pin_at q)) refl is
-  where
-    go : (x : ℕ) → get w (pin_at q) ≡ x → SeePin q x ≡ SeePin p v → v ≡ get w (pin_at p)
-    go x at same = let passes : q ≡ p = cc in let values : x ≡ v = cc in sym values ∙ sym at ∙ ap (λ (n : ℕ). get w (pin_at n)) passes
-loaded_value w _ p v is = absurd cc
+loaded_value w e p v is = grind arith
 
 -- an event that is played
 module _ (n calls : ℕ) (y : Yard) (callers : List (Option Caller)) (disk : Medium) (M : History) (P : Trace) (notes : Notes) (sound : Sound n calls y callers disk M P notes)
@@ -151,7 +125,6 @@ module _ (n calls : ℕ) (y : Yard) (callers : List (Option Caller)) (disk : Med
   -- only an unlinking is a moment
   settled_none : (stage : Stage) (s : ℕ) → unlinkings (settling stage s) ≡ []
   settled_none Open s = refl
-  settled_none Closed s = refl
   settled_none _ s = refl
 
   abbrev Shown : Event → ℕ → ℕ → List Moment → Type 0
@@ -270,9 +243,8 @@ module _ (n calls : ℕ) (y : Yard) (callers : List (Option Caller)) (disk : Med
     seen_after = go (course y a e) refl
       where
         go : (k : Course) → course y a e ≡ k → AreSeen y.shape.passes (line_on k y actor a e).0.words.pins (line_on k y actor a e).0.uses (Pins (line_on k y actor a e).0.words.pins ∷ unlinkings (published_on k y actor a e) ++ ms)
-        go (Refused outcome) is = same_seen y.shape.passes y.words.pins y.uses ms h
-        go Dies is = same_seen y.shape.passes y.words.pins y.uses ms h
         go Plays is = played (plays_needs y a e is)
+        go _ is = same_seen y.shape.passes y.words.pins y.uses ms h
 
 -- a turn, a fault
 module _ (n calls : ℕ) (service : Service) (disk : Medium) (M : History) (P : Trace) (notes : Notes) (sound : Sound n calls service.yard service.callers disk M P notes) (a : ℕ) (ms : List Moment)
@@ -302,27 +274,16 @@ opened_seen shape t disk ms s q seen low high is = absurd (no_limbo_read (slots_
 step_seen : (start : Start) (w : State) (M : History) (P : Trace) (calls : ℕ) (step : Transition) (ms : List Moment) → MayStep w step → (L : List Life) → PointSound start (point w M P calls) L → SeenAt w ms
     → SeenAt (state_after (suc calls) w step) (pins_of (state_after (suc calls) w step) ++ moments_of_step w step ++ ms)
 step_seen start w M P calls step ms may [] sound h = absurd sound
-step_seen start (Up service disk) M P calls (Calls a c) ms may (life ∷ earlier) sound h = same_seen service.yard.shape.passes service.yard.words.pins service.yard.uses ms h
 step_seen start (Up service disk) M P calls (Turn a) ms may (life ∷ earlier) sound h = turn_seen sound.2.0 calls service disk life.history P sound.2.1 sound.2.2.sound a ms h (caller_at service.callers a) refl
 step_seen start (Up service disk) M P calls (Fails a new) ms may (life ∷ earlier) sound h = fault_seen sound.2.0 calls service disk life.history P sound.2.1 sound.2.2.sound a ms h new (caller_at service.callers a)
 step_seen start (Up service disk) M P calls (Looks a) ms may (life ∷ earlier) sound h = look_seen sound.2.0 calls service disk life.history P sound.2.1 sound.2.2.sound a ms h may.0.0 may.0.1
-step_seen start (Up service disk) M P calls Trips ms may (life ∷ earlier) sound h = same_seen service.yard.shape.passes service.yard.words.pins service.yard.uses ms h
 step_seen start (Up service disk) M P calls Stops ms may (life ∷ earlier) sound h = tt
 step_seen start (Up service disk) M P calls (Crashes t) ms may (life ∷ earlier) sound h = tt
 step_seen start (Up service disk) M P calls (CrashesIn a t) ms may (life ∷ earlier) sound h = tt
-step_seen start (Up service disk) M P calls Opens ms may (life ∷ earlier) sound h = absurd may
-step_seen start (Up service disk) M P calls (OpenFails why done) ms may (life ∷ earlier) sound h = absurd may
-step_seen start (Down shape disk) M P calls (Calls a c) ms may (life ∷ earlier) sound h = absurd may
-step_seen start (Down shape disk) M P calls (Turn a) ms may (life ∷ earlier) sound h = absurd may
-step_seen start (Down shape disk) M P calls (Fails a new) ms may (life ∷ earlier) sound h = absurd may
-step_seen start (Down shape disk) M P calls (Looks a) ms may (life ∷ earlier) sound h = absurd may
-step_seen start (Down shape disk) M P calls Trips ms may (life ∷ earlier) sound h = tt
-step_seen start (Down shape disk) M P calls Stops ms may (life ∷ earlier) sound h = tt
-step_seen start (Down shape disk) M P calls (Crashes t) ms may (life ∷ earlier) sound h = tt
-step_seen start (Down shape disk) M P calls (CrashesIn a t) ms may (life ∷ earlier) sound h = absurd may
+step_seen start (Up service disk) M P calls _ ms may (life ∷ earlier) sound h = same_seen service.yard.shape.passes service.yard.words.pins service.yard.uses ms h
 step_seen start (Down shape disk) M P calls Opens ms may (life ∷ earlier) sound h = opened_seen shape disk.seen disk (pins_of (Up (opened_service shape disk.seen) disk) ++ ms)
 step_seen start (Down shape disk) M P calls (OpenFails why true) ms may (life ∷ earlier) sound h = tt
-step_seen start (Down shape disk) M P calls (OpenFails why false) ms may (life ∷ earlier) sound h = tt
+step_seen start (Down shape disk) M P calls _ ms may (life ∷ earlier) sound h = tt
 
 reached_seen : (start : Start) (steps : List Transition) → IsStart start → IsRun (first_point start) steps → SeenAt (run (first_point start) steps).state (moments (first_point start) steps)
 reached_seen start [] is runs = opened_seen start.shape start.text (at_rest start.bytewise start.text) (moments (first_point start) [])

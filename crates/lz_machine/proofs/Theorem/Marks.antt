@@ -96,10 +96,7 @@ module _ (callers : List (Option Caller)) (M : History) (old : AreOpen callers M
   }
     where
       apart_now : (b d j : ℕ) → IsOpenCall (Call i a c ∷ M) j b → IsOpenCall (Call i a c ∷ M) j d → b ≡ d
-      apart_now b d j (inl one) (inl other) = sym one.1 ∙ other.1
-      apart_now b d j (inl one) (inr before) = absurd (fresh j d before (sym one.0))
-      apart_now b d j (inr before) (inl other) = absurd (fresh j b before (sym other.0))
-      apart_now b d j (inr one) (inr other) = old.apart b d j one other
+      apart_now b d j h3 h4 = grind arith
 
   module _ (caller : Caller) (at : caller_at callers a ≡ Some caller) where
     -- the call goes on
@@ -207,8 +204,7 @@ module _ (calls : ℕ) (y : Yard) (callers : List (Option Caller)) (disk : Mediu
   up_tells Stops may = ended calls Stop _ M refl tt h.told h.numbered (λ a i is. is)
   up_tells (Crashes t) may = ended calls Crash _ M refl tt h.told h.numbered (λ a i is. is)
   up_tells (CrashesIn a t) may = ended calls Crash _ M refl tt h.told h.numbered (λ a i is. is)
-  up_tells Opens may = absurd may
-  up_tells (OpenFails why done) may = absurd may
+  up_tells _ may = absurd may
 
 opens_open : (shape : Shape) (t : List ℕ) (M : History) → ((a i : ℕ) → IsOpenCall M i a → ⊥) → AreOpen (opened_service shape t).callers M
 opens_open shape t M none = record {

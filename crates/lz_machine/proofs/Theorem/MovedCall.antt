@@ -3,8 +3,7 @@ use Rattle.std.proofs.Common.{◌≡◌, ◌≢◌, ℕ, true, false, Option, So
 use mathlib.Core.Bool.{false≢true}
 use Rattle.std.proofs.lemmas.Bool.Decides.{nat_tests}
 use Rattle.lz_slot.proofs.Counted.{of_pass_other}
-use Rattle.lz_disk.specs.Images.{Medium, at_rest}
-use Rattle.lz_machine.specs.Yards.{Shape}
+use Rattle.lz_disk.specs.Images.{Medium}
 use Rattle.lz_machine.specs.Runs.{Caller, Service, State, Up, Down, Transition, Calls, Turn, Fails, Stops, Crashes, CrashesIn, Opens, OpenFails, caller_at, after_turn, after_fault, state_after}
 use Rattle.lz_machine.specs.Laws.{is_of, SameBut, call_in, ends_life}
 use Rattle.lz_machine.proofs.Open.FoundSlots.{pass_of}
@@ -33,12 +32,4 @@ module _ (a : ℕ) where
 
   -- after the life's end states that differ in the call alone are the same
   pub ends_same : (n m : ℕ) (one other : State) (step : Transition) → ends_life step ≡ true → SameBut a one other → state_after m other step ≡ state_after n one step
-  ends_same n m (Up one disk) (Up other disk') Stops ends (yard, medium, rest) = λ i. Down (sym yard i).shape (sym medium i)
-  ends_same n m (Up one disk) (Up other disk') (Crashes t) ends (yard, medium, rest) = λ i. Down (sym yard i).shape (at_rest (sym medium i).bytewise t)
-  ends_same n m (Up one disk) (Up other disk') (CrashesIn b t) ends (yard, medium, rest) = λ i. Down (sym yard i).shape (at_rest (sym medium i).bytewise t)
-  ends_same n m (Down shape disk) (Down shape' disk') Stops ends (as_shape, medium) = λ i. Down (sym as_shape i) (sym medium i)
-  ends_same n m (Down shape disk) (Down shape' disk') (Crashes t) ends (as_shape, medium) = λ i. Down (sym as_shape i) (at_rest (sym medium i).bytewise t)
-  ends_same n m (Down shape disk) (Down shape' disk') (CrashesIn b t) ends (as_shape, medium) = λ i. Down (sym as_shape i) (sym medium i)
-  ends_same n m (Up one disk) (Down shape disk') step ends h = absurd h
-  ends_same n m (Down shape disk) (Up other disk') step ends h = absurd h
-  ends_same n m _ _ _ ends h = absurd (false≢true ends)
+  ends_same n m one other step ends h = grind arith

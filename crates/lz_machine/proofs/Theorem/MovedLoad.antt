@@ -4,14 +4,12 @@ use mathlib.Core.Bool.{false≢true}
 use Rattle.std.specs.Prelude.{◌||◌, IsSome}
 use Rattle.std.specs.List.{list_any}
 use Rattle.std.proofs.lemmas.Bool.{cases_Bool, or_parts}
-use Rattle.std.proofs.lemmas.Bool.Decides.{nat_tests}
 use Rattle.lz_slot.specs.declared.command.Command.{Command}
 use Rattle.lz_slot.specs.Counted.{set_of_pass}
 use Rattle.lz_slot.specs.Histories.{Life, lives}
 use Rattle.lz_slot.proofs.Counted.{of_pass_other, length-set_of_pass}
 use Rattle.lz_disk.specs.Images.{Medium}
 use Rattle.lz_vault.specs.Vaults.{NoCall, medium_after}
-use Rattle.lz_allot.specs.Uses.{is_outside}
 use Rattle.lz_list.specs.declared.word.Word.{Word}
 use Rattle.lz_list.specs.declared.publishing.Publishing.{Publishing}
 use Rattle.lz_list.specs.Words.{Words, get}
@@ -22,18 +20,14 @@ use Rattle.lz_machine.specs.declared.event.Event.TheVariants.{Hop}
 use Rattle.lz_machine.specs.declared.event.Outcome.{Outcome}
 use Rattle.lz_machine.specs.declared.event.Outcome.TheVariants.{Value, NotNow}
 use Rattle.lz_machine.specs.declared.event.Reply.{Reply}
-use Rattle.lz_machine.specs.declared.caller.Sequence.{Sequence}
-use Rattle.lz_machine.specs.declared.caller.Sequence.TheVariants.{Pinning, Resting, Writing, Adding, Removing, Releasing, Halting}
 use Rattle.lz_machine.specs.declared.caller.Progress.{Progress}
-use Rattle.lz_machine.specs.declared.caller.Progress.TheVariants.{Playing, LoadsHalt, Walking}
 use Rattle.lz_machine.specs.Yards.{Yard, Shape, actor_at}
 use Rattle.lz_machine.specs.Table.{pin_of, course, line, line_on, line_call, call_on, published_on, line_publishes}
-use Rattle.lz_machine.specs.Calls.{event_of, event_at, loaded, progress_after}
+use Rattle.lz_machine.specs.Calls.{event_at, loaded, progress_after}
 use Rattle.lz_machine.specs.Runs.{Caller, Service, State, Up, Down, Start, IsStart, start_keys, Transition, Turn, Point, point_after, run, IsRun, first_point, played, caller_at, next_event, reply_at, moved_on, after_turn, state_after, HasTurn, MayStep, mark_of_turn, marks_of_turn, marks_of, turn_publishes, trace_after, calls_made_after}
 use Rattle.lz_machine.specs.Laws.{is_of, outcome_at, outcomes, hop_of, hop_of_caller, next_hop, SameBut, call_in, ends_life, WalksMove}
-use Rattle.lz_machine.specs.CallersSound.{is_before_pin, side_of}
-use Rattle.lz_machine.specs.Sound.{StateSound, PointSound, IsSound}
-use Rattle.lz_machine.proofs.Frames.OneActor.{mine}
+use Rattle.lz_machine.specs.CallersSound.{is_before_pin}
+use Rattle.lz_machine.specs.Sound.{PointSound, IsSound}
 use Rattle.lz_machine.proofs.Theorem.MovedCall.{call_stays, ends_same}
 use Rattle.lz_machine.proofs.Runs.Twins.{Twin, apart, same, left, right, follows}
 use Rattle.lz_machine.proofs.Runs.Composition.{run_append}
@@ -45,30 +39,12 @@ record Loads (words : Words) (e : Event) (at : Progress) : Type 0 where
   inside : is_before_pin at ≡ false
   no_reply : reply_at at ≡ None
 
-sequence_loads : (words : Words) (c : Command) (sequence : Sequence) (i : ℕ) → hop_of (loaded words (event_of c sequence i)) ≡ None
-sequence_loads words c Pinning (suc i) = refl
-sequence_loads words c (Resting s reply) (suc (suc i)) = refl
-sequence_loads words c (Writing s) (suc (suc i)) = refl
-sequence_loads words c (Adding s) (suc (suc (suc (suc (suc i))))) = refl
-sequence_loads words c (Removing s) (suc (suc (suc (suc (suc (suc (suc i))))))) = refl
-sequence_loads words c (Releasing aim) (suc i) = refl
-sequence_loads words c (Halting reply) (suc i) = refl
-sequence_loads words c _ _ = refl
-
 loads : (words : Words) (shape : Shape) (c : Command) (at : Progress) → IsSome (hop_of (loaded words (event_at shape c at))) → Loads words (event_at shape c at) at
-loads words shape c (Playing sequence i) is = absurd (false≢true (rw (sequence_loads words c sequence i) at is))
-loads words shape c LoadsHalt is = record { word = _; is_hop = refl; inside = refl; no_reply = refl }
-loads words shape c (Walking aim look) is = record { word = _; is_hop = refl; inside = refl; no_reply = refl }
-loads words shape c _ is = absurd (false≢true is)
+loads words shape c at is = grind arith
 
 -- a load by an actor that is inside is played, in a dead vault too
 course_plays : (y : Yard) (a : ℕ) (word : Word) → pin_of y a % 2 ≡ 1 → course y a (Hop word) ≡ Plays
-course_plays y a word odd =
-    let within : is_outside (pin_of y a) ≡ false = grind (arith, nat_tests) in
-    elim (cases_Bool y.vault.dead) [
-      | inl dead ↦ rw (dead, within) refl
-      | inr live ↦ rw (live, within) refl
-    ]
+course_plays y a word odd = grind arith
 
 -- two points whose states differ in one actor's call at most
 record Beside (a : ℕ) (one other : Point) : Type 0 where
@@ -121,11 +97,7 @@ module _ (a : ℕ) (y : Yard) (callers : List (Option Caller)) (disk : Medium) (
 -- at a point that is sound an actor whose next event is a load is inside
 pin_inside : (start : Start) (p : Point) (L : List Life) (service : Service) (disk : Medium) (a : ℕ) (caller : Caller) → p.state ≡ Up service disk → PointSound start p L
     → caller_at service.callers a ≡ Some caller → is_before_pin caller.progress ≡ false → pin_of service.yard a % 2 ≡ 1
-pin_inside start p [] service disk a caller at h is inside = absurd h
-pin_inside start p (life ∷ earlier) service disk a caller at h is inside =
-    let up = subst (λ (w : State). StateSound p w life) at h.2 in
-    let own = mine service.yard.shape service.yard.vault service.yard.words.pins service.yard.actors service.callers p.trace up.1 a caller is up.2.sound.callers in
-    own.stands.0 ∙ ap side_of inside
+pin_inside start p L service disk a caller at h is inside = grind arith
 
 -- what a load does at a point
 record HopsBeside (a : ℕ) (p : Point) : Type 0 where

@@ -13,7 +13,7 @@ use Rattle.lz_disk.specs.Images.{IsImage, IsSound}
 use Rattle.lz_machine.specs.declared.event.Outcome.TheVariants.{Done, Value, Slot, Taken, True, NotNow}
 use Rattle.lz_machine.specs.OneAdd.{one_slot, one_add, OneAddRuns, LeavesText}
 use Rattle.lz_machine.specs.Runs.{Start, IsStart, State, Up, Down, Transition, Point, IsRun, MayLeave, disk_of, run, first_point, made_text, start_keys}
-use Rattle.lz_machine.specs.Sound.{StateSound, PointSound}
+use Rattle.lz_machine.specs.Sound.{PointSound}
 use Rattle.lz_vault.specs.Members.{no_cell}
 use Rattle.lz_machine.proofs.Open.Texts.{text_bytes}
 use Rattle.lz_machine.proofs.Theorem.Reached.{reached_sound}
@@ -76,13 +76,7 @@ one_add_runs = record { starts = starts; runs = runs; marks = refl }
 
 -- what is durable, and what is read now, are images of the disk
 sound_disk : (start : Start) (p : Point) (w : State) (L : List Life) → PointSound start p L → p.state ≡ w → IsSound (disk_of w)
-sound_disk start p w [] sound is = absurd sound
-sound_disk start p (Up service disk) (life ∷ earlier) sound is =
-    let there : StateSound p (Up service disk) life = subst (λ (q : State). StateSound p q life) is sound.2 in
-    there.2.sound.images.keeps.sound
-sound_disk start p (Down shape disk) (life ∷ earlier) sound is =
-    let there : StateSound p (Down shape disk) life = subst (λ (q : State). StateSound p q life) is sound.2 in
-    there.sound
+sound_disk start p w L sound is = grind arith
 
 pub run_sound : (start : Start) (steps : List Transition) → IsStart start → IsRun (first_point start) steps → IsSound (disk_of (run (first_point start) steps).state)
 run_sound start steps is runs =

@@ -1,7 +1,6 @@
 -- What is known of the next event of an open call, at a point that is reached.
-use Rattle.std.proofs.Common.{◌≡◌, ◌≢◌, inl, inr, IsTrue, ℕ, ◌==◌, ◌%◌, Bool, false, ◌||◌, Option, Some, None, IsNone, refl, sym, ap, ◌∙◌, subst}
+use Rattle.std.proofs.Common.{◌≡◌, ◌≢◌, IsTrue, ℕ, ◌==◌, ◌%◌, Bool, false, ◌||◌, Option, Some, None, IsNone, refl, sym, ap, ◌∙◌, subst, arith}
 use Rattle.std.proofs.lemmas.Bool.{false≢true}
-use Rattle.std.proofs.lemmas.Bool.Decides.{eqb_tells}
 use Rattle.std.proofs.lemmas.Option.{none-some}
 use Rattle.lz_allot.specs.Uses.{is_outside}
 use Rattle.lz_disk.specs.Images.{Medium}
@@ -21,10 +20,7 @@ is_none None none = refl
 is_none (Some x) none = absurd (false≢true (sym none))
 
 even_of : (pin : ℕ) → IsTrue (is_outside pin) → pin % 2 ≡ 0
-even_of pin outside = elim (eqb_tells (pin % 2) 0) [
-  | inl same ↦ same.1
-  | inr other ↦ absurd (false≢true (sym other.0 ∙ outside))
-]
+even_of pin outside = grind arith
 
 module _ (start : Start) (p : Point) (reached : IsReached start p) where
   sound_at : IsSound start p
