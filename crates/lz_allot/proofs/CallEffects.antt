@@ -14,7 +14,7 @@ use Rattle.lz_allot.specs.declared.row.Row.{Row}
 use Rattle.lz_allot.specs.declared.sight.Sight.TheVariants.{Unseen}
 use Rattle.lz_allot.specs.declared.counts.Counts.{Counts}
 use Rattle.lz_allot.specs.Rows.{first_row, row_seen, rows_seen, row_freed, rows_freed, least_left}
-use Rattle.lz_allot.specs.Uses.{Use, Free, Taken, Limbo, use_of, is_free, counts, lowest_free, take_slot, give_back, retire, see_pin, collect}
+use Rattle.lz_allot.specs.Uses.{Use, Free, Taken, use_of, is_free, counts, lowest_free, take_slot, give_back, retire, see_pin, collect}
 use Rattle.lz_allot.specs.Allots.{IsAllot, IsQueue, IsTakenAt, first_uses, is_free_kind, kind_at, set_each, use_told, uses_told}
 use Rattle.lz_allot.proofs.FilledPlaces.{length-set_each, map-set_each, set_each_same, set_each_other}
 use Rattle.lz_allot.proofs.ToldUses.{IsPlain, Shows, length_told, use_told_at, shows_told, told_is, queue_set, told_set, queue_pushed, told_pushed}

@@ -8,7 +8,6 @@ use Rattle.lz_slot.specs.Limits.{most_slots}
 use Rattle.std.specs.Prelude.{slice_index}
 use Rattle.lz_list.specs.declared.place.Place.TheVariants.{Node}
 use Rattle.lz_list.specs.declared.word.Word.TheVariants.{Head, Link, Key}
-use Rattle.lz_list.specs.declared.publishing.Publishing.TheVariants.{Linked as linked, Marked as marked}
 use Rattle.lz_list.specs.Words.{Words, get, is_marked_at, link_with, flags_of}
 use Rattle.lz_list.specs.Traces.{Trace, Chain, on, rank_at, WordsShow, has_key, KeysBelong, Lawful, chain, bucket_of, next_link, node_next, key_word, is_marked, member, flags_after, word_after, words_of_trace, table}
 use Rattle.lz_list.specs.Lists.{next_in, home, AreSlots, ShowsChain, IsSorted, IsMember, IsMemberIn, IsNodeIn, IsTable}

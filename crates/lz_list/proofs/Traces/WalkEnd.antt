@@ -4,7 +4,6 @@ use mathlib.Core.Bool.{false≢true}
 use Rattle.std.proofs.lemmas.Bool.{cases_Bool}
 use Rattle.std.proofs.lemmas.Bool.Decides.{nat_tests}
 use Rattle.lz_list.specs.declared.publishing.Publishing.{Publishing}
-use Rattle.lz_list.specs.declared.publishing.Publishing.TheVariants.{Linked as linked, Marked as marked, Settled as settled}
 use Rattle.lz_list.specs.Traces.{Trace, Begins, Chain, insert, without, on, WordsShow, bucket_of, chain_of, key_word, member, linking, linking_in, is_settled, is_removed, is_marked, has_added, has_removed, Lawful, IsNode, SettledYes, SettledNo}
 use Rattle.lz_list.specs.Pinned.{Once, Stood, IsKept, IsQuiet}
 use Rattle.lz_list.proofs.Chains.PlaceRank.{on_start}
