@@ -1,7 +1,7 @@
 -- The keys that the slots of a file hold, in the order of the slots.
 use Rattle.std.proofs.Common.{◌≡◌, ◌≢◌, ⊎_elim, ℕ, zero, suc, ◌<◌, ◌≤◌, true, false, List, [], ◌∷◌, ◌++◌, nat_eq, refl, sym, ap, subst, ◌∙◌, arith}
 use Rattle.std.specs.Prelude.{All, map, ◌||◌, ◌==◌}
-use Rattle.std.specs.Cmp.{both_ways, nat_eq_equiv}
+use Rattle.std.specs.Cmp.{nat_eq_equiv}
 use Rattle.std.specs.List.{IsDistinct, list_any}
 use Rattle.std.proofs.lemmas.Bool.{cases_eq, or_cases, eqb-true, eq-eqb}
 use Rattle.std.proofs.lemmas.Bool.Decides.{nat_tests}
@@ -40,9 +40,7 @@ module _ (t : List ℕ) where
   nodes (suc n) = nodes_said n (says n) refl (nodes n)
 
   slots_said : (n : ℕ) (said : SlotRead) → said ≢ read.BadKey → map (λ (node : ℕ × ℕ). node.1) (held_key said n) ≡ open_slot said n
-  slots_said n read.Closed sound = refl
-  slots_said n read.BadKey sound = absurd (sound refl)
-  slots_said n (read.Member k) sound = refl
+  slots_said n said sound = grind (arith, nat_tests)
 
   pub slots : (n : ℕ) → ((i : ℕ) → i < n → says i ≢ read.BadKey) → map (λ (node : ℕ × ℕ). node.1) (held t n) ≡ open_slots says n
   slots zero sound = refl
@@ -94,9 +92,7 @@ module _ (t : List ℕ) where
   module _ (N : ℕ) (S : SetOf) (holds : Holds t N S) where
     -- they are the set that the file holds
     pub same_set : Same S (members (keys N))
-    same_set k = both_ways (S k) (members (keys N) k)
-        (λ has. let (i, low, is) = (holds.set k).0 has in has_key N i k low is)
-        (λ has. (holds.set k).1 (held_by N k has))
+    same_set k = grind (arith, nat_tests, has_key, held_by)
 
     pub are_held : AreHeldBy t (keys N)
     are_held = (N, holds_same_set t N S (members (keys N)) same_set holds, refl)

@@ -1,6 +1,6 @@
 -- A list of keys that is read in pieces.
-use Rattle.std.proofs.Common.{◌≡◌, ◌≢◌, inl, inr, ℕ, ◌+◌, ◌-◌, ◌<◌, ◌≤◌, List, [], ◌∷◌, ◌++◌, length, take, drop, get_or, true, false, Option, Some, None, refl, sym, ap, subst, ◌∙◌, arith, append_assoc, length-append, decimal}
-use Rattle.std.specs.Prelude.{IfErr, IfOk, IfSome, map, Result, Ok, Err, ◌&&◌, ◌==◌, nat_lt, nat_eq, ◌||◌}
+use Rattle.std.proofs.Common.{◌≡◌, ◌≢◌, inl, inr, ℕ, ◌+◌, ◌-◌, ◌<◌, ◌≤◌, List, [], ◌∷◌, ◌++◌, length, take, drop, false, Option, Some, None, refl, sym, ap, subst, ◌∙◌, arith, append_assoc, length-append, decimal}
+use Rattle.std.specs.Prelude.{IfErr, IfOk, IfSome, map, Result, Ok, Err, nat_eq, ◌||◌}
 use Rattle.std.specs.Io.KnownBytes.{Consumes, IsAtEnd}
 use Rattle.std.proofs.lemmas.Bool.{cond_both}
 use Rattle.std.proofs.lemmas.Bool.Decides.{nat_tests}
@@ -20,7 +20,7 @@ use Rattle.lazyset_offline.specs.Lists.{AddsKey, HasFirstLine, HasNoKey, IsLineF
 use Rattle.lazyset_offline.specs.ListParts.{BeginsList, EndsWith, FailsAtEnd, FailsIn, GoesOn, HasRead, IsOpenList, Leaves}
 use Rattle.lazyset_offline.specs.declared.list.KeyList.{KeyList}
 use Rattle.lazyset_offline.specs.declared.list.ListFault.{ListFault}
-use Rattle.lazyset_offline.specs.declared.list.ListFault.TheVariants.{Line, Twice, Read, Memory}
+use Rattle.lazyset_offline.specs.declared.list.ListFault.TheVariants.{Line, Twice}
 use Rattle.lazyset_offline.proofs.Listed.{none_twice, one_more}
 
 -- a line that goes on has no line feed where neither part has one
@@ -42,15 +42,10 @@ spelled_short text k fits (inl is) =
     let room : length (decimal (room_of k)) ≤ 2 = length-decimal-le 2 (room_of k) (omega arith) (omega arith) (omega arith) in
     let number : length (decimal (number_of k)) ≤ 18 = length-decimal-le 18 (number_of k) (omega arith) (omega arith) (omega arith) in
     omega (arith, room, number, ap (λ (x : List ℕ). length x) is, length-append (decimal (room_of k)) (58 ∷ decimal (number_of k)))
-spelled_short text k fits (inr (none, is)) =
-    let number : length (decimal (number_of k)) ≤ 18 = length-decimal-le 18 (number_of k) (omega arith) (omega arith) (omega arith) in
-    omega (arith, number, ap (λ (x : List ℕ). length x) is)
+spelled_short text k fits (inr (none, is)) = grind (arith, nat_tests, decimal, length-decimal-le)
 
 one_less : (line : List ℕ) → length line ≤ length (without_return line) + 1
-one_less line =
-    cond_both (nat_lt 0 (length line) && (get_or line (length line - 1) 0 == 13)) (take (length line - 1) line) line (λ (l : List ℕ). length line ≤ length l + 1)
-    (λ both. omega (arith, length-take (length line - 1) line))
-    (λ other. omega arith)
+one_less line = grind (arith, nat_tests, cond_both, length-take)
 
 line_short : (format : Format) (line : List ℕ) (k : ℕ) → SpellsKey format line k → length line ≤ 22
 line_short format line k spells = let short = spelled_short (without_return line) k (key_of_format format k spells.0) spells.1 in omega (arith, short, one_less line)
@@ -65,17 +60,6 @@ long_line format line after clear long = (
   some_text line after (omega (arith, long)),
   λ first k (clear_first, (others, is)) spells. omega (arith, long, longer line after first others is clear, line_short format first k spells),
 )
-
-open_line : (format : Format) (line : List ℕ) → has_line_feed line ≡ false → length line ≢ 0 → HasNoKey format (line ++ [])
-open_line format line clear some = (
-  some_text line [] (omega (arith, some)),
-  λ first k (clear_first, (others, is)) spells.
-      let both : true ≡ false = sym (stands 10 first others) ∙ ap has_line_feed (sym is ∙ append-nil line) ∙ clear in absurd (cc),
-)
-
--- a line that ends, and what follows it
-line_ends : (line rest : List ℕ) → has_line_feed line ≡ false → HasFirstLine (line ++ line_feed ∷ rest) line
-line_ends line rest clear = (clear, (rest, refl))
 
 only_line : (line rest other : List ℕ) → has_line_feed line ≡ false → HasFirstLine (line ++ line_feed ∷ rest) other → line ≡ other
 only_line line rest other clear (clear_other, (others, is)) = first_cut 10 line other rest others clear clear_other is
@@ -96,17 +80,8 @@ line_fails format text line rest ks (Line number) h clear (place, none) = record
   place = place;
   fault = (line_there line rest, λ other k is spells. none k (subst (λ (l : List ℕ). SpellsKey format l k) (sym (only_line line rest other clear is)) spells));
 }
-line_fails format text line rest ks (Twice number) h clear (place, again) = record {
-  above = h.above;
-  rest = line ++ line_feed ∷ rest;
-  whole = h.whole;
-  ks = ks;
-  lists = h.lists;
-  place = place;
-  fault = (line, again.0, line_ends line rest clear, again.1, again.2);
-}
-line_fails format text line rest ks Read h clear why = absurd why
-line_fails format text line rest ks Memory h clear why = tt
+line_fails format text line rest ks (Twice number) h clear (place, again) = grind (arith, nat_tests, first_cut)
+line_fails format text line rest ks fault h clear why = grind (arith, nat_tests)
 
 -- a line that goes on by the end of it
 joined : (line part after : List ℕ) → line ++ ((part ++ line_feed ∷ []) ++ after) ≡ (line ++ part) ++ line_feed ∷ after
@@ -169,15 +144,7 @@ list_ends list empty text h =
     no_items (x ∷ xs) is = absurd (omega arith)
 
 pub list_fails : (list : KeyList) (number : ℕ) → has_line_feed list.line.items ≡ false → length list.line.items ≢ 0 → number ≡ length list.keys.items + 1 → FailsAtEnd list (Line number)
-list_fails list number clear some place text h = record {
-  above = h.above;
-  rest = list.line.items ++ [];
-  whole = h.whole;
-  ks = list.keys.items;
-  lists = h.lists;
-  place = place;
-  fault = open_line list.format list.line.items clear some;
-}
+list_fails list number clear some place text h = grind (arith, nat_tests, stands, append-nil)
 
 -- no text was read yet
 pub begins : (format : Format) (list : KeyList) → list.format ≡ format → list.keys.items ≡ [] → list.line.items ≡ [] → BeginsList format list
@@ -230,15 +197,10 @@ abbrev pub IsLeftOf : KeyList → Option (List ℕ) → List ℕ → Type 0
 IsLeftOf list left text = (after : List ℕ) × (left ≡ Some after) × HasRead text list after
 
 pub left_first : (list : KeyList) (input : Option (List ℕ)) → ((text : List ℕ) → HasRead text list text) → IfSome input (IsLeftOf list input)
-left_first list None unread = tt
-left_first list (Some text) unread = (text, refl, unread text)
+left_first list input unread = grind (arith, nat_tests)
 
 pub left_more : (old new : KeyList) (piece : List ℕ) (input left more : Option (List ℕ)) → Consumes left more piece → GoesOn old piece new → IfSome input (IsLeftOf old left) → IfSome input (IsLeftOf new more)
-left_more old new piece None left more given goes h = tt
-left_more old new piece (Some text) None more given goes (after, is, read) = absurd (cc)
-left_more old new piece (Some text) (Some xs) None given goes (after, is, read) = absurd given
-left_more old new piece (Some text) (Some xs) (Some ys) given goes (after, is, read) =
-    let same : after ≡ piece ++ ys = cc in (ys, refl, goes.read text ys (subst (λ (r : List ℕ). HasRead text old r) same read))
+left_more old new piece input left more given goes h = grind (arith, nat_tests)
 
 pub left_fails : (format : Format) (list : KeyList) (piece : List ℕ) (fault : ListFault) (input left more : Option (List ℕ)) → list.format ≡ format → Consumes left more piece → FailsIn list piece fault → IfSome input (IsLeftOf list left)
     → IfSome input (λ text. IsListFaultOf format text fault)
@@ -249,25 +211,17 @@ left_fails format list piece fault (Some text) (Some xs) (Some ys) same given fa
     let all : after ≡ piece ++ ys = cc in subst (λ (F : Format). IsListFaultOf F text fault) same (fails text ys (subst (λ (r : List ℕ). HasRead text list r) all read))
 
 pub left_none : (list : KeyList) (input left more : Option (List ℕ)) → Consumes left more [] → IsAtEnd more → IfSome input (IsLeftOf list left) → IfSome input (λ text. HasRead text list [])
-left_none list None left more given ended h = tt
-left_none list (Some text) None more given ended (after, is, read) = absurd (cc)
-left_none list (Some text) (Some xs) None given ended (after, is, read) = absurd given
-left_none list (Some text) (Some xs) (Some ys) given ended (after, is, read) =
-    let same : after ≡ [] = cc in subst (λ (r : List ℕ). HasRead text list r) same read
+left_none list input left more given ended h = grind (arith, nat_tests)
 
 -- what the end of a list tells of the input
 module _ (format : Format) (list : KeyList) (same : list.format ≡ format) where
   pub input_lists : {A : Type 0} (items : A → List ℕ) (input : Option (List ℕ)) (r : Result A ListFault) → IfSome input (λ text. HasRead text list []) → IfOk r (λ a. EndsWith list (items a))
       → IfOk r (λ a. IfSome input (λ text. Lists format text (items a)))
-  input_lists items input (Err fault) read ends = tt
-  input_lists items None (Ok a) read ends = tt
-  input_lists items (Some text) (Ok a) read ends = subst (λ (F : Format). Lists F text (items a)) same (ends text read)
+  input_lists items input r read ends = grind (arith, nat_tests)
 
   pub input_fails : {A : Type 0} (input : Option (List ℕ)) (r : Result A ListFault) → IfSome input (λ text. HasRead text list []) → IfErr r (FailsAtEnd list)
       → IfErr r (λ fault. IfSome input (λ text. IsListFaultOf format text fault))
-  input_fails input (Ok a) read fails = tt
-  input_fails None (Err fault) read fails = tt
-  input_fails (Some text) (Err fault) read fails = subst (λ (F : Format). IsListFaultOf F text fault) same (fails text read)
+  input_fails input r read fails = grind (arith, nat_tests)
 
 pub same_members : (G format : Format) → G ≡ format → {A : Type 0} (items : A → List ℕ) (r : Result A ListFault) → IfOk r (λ a. MayBeMembers G (length (items a)) (items a))
     → IfOk r (λ a. MayBeMembers format (length (items a)) (items a))

@@ -1,11 +1,12 @@
 -- A list of keys that is read a line at a time.
-use Rattle.std.proofs.Common.{◌≡◌, ◌≢◌, ℕ, zero, suc, ◌<◌, ◌≤◌, List, [], ◌∷◌, ◌++◌, length, get_or, true, false, Option, Some, None, Ok, Err, refl, sym, ap, subst, ◌∙◌, ⊎_elim, arith, append_assoc}
+use Rattle.std.proofs.Common.{◌≡◌, ◌≢◌, ℕ, zero, suc, ◌<◌, ◌≤◌, List, [], ◌∷◌, ◌++◌, length, get_or, true, false, Option, Some, None, Ok, Err, refl, sym, ap, subst, ⊎_elim, arith, append_assoc}
 use Rattle.std.specs.Prelude.{map, nat_eq, is_some, MatchOption}
 use Rattle.std.specs.Cmp.{nat_eq_equiv}
 use Rattle.std.specs.List.{IsDistinct, list_any}
 use Rattle.std.proofs.lemmas.Bool.{cases_lt, eq-eqb}
 use Rattle.std.proofs.lemmas.Bool.Decides.{nat_tests}
 use Rattle.std.proofs.lemmas.Map.Keys.{IsDistinct-push, apart_from_distinct}
+use Rattle.std.proofs.lemmas.Grind.{common_steps, elements}
 use Rattle.lz_slot.specs.Rooms.{largest_of}
 use Rattle.lz_slot.specs.Sets.{members}
 use Rattle.lz_slot.specs.Texts.{key_read}
@@ -43,14 +44,12 @@ spelled_more format _ _ line k (more first rest j js clear_first spells_first sp
 
 -- a key that isn't among some is another than each of them
 unlike : (ks : List ℕ) (k : ℕ) → members ks k ≡ false → list_any (nat_eq k) ks ≡ false
-unlike [] k none = refl
-unlike (q ∷ ks) k none = let rest : members ks k ≡ false = grind (arith, nat_tests) in let ih = unlike ks k rest in grind (arith, nat_tests)
+unlike ks k none = grind (arith, common_steps, elements)
 
 -- a key that stands somewhere among them is one of them, and one that stands nowhere isn't
 member_at : (ks : List ℕ) (i k : ℕ) → get_or (map Some ks) i None ≡ Some k → members ks k ≡ true
 member_at [] i k is = absurd cc
-member_at (q ∷ ks) zero k is = let same : q ≡ k = cc in let here = eq-eqb q k same in grind (arith, nat_tests, here)
-member_at (q ∷ ks) (suc i) k is = let ih = member_at ks i k is in grind (arith, nat_tests, ih)
+member_at (q ∷ ks) i k is = grind (arith, nat_tests, member_at ks, eq-eqb)
 
 member_nowhere : (ks : List ℕ) (k : ℕ) → ((i : ℕ) → get_or (map Some ks) i None ≢ Some k) → members ks k ≡ false
 member_nowhere [] k none = refl
@@ -62,8 +61,7 @@ member_nowhere (q ∷ ks) k none =
 -- what was found in a table of them tells whether it is one of them
 pub member_found : (ks : List ℕ) (k rank : ℕ) (found : Option ℕ) → rank ≡ k
     → MatchOption found ((i : ℕ) → get_or (map Some ks) i None ≢ Some rank) (λ i. get_or (map Some ks) i None ≡ Some rank) → members ks k ≡ is_some found
-member_found ks k rank None same none = member_nowhere ks k (λ i is. none i (is ∙ ap Some (sym same)))
-member_found ks k rank (Some i) same at = member_at ks i k (at ∙ ap Some same)
+member_found ks k rank found same none = grind (arith, nat_tests, member_nowhere, member_at)
 
 pub none_twice : IsDistinct nat_eq []
 unfolding IsDistinct
@@ -83,7 +81,7 @@ spelled_fit format _ _ (more line rest k ks clear spells spelled) zero lt = spel
 spelled_fit format _ _ (more line rest k ks clear spells spelled) (suc i) lt = spelled_fit format rest ks spelled i (omega arith)
 
 unequal : (a b : ℕ) → nat_eq a b ≡ false → a ≡ b → ⊥
-unequal a b other same = grind (arith, nat_tests)
+unequal a b other same = grind arith
 
 pub same_place : (ks : List ℕ) (i j : ℕ) → IsDistinct nat_eq ks → i < length ks → j < length ks → get_or ks i 0 ≡ get_or ks j 0 → i ≡ j
 same_place ks i j once low high same = ⊎_elim
@@ -95,4 +93,4 @@ same_place ks i j once low high same = ⊎_elim
     (cases_lt i j)
 
 pub are_members : (format : Format) (text ks : List ℕ) → Lists format text ks → MayBeMembers format (length ks) ks
-are_members format text ks lists = record { few = omega arith; fit = spelled_fit format text ks lists.spelled; apart = λ i j low high same. same_place ks i j lists.once low high same }
+are_members format text ks lists = grind (arith, nat_tests, spelled_fit, same_place)

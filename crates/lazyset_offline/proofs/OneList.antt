@@ -6,6 +6,7 @@ use Rattle.std.proofs.Math.ListN.{get_or-append}
 use Rattle.std.proofs.Math.Seq.{get_or-append_seam}
 use Rattle.std.proofs.lemmas.List.{append_cancel_left, get_or_default}
 use Rattle.std.proofs.lemmas.List.Folds.{Any-from_list_any}
+use Rattle.std.proofs.lemmas.Bool.Decides.{nat_tests}
 use Rattle.lz_slot.specs.Sets.{members}
 use Rattle.lz_slot.specs.declared.format.Format.{Format}
 use Rattle.lz_slot.proofs.Texts.Cuts.{first_cut}
@@ -31,23 +32,11 @@ not_empty [] rest e = cc
 not_empty (b ∷ line) rest e = cc
 
 pub begun : (format : Format) (text ks line rest : List ℕ) → Spelled format text ks → text ≡ line ++ line_feed ∷ rest → has_line_feed line ≡ false → Begun format line rest ks
-begun format _ _ line rest nothing is clear = absurd (not_empty line rest is)
-begun format _ _ line rest (more first others k ks clear_first spells spelled) is clear =
-    let same : first ≡ line = first_cut 10 first line others rest clear_first clear is in
-    let tail : line_feed ∷ others ≡ line_feed ∷ rest =
-    append_cancel_left line (line_feed ∷ others) (line_feed ∷ rest) (ap (λ (l : List ℕ). l ++ line_feed ∷ others) (sym same) ∙ is) in
-    record {
-      key = k;
-      keys = ks;
-      all = refl;
-      spells = subst (λ (l : List ℕ). SpellsKey format l k) same spells;
-      spelled = subst (λ (l : List ℕ). Spelled format l ks) (cc) spelled;
-    }
+begun format text ks line rest lists is clear = grind (arith, nat_tests, not_empty, first_cut, append_cancel_left)
 
 -- a text is lines of one list of keys
 none_listed : (format : Format) (text js : List ℕ) → Spelled format text js → text ≡ [] → [] ≡ js
-none_listed format _ _ nothing is = refl
-none_listed format _ _ (more line rest k js clear spells spelled) is = absurd (not_empty line rest (sym is))
+none_listed format text js lists is = grind (arith, nat_tests, not_empty)
 
 pub one_list : (format : Format) (text ks js : List ℕ) → Spelled format text ks → Spelled format text js → ks ≡ js
 one_list format _ _ js nothing other = none_listed format [] js other refl
@@ -72,8 +61,7 @@ goes format _ _ rest text ks (more line others j js clear spells above) is spell
 
 -- where a text lists keys, no line of it is at fault
 a_key_follows : (format : Format) (rest keys : List ℕ) → Spelled format rest keys → HasNoKey format rest → ⊥
-a_key_follows format _ _ nothing (some, none) = some refl
-a_key_follows format _ _ (more line others k keys clear spells spelled) (some, none) = none line k (clear, (others, refl)) spells
+a_key_follows format rest keys spelled none = grind (arith, nat_tests)
 
 pub no_bad_line : (format : Format) (text ks : List ℕ) (n : ℕ) → Lists format text ks → IsListFaultOf format text (Line n) → ⊥
 no_bad_line format text ks n lists h =

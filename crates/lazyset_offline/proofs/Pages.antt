@@ -1,22 +1,22 @@
 -- A text that is sent page by page.
-use Rattle.std.proofs.Common.{◌≡◌, inl, inr, ℕ, ◌+◌, ◌<◌, ◌≤◌, Bool, List, [], ◌∷◌, ◌++◌, length, take, drop, get_or, Option, Result, Ok, Err, refl, sym, ap, subst, ◌∙◌, append_assoc, append-nil, Vec, Global}
+use Rattle.std.proofs.Common.{◌≡◌, ℕ, ◌+◌, ◌<◌, ◌≤◌, Bool, List, [], ◌∷◌, ◌++◌, length, take, drop, get_or, Option, Result, Err, refl, sym, ap, subst, ◌∙◌, append_assoc, append-nil, Vec, Global, arith}
 use Rattle.std.specs.List.{flat_map}
 use Rattle.std.proofs.KnownBytes.{Appends-trans}
 use Rattle.std.proofs.lemmas.Grind.{flat_map-append}
 use Rattle.std.proofs.lemmas.List.{take-append-drop, take_all, take_more}
+use Rattle.std.proofs.lemmas.Bool.Decides.{nat_tests}
 use Rattle.lz_slot.specs.declared.header.Header.{Header}
 use Rattle.lz_judge.specs.declared.finding.Finding.{Finding}
-use Rattle.lz_judge.specs.declared.finding.Finding.TheVariants.{Key, BadKey, Twice}
 use Rattle.lz_judge.specs.Surveys.{is_good}
 use Rattle.lz_judge.specs.declared.finding.Survey.{Survey}
 use Rattle.lz_judge.specs.declared.finding.Survey.TheVariants.{Found}
 use Rattle.lz_proto.specs.Steps.{IsCutShort, SendTells}
 use Rattle.lz_proto.specs.declared.fault.SessionFault.{SessionFault}
-use Rattle.lz_proto.specs.declared.fault.SessionFault.TheVariants.{Read, Write, Memory}
+use Rattle.lz_proto.specs.declared.fault.SessionFault.TheVariants.{Write}
 use Rattle.lazyset_offline.specs.Checks.{end_text, found_status, found_text, head_text, line_of, shown_text, survey_status}
 use Rattle.lazyset_offline.specs.Tellings.{IsSentTo, SentOrCut, Tells, status_sent}
 use Rattle.lazyset_offline.specs.declared.shown.Shown.{Shown}
-use Rattle.lazyset_offline.specs.declared.shown.Shown.TheVariants.{Findings, Keys, Counts}
+use Rattle.lazyset_offline.specs.declared.shown.Shown.TheVariants.{Counts}
 use Rattle.lazyset_offline.specs.declared.status.Status.{Status}
 use Rattle.lazyset_offline.proofs.SentTexts.{sent_less, sent_more}
 
@@ -25,19 +25,13 @@ pub cut_within : (before after : Option (List ℕ)) (text more : List ℕ) → I
 cut_within before after text more cut = sent_less before after text more Write cut
 
 pub sent_or_cut : (before after : Option (List ℕ)) (text : List ℕ) (r : Result (Unit {0}) SessionFault) → SendTells before after text r → SentOrCut before after text r
-sent_or_cut before after text (Ok done) sent = sent
-sent_or_cut before after text (Err Read) sent = absurd sent
-sent_or_cut before after text (Err Write) sent = sent
-sent_or_cut before after text (Err Memory) sent = absurd sent
+sent_or_cut before after text r sent = grind (arith, nat_tests)
 
 pub cut_tells : (before after : Option (List ℕ)) (text : List ℕ) (fault : SessionFault) → SendTells before after text (Err fault) → IsCutShort before after text
-cut_tells before after text Read sent = absurd sent
-cut_tells before after text Write sent = sent
-cut_tells before after text Memory sent = absurd sent
+cut_tells before after text fault sent = grind (arith, nat_tests)
 
 pub or_cut_tells : (before after : Option (List ℕ)) (text : List ℕ) (told : Status) (r : Result (Unit {0}) SessionFault) → SentOrCut before after text r → Tells before after text told (status_sent r told)
-or_cut_tells before after text told (Ok done) sent = inl (sent, refl)
-or_cut_tells before after text told (Err fault) cut = inr (cut, refl)
+or_cut_tells before after text told r sent = grind (arith, nat_tests)
 
 module _ (before mid : Option (List ℕ)) (text page : List ℕ) (h : IsSentTo before mid text page) where
   -- the text goes on
@@ -72,7 +66,7 @@ module _ (shown : Shown) (found : List Finding) where
       ∙ flat_map-append (line_of shown) (take i found) (finding ∷ []) ∙ ap (λ (x : List ℕ). lines_to i ++ x) (one_line finding)
 
   pub lines_step : (first : List ℕ) (i : ℕ) (finding : Finding) → i < length found → finding ≡ get_or found i finding → (first ++ lines_to i) ++ line_of shown finding ≡ first ++ lines_to (i + 1)
-  lines_step first i finding lt at = append_assoc first (lines_to i) (line_of shown finding) ∙ ap (λ (x : List ℕ). first ++ x) (sym (lines_more i finding lt at))
+  lines_step first i finding lt at = grind (arith, nat_tests, append_assoc, lines_more)
 
   pub lines_all : (i : ℕ) → length found ≤ i → lines_to i ≡ flat_map (line_of shown) found
   lines_all i end = ap (flat_map (line_of shown)) (take_all i found end)
@@ -87,31 +81,14 @@ module _ (shown : Shown) (found : List Finding) where
 
 no_lines : (found : List Finding) → flat_map (line_of Counts) found ≡ []
 no_lines [] = refl
-no_lines (Key i k ∷ found) = no_lines found
-no_lines (BadKey i ∷ found) = no_lines found
-no_lines (Twice i first ∷ found) = no_lines found
+no_lines (e ∷ found) = grind (arith, nat_tests, no_lines found)
 
 pub found_parts : (shown : Shown) (header : Header) (found : List Finding) → head_text shown header found ++ flat_map (line_of shown) found ≡ found_text shown header found
-found_parts Findings header found = refl
-found_parts Keys header found = refl
-found_parts Counts header found = ap (λ (x : List ℕ). head_text Counts header found ++ x) (no_lines found) ∙ append-nil (head_text Counts header found)
+found_parts shown header found = grind (arith, nat_tests, no_lines, append-nil)
 
 -- what was told of a survey
 module _ (shown : Shown) (header : Header) (findings : Vec Finding Global) where
-  page_text : (page : List ℕ) (one other : List Finding) (good is : Bool) → page ≡ head_text shown header one → one ≡ findings.items → other ≡ findings.items → good ≡ is
-      → page ++ flat_map (line_of shown) other ++ end_text shown good ≡ found_text shown header findings.items ++ end_text shown is
-  page_text page one other good is head same also told =
-      (λ i. (head i ++ flat_map (line_of shown) (also i)) ++ end_text shown (told i))
-      ∙ ap (λ (found : List Finding). (head_text shown header found ++ flat_map (line_of shown) findings.items) ++ end_text shown is) same
-      ∙ ap (λ (x : List ℕ). x ++ end_text shown is) (found_parts shown header findings.items)
-
   pub found_told : (survey : Survey) → survey ≡ Found header findings → (page : List ℕ) (one other : List Finding) (good : Bool) (r : Result (Unit {0}) SessionFault) (state status : Status) (before after : Option (List ℕ))
       → page ≡ head_text shown header one → one ≡ findings.items → other ≡ findings.items → good ≡ is_good survey → SentOrCut before after (page ++ flat_map (line_of shown) other ++ end_text shown good) r
       → state ≡ found_status good → status ≡ status_sent r state → Tells before after (shown_text shown survey) (survey_status survey) status
-  found_told survey is page one other good r state status before after head same also told sent ends tells =
-      let same_good : good ≡ is_good (Found header findings) = told ∙ ap is_good is in
-      let text = page_text page one other good (is_good (Found header findings)) head same also same_good in
-      let all = or_cut_tells before after (shown_text shown (Found header findings)) (found_status good) r (subst (λ (t : List ℕ). SentOrCut before after t r) text sent) in
-      subst (λ (s : Survey). Tells before after (shown_text shown s) (survey_status s) status) (sym is)
-      (subst (λ (s : Status). Tells before after (shown_text shown (Found header findings)) (found_status (is_good (Found header findings))) s) (sym (tells ∙ ap (status_sent r) ends))
-      (subst (λ (b : Bool). Tells before after (shown_text shown (Found header findings)) (found_status b) (status_sent r (found_status good))) same_good all))
+  found_told survey is page one other good r state status before after head same also told sent ends tells = grind (arith, nat_tests, found_parts, or_cut_tells)

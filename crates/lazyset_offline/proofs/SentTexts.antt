@@ -1,9 +1,10 @@
 -- What was sent of texts, one after the other.
-use Rattle.std.proofs.Common.{◌≡◌, is_ok, true, false, ◌⊎◌, inl, inr, ⊎_elim, ℕ, ◌+◌, List, [], ◌∷◌, ◌++◌, codes, decimal, length, take, Option, Result, Ok, Err, refl, sym, ◌∙◌, subst, arith, length-append}
+use Rattle.std.proofs.Common.{◌≡◌, is_ok, true, false, ◌⊎◌, inl, inr, ⊎_elim, ℕ, ◌+◌, List, [], ◌∷◌, ◌++◌, codes, decimal, length, take, Option, Result, Ok, Err, sym, ◌∙◌, subst, arith, length-append}
 use Rattle.std.proofs.Math.Seq.{take-append-add}
 use Rattle.std.proofs.lemmas.List.{take-append-le}
 use Rattle.std.specs.Io.KnownBytes.{Appends, Keeps}
-use Rattle.std.proofs.KnownBytes.{Appends-kept, Appends-trans}
+use Rattle.std.proofs.KnownBytes.{Appends-trans}
+use Rattle.std.proofs.lemmas.Bool.Decides.{nat_tests}
 use Rattle.lz_proto.specs.Steps.{SendTells}
 use Rattle.lz_proto.specs.declared.fault.SessionFault.{SessionFault}
 use Rattle.lz_proto.specs.declared.fault.SessionFault.TheVariants.{Read, Write, Memory}
@@ -28,13 +29,7 @@ sent_more old mid new first second (Err Write) p (n, less, q) = (
 
 -- a part of a text was sent, and nothing of what follows it
 pub sent_less : (old new : Option (List ℕ)) (first second : List ℕ) (fault : SessionFault) → SendTells old new first (Err fault) → SendTells old new (first ++ second) (Err fault)
-sent_less old new first second Read q = absurd q
-sent_less old new first second Memory q = absurd q
-sent_less old new first second Write (n, less, q) = (
-  n,
-  omega (arith, length-append first second),
-  subst (λ (t : List ℕ). Appends old new t) (sym (take-append-le n first second (omega arith))) q,
-)
+sent_less old new first second fault q = grind (arith, nat_tests, length-append, take-append-le)
 
 -- a text was sent whole, and then one that is this, or a part of it
 pub sent_after : (old mid new : Option (List ℕ)) (first second text : List ℕ) (r : Result (Unit {0}) SessionFault) → Appends old mid first → text ≡ second → SendTells mid new text r → SendTells old new (first ++ second) r
@@ -42,10 +37,7 @@ sent_after old mid new first second text r p is q = sent_more old mid new first 
 
 -- the status of a command that sent its text so
 pub sent_tells : (old new : Option (List ℕ)) (text : List ℕ) (told : Status) (r : Result (Unit {0}) SessionFault) → SendTells old new text r → Tells old new text told (status_sent r told)
-sent_tells old new text told (Ok done) p = inl (p, refl)
-sent_tells old new text told (Err Read) p = absurd p
-sent_tells old new text told (Err Write) p = inr (p, refl)
-sent_tells old new text told (Err Memory) p = absurd p
+sent_tells old new text told r p = grind (arith, nat_tests)
 
 -- a text that couldn't be told whole fails the command
 pub told_either : (old new : Option (List ℕ)) (text : List ℕ) (told state : Status) → Tells old new text told state → (state ≡ status.Failed) ⊎ ((state ≡ told) × Appends old new text)
@@ -63,14 +55,9 @@ only_failed state ends = ⊎_elim (λ failed. failed) (λ told. told.0) ends
 pub told_refused : (old new : Option (List ℕ)) (text : List ℕ) (told state : Status) → Tells old new text told state → state ≡ status.Refused → Appends old new text × (told ≡ status.Refused)
 told_refused old new text told state tells is = ⊎_elim (λ whole. (whole.0, sym whole.1 ∙ is)) (λ part. absurd (let never : status.Failed ≡ status.Refused = sym part.1 ∙ is in cc)) tells
 
-open_ends : (fault : OpenFault) → (open_status fault ≡ status.Refused) ⊎ (open_status fault ≡ status.Failed)
-open_ends opening.Device = inr refl
-open_ends opening.Memory = inr refl
-open_ends fault = inl refl
-
 -- how a refused open ends
 pub refusal_ends : (old new : Option (List ℕ)) (text : List ℕ) (fault : OpenFault) (state : Status) → Tells old new text (open_status fault) state → (state ≡ status.Refused) ⊎ (state ≡ status.Failed)
-refusal_ends old new text fault state tells = ⊎_elim (λ whole. ⊎_elim (λ is. inl (whole.1 ∙ is)) (λ is. inr (whole.1 ∙ is)) (open_ends fault)) (λ part. inr part.1) tells
+refusal_ends old new text fault state tells = grind (arith, nat_tests)
 
 -- the line of a refusal by its number
 pub number_tells : (old new : Option (List ℕ)) (told : Status) (r : Result (Unit {0}) SessionFault) (n number : ℕ) → n ≡ number → SendTells old new (codes "refused " ++ decimal n ++ 10 ∷ []) r
@@ -79,12 +66,8 @@ number_tells old new told r n number is sent = sent_tells old new (refused_text 
 
 -- a flush changes nothing of what was sent whole
 pub flushed_whole : (old mid new : Option (List ℕ)) (text : List ℕ) (r : Result (Unit {0}) SessionFault) → SendTells old mid text r → Keeps mid new → is_ok r ≡ true → SendTells old new text (Ok tt)
-flushed_whole old mid new text (Ok done) p kept whole = Appends-kept old mid new text p kept
-flushed_whole old mid new text (Err fault) p kept whole = absurd (let e : false ≡ true = whole in cc)
+flushed_whole old mid new text r p kept whole = grind (arith, nat_tests)
 
 -- nor of what was cut short
 pub flushed_part : (old mid new : Option (List ℕ)) (text : List ℕ) (r : Result (Unit {0}) SessionFault) → SendTells old mid text r → Keeps mid new → is_ok r ≡ false → SendTells old new text (Err Write)
-flushed_part old mid new text (Ok done) p kept part = absurd (let e : true ≡ false = part in cc)
-flushed_part old mid new text (Err Read) p kept part = absurd p
-flushed_part old mid new text (Err Write) (n, less, p) kept part = (n, less, Appends-kept old mid new (take n text) p kept)
-flushed_part old mid new text (Err Memory) p kept part = absurd p
+flushed_part old mid new text r p kept part = grind (arith, nat_tests)

@@ -1,9 +1,9 @@
 -- The keys that are shown of a file are a list just where the file holds a set.
-use Rattle.std.proofs.Common.{◌≡◌, ℕ, ◌-◌, ◌<◌, ◌≤◌, Bool, true, false, List, [], ◌∷◌, ◌++◌, length, take, get_or, codes, nat_eq, IsTrue, Ok, Err, refl, sym, ap, subst, ◌∙◌, arith, append_assoc}
-use Rattle.std.specs.Prelude.{All, map, ◌&&◌, ◌==◌, nat_lt}
+use Rattle.std.proofs.Common.{◌≡◌, ℕ, ◌≤◌, Bool, true, false, List, [], ◌∷◌, ◌++◌, length, codes, nat_eq, IsTrue, Ok, Err, refl, sym, ap, subst, ◌∙◌, arith, append_assoc}
+use Rattle.std.specs.Prelude.{All, map}
 use Rattle.std.specs.Fmt.{digits}
-use Rattle.std.specs.List.{flat_map, list_any}
-use Rattle.std.proofs.lemmas.Bool.{and_parts, cond_both, eqb-true, eq-eqb}
+use Rattle.std.specs.List.{flat_map}
+use Rattle.std.proofs.lemmas.Bool.{and_parts, cond_both, eq-eqb}
 use Rattle.std.proofs.lemmas.Bool.Decides.{nat_tests}
 use Rattle.std.proofs.lemmas.List.{append-nil}
 use Rattle.std.proofs.lemmas.List.Elements.{All-head, All-tail, All-weaker}
@@ -11,9 +11,8 @@ use Rattle.std.proofs.lemmas.List.Folds.{list_any_at}
 use Rattle.lz_slot.specs.Rooms.{largest_of, last_room_of}
 use Rattle.lz_slot.specs.Sets.{Keys as SetOf, members}
 use Rattle.lz_slot.specs.Bytes.{Holds, format_of, header_fault_number, header_read, held, slot_at, slot_bytes}
-use Rattle.lz_slot.specs.Texts.{Spells, key_read, key_text}
+use Rattle.lz_slot.specs.Texts.{key_read, key_text}
 use Rattle.lz_slot.specs.declared.format.Format.{Format}
-use Rattle.lz_slot.specs.declared.format.Format.TheVariants.{One, Two, Three}
 use Rattle.lz_slot.specs.declared.header.HeaderFault.{HeaderFault}
 use Rattle.lz_slot.specs.declared.header.HeaderFault.TheVariants as head
 use Rattle.lz_slot.specs.declared.slot.SlotRead.TheVariants as read
@@ -46,23 +45,14 @@ key_line k = key_text k ++ line_feed ∷ []
 
 -- the text of a key has no carriage return at its end
 kept : (line : List ℕ) → Lacks 13 line → without_return line ≡ line
-kept line lacks =
-    cond_both (nat_lt 0 (length line) && (get_or line (length line - 1) 0 == 13)) (take (length line - 1) line) line (λ (l : List ℕ). l ≡ line)
-    (λ both.
-    let parts = and_parts (nat_lt 0 (length line)) (get_or line (length line - 1) 0 == 13) both in
-    let some : 0 < length line = let e = parts.0 in grind (arith, nat_tests, e) in
-    let last : get_or line (length line - 1) 0 ≡ 13 = eqb-true (get_or line (length line - 1) 0) 13 parts.1 in
-    let there : list_any (nat_eq 13) line ≡ true = list_any_at (nat_eq 13) line (length line - 1) 0 (omega (arith, some)) (eq-eqb 13 (get_or line (length line - 1) 0) (sym last)) in
-    absurd (let e : true ≡ false = sym there ∙ lacks in cc))
-    (λ other. refl)
+kept line lacks = grind (arith, nat_tests, cond_both, and_parts, nat_eq, list_any_at, eq-eqb)
 
 module _ (format : Format) where
   line_clear : (k : ℕ) → k ≤ largest_of format → has_line_feed (key_text k) ≡ false
   line_clear k fits = key_text_lacks 10 k refl refl (key_of_format format k fits)
 
   line_spells : (k : ℕ) → k ≤ largest_of format → SpellsKey format (key_text k) k
-  line_spells k fits =
-      (fits, subst (λ (l : List ℕ). Spells l k) (sym (kept (key_text k) (key_text_lacks 13 k refl refl (key_of_format format k fits)))) (written_keys_are_spelled k))
+  line_spells k fits = grind (arith, nat_tests, kept, key_text_lacks, key_of_format, written_keys_are_spelled)
 
   -- keys that are written one a line are read again
   written_lines : (ks : List ℕ) → All (λ k. k ≤ largest_of format) ks → Spelled format (flat_map key_line ks) ks
@@ -72,18 +62,6 @@ module _ (format : Format) where
       subst (λ (text : List ℕ). Spelled format text (k ∷ ks)) (sym (append_assoc (key_text k) (line_feed ∷ []) (flat_map key_line ks)))
       (more (key_text k) (flat_map key_line ks) k ks (line_clear k first) (line_spells k first) (written_lines ks (All-tail (λ (k : ℕ). k ≤ largest_of format) k ks fits)))
 
--- a format that has the rooms of another holds its keys
-more_keys : (F G : Format) → last_room_of F ≤ last_room_of G → largest_of F ≤ largest_of G
-more_keys One One rooms = omega arith
-more_keys One Two rooms = omega arith
-more_keys One Three rooms = omega arith
-more_keys Two One rooms = absurd (omega (arith, rooms))
-more_keys Two Two rooms = omega arith
-more_keys Two Three rooms = omega arith
-more_keys Three One rooms = absurd (omega (arith, rooms))
-more_keys Three Two rooms = omega arith
-more_keys Three Three rooms = omega arith
-
 -- how many slots a file has is told by its head
 module _ (t : List ℕ) where
   pub same_slots : (N M : ℕ) (S : SetOf) → header_read t (length t) ≡ Ok N → Holds t M S → M ≡ N
@@ -92,7 +70,7 @@ module _ (t : List ℕ) where
 -- a format that has the rooms of a file
 module _ (t : List ℕ) (F : Format) (rooms : last_room_of (format_of t) ≤ last_room_of F) where
   fits : (k : ℕ) → k ≤ largest_of (format_of t) → k ≤ largest_of F
-  fits k low = let more = more_keys (format_of t) F rooms in omega (arith, low, more)
+  fits k low = grind (arith, nat_tests)
 
   -- what is shown of the findings of a file without damage
   shown_nodes : (found : List Finding) (nodes : List (ℕ × ℕ)) → All (IsFinding (slot_at t)) found → All (λ f. IsTrue (is_sound f)) found → All (λ node. slot_at t node.1 ≡ read.Member node.0) nodes

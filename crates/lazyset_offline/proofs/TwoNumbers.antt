@@ -1,22 +1,18 @@
 -- What was sent of a line of two numbers.
-use Rattle.std.proofs.Common.{◌≡◌, ℕ, List, [], ◌∷◌, ◌++◌, codes, decimal, Option, Result, Err, subst, append_assoc}
+use Rattle.std.proofs.Common.{◌≡◌, ℕ, List, [], ◌∷◌, ◌++◌, codes, decimal, Option, Result, Err, subst, append_assoc, arith}
 use Rattle.std.specs.Io.KnownBytes.{Appends}
+use Rattle.std.proofs.lemmas.Bool.Decides.{nat_tests}
 use Rattle.lz_proto.specs.Steps.{SendTells}
 use Rattle.lz_proto.specs.declared.fault.SessionFault.{SessionFault}
 use Rattle.lazyset_offline.proofs.SentTexts.{sent_less, sent_more}
 
 module _ (words : List ℕ) (n m : ℕ) where
-  regroup : (a b c d : List ℕ) → a ++ ((b ++ c) ++ d) ≡ ((a ++ b) ++ c) ++ d
-  regroup a b c d = simp append_assoc
-
   pub two_sent : (old mid new : Option (List ℕ)) (r : Result (Unit {0}) SessionFault) → Appends old mid (words ++ decimal n) → SendTells mid new (codes " " ++ decimal m ++ 10 ∷ []) r
       → SendTells old new (words ++ decimal n ++ codes " " ++ decimal m ++ 10 ∷ []) r
-  two_sent old mid new r whole sent = subst (λ (t : List ℕ). SendTells old new t r) (regroup (words ++ decimal n) (codes " ") (decimal m) (10 ∷ []))
-      (sent_more old mid new (words ++ decimal n) (codes " " ++ decimal m ++ 10 ∷ []) r whole sent)
+  two_sent old mid new r whole sent = grind (arith, nat_tests, append_assoc, decimal, codes, sent_more)
 
   pub two_cut : (old new : Option (List ℕ)) (fault : SessionFault) → SendTells old new (words ++ decimal n) (Err fault) → SendTells old new (words ++ decimal n ++ codes " " ++ decimal m ++ 10 ∷ []) (Err fault)
-  two_cut old new fault sent = subst (λ (t : List ℕ). SendTells old new t (Err fault)) (regroup (words ++ decimal n) (codes " ") (decimal m) (10 ∷ []))
-      (sent_less old new (words ++ decimal n) (codes " " ++ decimal m ++ 10 ∷ []) fault sent)
+  two_cut old new fault sent = grind (arith, nat_tests, append_assoc, decimal, codes, sent_less)
 
 -- the same numbers by other names
 pub one_same : (words : List ℕ) (n i : ℕ) (old new : Option (List ℕ)) (r : Result (Unit {0}) SessionFault) → n ≡ i → SendTells old new (words ++ decimal n ++ 10 ∷ []) r → SendTells old new (words ++ decimal i ++ 10 ∷ []) r
@@ -24,5 +20,4 @@ one_same words n i old new r is sent = subst (λ (k : ℕ). SendTells old new (w
 
 pub two_same : (words : List ℕ) (n m i j : ℕ) (old new : Option (List ℕ)) (r : Result (Unit {0}) SessionFault) → n ≡ i → m ≡ j
     → SendTells old new (words ++ decimal n ++ codes " " ++ decimal m ++ 10 ∷ []) r → SendTells old new (words ++ decimal i ++ codes " " ++ decimal j ++ 10 ∷ []) r
-two_same words n m i j old new r is also sent =
-    subst (λ (k : ℕ). SendTells old new (words ++ decimal k ++ codes " " ++ decimal j ++ 10 ∷ []) r) is (subst (λ (k : ℕ). SendTells old new (words ++ decimal n ++ codes " " ++ decimal k ++ 10 ∷ []) r) also sent)
+two_same words n m i j old new r is also sent = grind (arith, nat_tests, decimal, codes)

@@ -14,18 +14,13 @@ use Rattle.lz_allot.specs.declared.row.Row.{Row}
 use Rattle.lz_allot.specs.declared.sight.Sight.TheVariants.{Unseen}
 use Rattle.lz_allot.specs.declared.counts.Counts.{Counts}
 use Rattle.lz_allot.specs.Rows.{first_row, row_seen, rows_seen, row_freed, rows_freed, least_left}
-use Rattle.lz_allot.specs.Uses.{Use, Free, Taken, Limbo, use_of, is_free, counts, lowest_free, take_slot, give_back, retire, see_pin, collect}
-use Rattle.lz_allot.specs.Allots.{IsAllot, IsQueue, IsRow, IsTakenAt, first_uses, is_free_kind, kind_at, set_each, use_told, uses_told}
+use Rattle.lz_allot.specs.Uses.{Use, Free, Taken, use_of, is_free, counts, lowest_free, take_slot, give_back, retire, see_pin, collect}
+use Rattle.lz_allot.specs.Allots.{IsAllot, IsQueue, IsTakenAt, first_uses, is_free_kind, kind_at, set_each, use_told, uses_told}
 use Rattle.lz_allot.proofs.FilledPlaces.{length-set_each, map-set_each, set_each_same, set_each_other}
 use Rattle.lz_allot.proofs.ToldUses.{IsPlain, Shows, length_told, use_told_at, shows_told, told_is, queue_set, told_set, queue_pushed, told_pushed}
 use Rattle.lz_allot.proofs.SightChanges.{rows_are_seen, told_seen, sights_fresh, rows_longer}
 use Rattle.lz_allot.proofs.LeftSlots.{IsLeast, least_is, few, queue_dropped, rows_are_freed, told_collected}
 use Rattle.lz_allot.proofs.UseCounts.{position_map, counts_sum, counts_reserved, counts_given_back, counts_retired, limbo_queued, free_told, free_counted, counts_collected, counts_seen, same_counts}
-
-free_is : (x : Use) → is_free x ≡ true → x ≡ Free
-free_is Free is = refl
-free_is Taken is = absurd cc
-free_is (Limbo sights) is = absurd cc
 
 module _ (kinds : List Kind) (free : List Bool) (queue : List ℕ) (capacity : ℕ) (rows : List Row) (counted : Counts)
     (old : IsAllot kinds free queue capacity rows counted) where
@@ -51,41 +46,27 @@ module _ (kinds : List Kind) (free : List Bool) (queue : List ℕ) (capacity : �
       ap (λ (bs : List Bool). position (λ b. b) bs) (old.shows ∙ sym (free_told kinds queue rows (uses_told kinds queue rows) old.is_queue shown))
       ∙ position_map is_free (uses_told kinds queue rows)
 
-  taken_kind : (s : ℕ) → s < length kinds → (k : Kind) → kind_at kinds s ≡ k → use_told queue rows s k ≡ Taken → k ≡ kind.Taken
-  taken_kind s low kind.Free at is = absurd cc
-  taken_kind s low kind.Taken at is = refl
-  taken_kind s low kind.Limbo at is = absurd cc
-
-  free_kind : (s : ℕ) → s < length kinds → (k : Kind) → kind_at kinds s ≡ k → use_told queue rows s k ≡ Free → k ≡ kind.Free
-  free_kind s low kind.Free at is = refl
-  free_kind s low kind.Taken at is = absurd cc
-  free_kind s low kind.Limbo at is = absurd cc
-
   -- a slot is taken where its kind says so
   pub is_taken_kind : (s : ℕ) → s < length kinds → use_of (uses_told kinds queue rows) s ≡ Taken → kind_at kinds s ≡ kind.Taken
-  is_taken_kind s low was = taken_kind s low (kind_at kinds s) refl (sym (use_told_at kinds queue rows s low) ∙ was)
+  is_taken_kind s low was = grind (arith, use_told_at)
 
   pub taken_told : (s : ℕ) → s < length kinds → kind_at kinds s ≡ kind.Taken → use_of (uses_told kinds queue rows) s ≡ Taken
   taken_told s low is = use_told_at kinds queue rows s low ∙ ap (use_told queue rows s) is
 
   -- what a kind that is read tells
   pub tells_taken : (s : ℕ) (k : Kind) (told : Bool) → s < length kinds → k ≡ get_or kinds s k → IsTrue told ↔ (k ≡ kind.Taken) → IsTrue told ↔ IsTakenAt (uses_told kinds queue rows) s
-  tells_taken s k told low at tells =
-      let here : k ≡ kind_at kinds s = get_or_read kinds s k low at kind.Taken in
-      ((λ holds. (omega (arith, size), taken_told s low (sym here ∙ tells.0 holds))), λ taken. tells.1 (here ∙ is_taken_kind s low taken.1))
+  tells_taken s k told low at tells = grind (arith, get_or_read, size, taken_told, is_taken_kind)
 
   -- The lowest free slot is taken.
   module _ (s : ℕ) (lowest : position (λ b. b) free ≡ Some s) where
     found : (s < length (uses_told kinds queue rows)) × (use_of (uses_told kinds queue rows) s ≡ Free)
-    found =
-        let first = position-Some is_free (uses_told kinds queue rows) s Taken (sym lowest_is ∙ lowest) in
-        (first.0, free_is (use_of (uses_told kinds queue rows) s) first.1)
+    found = grind (arith, position-Some, lowest_is)
 
     pub reserved_low : s < length kinds
     reserved_low = omega (arith, found.0, size)
 
     was_free : kind_at kinds s ≢ kind.Limbo
-    was_free limbo = absurd (let e : kind_at kinds s ≡ kind.Free = free_kind s reserved_low (kind_at kinds s) refl (sym (use_told_at kinds queue rows s reserved_low) ∙ found.1) in cc)
+    was_free limbo = grind (arith, reserved_low, use_told_at, found)
 
     pub some_free : 1 ≤ counted.free
     some_free = rw old.sum ((counts_reserved (uses_told kinds queue rows) s found.0 found.1).0)
@@ -134,9 +115,7 @@ module _ (kinds : List Kind) (free : List Bool) (queue : List ℕ) (capacity : �
     has_room = omega (arith, in_limbo, total, some_taken, old.room)
 
     pub told_retired : uses_told (set kinds s kind.Limbo) (queue ++ s ∷ []) rows ≡ retire (length rows) (uses_told kinds queue rows) s
-    told_retired =
-        told_pushed kinds queue rows (uses_told kinds queue rows) old.is_queue shown s taken_low was_taken (Limbo (replicate (length rows) Unseen))
-        (ap (λ sights. Limbo sights) (sym (sights_fresh rows (length queue) old.each)))
+    told_retired = grind (arith, told_pushed, shown, sights_fresh)
 
     same_free : free ≡ map is_free_kind (set kinds s kind.Limbo)
     same_free =
@@ -206,15 +185,9 @@ module _ (kinds : List Kind) (free : List Bool) (queue : List ℕ) (capacity : �
       sum = rw (told_freed, old.sum) (sym (counts_collected (uses_told kinds queue rows) k limbo_freed));
     }
 
-  row_kept : (row : Row) → row_freed 0 row ≡ row
-  row_kept row =
-      let met : row.met - 0 ≡ row.met = omega arith in
-      let left : row.left - 0 ≡ row.left = omega arith in
-      rw (met, left) refl
-
   rows_kept : (xs : List Row) → rows_freed 0 xs ≡ xs
   rows_kept [] = refl
-  rows_kept (x ∷ xs) = ap (λ (row : Row). row ∷ rows_freed 0 xs) (row_kept x) ∙ ap (λ (ys : List Row). x ∷ ys) (rows_kept xs)
+  rows_kept (x ∷ xs) = grind (arith, rows_kept xs)
 
   -- No slot is freed.
   module _ (none : 0 ≡ least_left rows) where
@@ -252,29 +225,13 @@ module _ (n passes : ℕ) (taken : List ℕ) where
     first_length = length-set_each (replicate n kind.Free) taken kind.Taken ∙ length-replicate n kind.Free
 
     first_at : (s : ℕ) → s < n → kind_at (set_each (replicate n kind.Free) taken kind.Taken) s ≡ (if list_any (λ t. t == s) taken then kind.Taken else kind.Free)
-    first_at s low = ⊎_elim
-        (λ (there : (list_any (λ t. t == s) taken ≡ true) × ((i : ℕ) × (i < length taken) × (get_or taken i 0 ≡ s))).
-        rw there.0 (ap (kind_at (set_each (replicate n kind.Free) taken kind.Taken)) (sym there.1.2)
-        ∙ set_each_same (replicate n kind.Free) taken kind.Taken kind.Taken there.1.0 there.1.1 (omega (arith, inside there.1.0 there.1.1, length-replicate n kind.Free))))
-        (λ (none : (list_any (λ t. t == s) taken ≡ false) × ((i : ℕ) → i < length taken → get_or taken i 0 ≢ s)).
-        rw none.0 (set_each_other (replicate n kind.Free) taken kind.Taken kind.Taken s none.1 ∙ get_or-replicate n s kind.Free kind.Taken low))
-        (any_cases s taken)
+    first_at s low = grind (arith, set_each_same, length-replicate, set_each_other, get_or-replicate, any_cases)
 
     no_queue : IsQueue (set_each (replicate n kind.Free) taken kind.Taken) []
-    no_queue = record {
-      inside = λ i low. absurd (omega arith);
-      queued = λ i low. absurd (omega arith);
-      once = λ i j low low' same. absurd (omega arith);
-      found = λ s lt limbo. absurd (never (list_any (λ t. t == s) taken) (sym (first_at s (omega (arith, first_length))) ∙ limbo));
-    }
-      where
-        never : (b : Bool) → (if b then kind.Taken else kind.Free) ≡ kind.Limbo → ⊥
-        never true is = absurd cc
-        never false is = absurd cc
+    no_queue = grind (arith, first_at, first_length)
 
     first_plain : (s : ℕ) → s < n → (b : Bool) → IsPlain (if b then kind.Taken else kind.Free) (if b then Taken else Free)
-    first_plain s low true = refl
-    first_plain s low false = refl
+    first_plain s low b = grind arith
 
     first_use : (s : ℕ) → s < n → use_of (first_uses n taken) s ≡ (if list_any (λ t. t == s) taken then Taken else Free)
     first_use s low = get_or-map-range_with_len (λ s. if list_any (λ t. t == s) taken then Taken else Free) 0 n s s Taken low (omega arith)
@@ -301,13 +258,4 @@ module _ (n passes : ℕ) (taken : List ℕ) where
     pub allot_first : 1 ≤ n → n ≤ most_slots → 1 ≤ passes → passes ≤ most_passes → (capacity : ℕ) → n ≤ capacity
         → IsAllot (set_each (replicate n kind.Free) taken kind.Taken) (map is_free_kind (set_each (replicate n kind.Free) taken kind.Taken)) [] capacity (replicate passes first_row)
         (record { free = count_by is_free_kind (set_each (replicate n kind.Free) taken kind.Taken); taken = n - count_by is_free_kind (set_each (replicate n kind.Free) taken kind.Taken); limbo = 0 })
-    allot_first some few_slots pass few_passes capacity room = record {
-      size = omega (arith, first_length);
-      passes = omega (arith, length-replicate passes first_row);
-      room = omega (arith, first_length);
-      shows = refl;
-      is_queue = no_queue;
-      each = λ p lt. let low : p < passes = omega (arith, length-replicate passes first_row) in
-          subst (IsRow 0) (sym (get_or-replicate passes p first_row first_row low)) (record { left = omega arith; met = omega arith; is_inside = λ less. absurd (omega arith) });
-      sum = sym (first_counts (replicate passes first_row));
-    }
+    allot_first some few_slots pass few_passes capacity room = grind (arith, first_length, length-replicate, no_queue, get_or-replicate, first_counts)

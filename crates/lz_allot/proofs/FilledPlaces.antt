@@ -1,8 +1,7 @@
 -- Several places of a list that get one value.
-use Rattle.std.proofs.Common.{◌≡◌, ◌≢◌, ⊎_elim, ℕ, zero, suc, ◌+◌, ◌<◌, List, [], ◌∷◌, ◌++◌, length, get_or, set, take, drop, map, refl, sym, ◌∙◌, ap, arith, get_or-set_same, get_or-set_other, length-set}
+use Rattle.std.proofs.Common.{◌≡◌, ◌≢◌, ℕ, zero, suc, ◌+◌, ◌<◌, List, [], ◌∷◌, ◌++◌, length, get_or, set, take, drop, map, refl, sym, ◌∙◌, ap, arith, get_or-set_same, get_or-set_other, length-set}
 use Rattle.std.proofs.lemmas.List.{take_more, map-set, set_past, take_at}
 use Rattle.std.proofs.lemmas.List.Sums.{fold_push}
-use Rattle.std.proofs.lemmas.Bool.{cases_eq, cases_lt}
 use Rattle.lz_allot.specs.Allots.{set_each}
 
 module _ {X : Type 0} where
@@ -24,16 +23,7 @@ module _ {X : Type 0} where
       ∙ get_or-set_other xs p k x d (λ same. other 0 (omega arith) (sym same))
 
   set_stays : (xs : List X) (p k : ℕ) (x d : X) → get_or xs k d ≡ x → get_or (set xs p x) k d ≡ x
-  set_stays xs p k x d is = ⊎_elim
-      (λ low. ⊎_elim
-      (λ same. ap (λ n. get_or (set xs n x) k d) (sym same) ∙ get_or-set_same xs k x d low)
-      (λ other. get_or-set_other xs p k x d other ∙ is)
-      (cases_eq k p))
-      (λ past. ⊎_elim
-      (λ same. ap (λ (ys : List X). get_or ys k d) (set_past xs p x (omega (arith, same))) ∙ is)
-      (λ other. get_or-set_other xs p k x d other ∙ is)
-      (cases_eq k p))
-      (cases_lt k (length xs))
+  set_stays xs p k x d is = grind (arith, get_or-set_same, get_or-set_other, set_past)
 
   stays : (xs : List X) (places : List ℕ) (x d : X) (k : ℕ) → get_or xs k d ≡ x → get_or (set_each xs places x) k d ≡ x
   stays xs [] x d k is = is

@@ -1,9 +1,10 @@
 -- The slots that every pass has left are the first of the queue.
-use Rattle.std.proofs.Common.{◌≡◌, ◌≢◌, ◌⊎◌, inl, inr, ⊎_elim, ℕ, zero, suc, ◌+◌, ◌-◌, ◌<◌, ◌≤◌, min, true, false, List, [], ◌∷◌, length, get_or, take, drop, refl, sym, ◌∙◌, ap, subst, arith}
+use Rattle.std.proofs.Common.{◌≡◌, ◌≢◌, ◌⊎◌, inl, inr, ⊎_elim, ℕ, zero, suc, ◌+◌, ◌-◌, ◌<◌, ◌≤◌, min, true, List, [], ◌∷◌, length, get_or, take, drop, refl, sym, ◌∙◌, ap, subst, arith}
 use Rattle.std.specs.List.{fold, list_all}
 use Rattle.std.proofs.lemmas.List.{same_lists, get_or-map, length-map, get_or-drop, get_or-take, length-drop, length-take-le}
 use Rattle.std.proofs.lemmas.List.Folds.{list_all-map, list_all_at}
 use Rattle.std.proofs.lemmas.Bool.{cases_lt, and_from}
+use Rattle.std.proofs.lemmas.Bool.Decides.{nat_tests}
 use Rattle.lz_allot.specs.declared.kind.Kind.{Kind}
 use Rattle.lz_allot.specs.declared.kind.Kind.TheVariants as kind
 use Rattle.lz_allot.specs.declared.row.Row.{Row}
@@ -13,7 +14,7 @@ use Rattle.lz_allot.specs.Uses.{Use, Free, Taken, Limbo, use_of, has_left, colle
 use Rattle.lz_allot.specs.Allots.{IsQueue, IsRow, kind_at, set_each, sight_at, sights_at, uses_told}
 use Rattle.lz_allot.proofs.FilledPlaces.{length-set_each, set_each_same, set_each_other}
 use Rattle.lz_allot.proofs.ToldUses.{IsPlain, Shows, told_is, not_queued}
-use Rattle.lz_allot.proofs.SightChanges.{at_left, at_met, at_unseen}
+use Rattle.lz_allot.proofs.SightChanges.{at_left}
 
 -- The least of the numbers that the passes have left.
 least_of : ℕ → List Row → ℕ
@@ -27,8 +28,7 @@ least_first n (row ∷ rows) = omega (arith, least_first (min n row.left) rows)
 least_each : (n : ℕ) (rows : List Row) (p : ℕ) → p < length rows → least_of n rows ≤ (get_or rows p first_row).left
 unfolding least_of
 least_each n [] p low = absurd (omega arith)
-least_each n (row ∷ rows) zero low = omega (arith, least_first (min n row.left) rows)
-least_each n (row ∷ rows) (suc p) low = least_each (min n row.left) rows p (omega arith)
+least_each n (row ∷ rows) p low = grind (arith, nat_tests, least_each (min n row.left) rows, least_first, min)
 
 least_reached : (n : ℕ) (rows : List Row) → (least_of n rows ≡ n) ⊎ ((p : ℕ) × (p < length rows) × ((get_or rows p first_row).left ≡ least_of n rows))
 unfolding least_of
@@ -71,56 +71,29 @@ least_is (row ∷ rows) some = record {
 
 -- the sight of a row once slots left the queue before it
 shifted : (k j : ℕ) (row : Row) → k ≤ row.left → row.left ≤ row.met → sight_at (k + j) row ≡ sight_at j (row_freed k row)
-shifted k j row few order =
-    ⊎_elim
-    (λ (less : k + j < row.left). at_left (k + j) row less ∙ sym (at_left j (row_freed k row) (omega arith)))
-    (λ (past : row.left ≤ k + j). ⊎_elim
-    (λ (less : k + j < row.met). at_met (k + j) row past less ∙ sym (at_met j (row_freed k row) (omega arith) (omega arith)))
-    (λ (beyond : row.met ≤ k + j). at_unseen (k + j) row past beyond ∙ sym (at_unseen j (row_freed k row) (omega arith) (omega arith)))
-    (cases_lt (k + j) row.met))
-    (cases_lt (k + j) row.left)
+shifted k j row few order = grind arith
 
 all_pass : (rows : List Row) (i : ℕ) → ((p : ℕ) → p < length rows → i < (get_or rows p first_row).left) → list_all has_left (sights_at i rows) ≡ true
 all_pass [] i each = refl
 all_pass (row ∷ rows) i each =
     and_from (has_left (sight_at i row)) (list_all has_left (sights_at i rows)) (ap has_left (at_left i row (each 0 (omega arith)))) (all_pass rows i (λ p low. each (suc p) (omega arith)))
 
-still_here : (i : ℕ) (row : Row) → row.left ≤ i → has_left (sight_at i row) ≡ false
-still_here i row past =
-    ⊎_elim
-    (λ (less : i < row.met). ap has_left (at_met i row past less))
-    (λ (beyond : row.met ≤ i). ap has_left (at_unseen i row past beyond))
-    (cases_lt i row.met)
-
 freed_at : (sights : List Sight) → list_all has_left sights ≡ true → collect_at (Limbo sights) ≡ Free
 freed_at sights all = rw all refl
-
-kept_at : (sights : List Sight) → list_all has_left sights ≡ false → collect_at (Limbo sights) ≡ Limbo sights
-kept_at sights some = rw some refl
 
 module _ (kinds : List Kind) (queue : List ℕ) (rows : List Row) (uses : List Use) (is : IsQueue kinds queue) (shows : Shows kinds queue rows uses)
     (each : (p : ℕ) → p < length rows → IsRow (length queue) (get_or rows p first_row)) (k : ℕ) (least : IsLeast rows k) where
   pub few : k ≤ length queue
   few = let row = each least.pass least.low in omega (arith, least.reached, row.left, row.met)
 
-  first_length : length (take k queue) ≡ k
-  first_length = length-take-le k queue few
-
-  first_at : (i : ℕ) → i < k → get_or (take k queue) i 0 ≡ get_or queue i 0
-  first_at i low = get_or-take k queue i 0 low
-
   kind_first : (i : ℕ) → i < k → kind_at (set_each kinds (take k queue) kind.Free) (get_or queue i 0) ≡ kind.Free
-  kind_first i low =
-      ap (kind_at (set_each kinds (take k queue) kind.Free)) (sym (first_at i low))
-      ∙ set_each_same kinds (take k queue) kind.Free kind.Taken i (omega (arith, first_length)) (omega (arith, first_at i low, is.inside i (omega (arith, few))))
+  kind_first i low = grind (arith, get_or-take, set_each_same, length-take-le)
 
   kind_other : (s : ℕ) → ((i : ℕ) → i < k → get_or queue i 0 ≢ s) → kind_at (set_each kinds (take k queue) kind.Free) s ≡ kind_at kinds s
-  kind_other s other = set_each_other kinds (take k queue) kind.Free kind.Taken s (λ i lt same. let low : i < k = omega (arith, first_length) in other i low (sym (first_at i low) ∙ same))
+  kind_other s other = grind (arith, nat_tests, set_each_other, length-take-le, few, get_or-take)
 
   later_kind : (i : ℕ) → k ≤ i → i < length queue → kind_at (set_each kinds (take k queue) kind.Free) (get_or queue i 0) ≡ kind.Limbo
-  later_kind i past low =
-      kind_other (get_or queue i 0) (λ j less same. absurd (let e : j ≡ i = is.once j i (omega (arith, few)) low same in omega arith))
-      ∙ is.queued i low
+  later_kind i past low = grind (arith, kind_other)
 
   plain_kind : (s : ℕ) → kind_at kinds s ≢ kind.Limbo → kind_at (set_each kinds (take k queue) kind.Free) s ≡ kind_at kinds s
   plain_kind s plain = kind_other s (λ i low. not_queued kinds queue rows is s i plain (omega (arith, few)))
@@ -144,9 +117,7 @@ module _ (kinds : List Kind) (queue : List ℕ) (rows : List Row) (uses : List U
   queue_dropped = record {
     inside = λ j lt. omega (arith, dropped_at j, dropped_length, is.inside (k + j) (omega (arith, dropped_length)), length-set_each kinds (take k queue) kind.Free);
     queued = λ j lt. ap (kind_at (set_each kinds (take k queue) kind.Free)) (dropped_at j) ∙ later_kind (k + j) (omega arith) (omega (arith, dropped_length));
-    once = λ i j lt lt' same.
-        let both : k + i ≡ k + j = is.once (k + i) (k + j) (omega (arith, dropped_length)) (omega (arith, dropped_length)) (sym (dropped_at i) ∙ same ∙ dropped_at j) in
-        omega arith;
+    once = grind (arith, nat_tests, dropped_length, dropped_at);
     found = λ s lt limbo. found s (omega (arith, length-set_each kinds (take k queue) kind.Free)) (kind_at kinds s) refl limbo;
   }
     where
@@ -189,36 +160,14 @@ module _ (kinds : List Kind) (queue : List ℕ) (rows : List Row) (uses : List U
   first_collected i less = freed_at (sights_at i rows) (all_pass rows i (λ p low. omega (arith, least.each p low)))
 
   later_kept : (i : ℕ) → k ≤ i → collect_at (Limbo (sights_at i rows)) ≡ Limbo (sights_at i rows)
-  later_kept i past =
-      kept_at (sights_at i rows) (list_all-map has_left (sight_at i) rows
-      ∙ list_all_at (λ row. has_left (sight_at i row)) rows least.pass first_row least.low (still_here i (get_or rows least.pass first_row) (omega (arith, least.reached))))
+  later_kept i past = grind (arith, list_all-map, list_all_at)
 
   collected_at : (s : ℕ) → s < length kinds → use_of (collect uses) s ≡ collect_at (use_of uses s)
   collected_at s low = get_or-map collect_at uses s Taken Taken (omega (arith, shows.size))
 
   plain_collected : (s : ℕ) → s < length kinds → (was : Kind) → kind_at kinds s ≡ was → IsPlain was (use_of uses s)
       → IsPlain (kind_at (set_each kinds (take k queue) kind.Free) s) (use_of (collect uses) s)
-  plain_collected s low kind.Free was plain =
-      rw (plain_kind s (λ never. absurd (cc)) ∙ was, collected_at s low) (ap collect_at plain)
-  plain_collected s low kind.Taken was plain =
-      rw (plain_kind s (λ never. absurd (cc)) ∙ was, collected_at s low) (ap collect_at plain)
-  plain_collected s low kind.Limbo was plain = ⊎_elim
-      (λ (early : (i : ℕ) × (i < k) × (get_or queue i 0 ≡ s)).
-      rw (ap (kind_at (set_each kinds (take k queue) kind.Free)) (sym early.2) ∙ kind_first early.0 early.1, collected_at s low)
-      (ap collect_at (ap (use_of uses) (sym early.2) ∙ shows.limbo early.0 (omega (arith, early.1, few))) ∙ first_collected early.0 early.1))
-      (λ (late : (i : ℕ) × (k ≤ i) × (i < length queue) × (get_or queue i 0 ≡ s)).
-      rw (ap (kind_at (set_each kinds (take k queue) kind.Free)) (sym late.3) ∙ later_kind late.0 late.1 late.2) tt)
-      (where_is s low was)
+  plain_collected s low was is plain = grind (arith, plain_kind, collected_at, kind_first, first_collected, later_kind, where_is)
 
   pub told_collected : uses_told (set_each kinds (take k queue) kind.Free) (drop k queue) (rows_freed k rows) ≡ collect uses
-  told_collected = told_is (set_each kinds (take k queue) kind.Free) (drop k queue) (rows_freed k rows) queue_dropped (collect uses) (record {
-    size = length-map uses collect_at ∙ shows.size ∙ sym (length-set_each kinds (take k queue) kind.Free);
-    plain = λ s lt. let low : s < length kinds = omega (arith, length-set_each kinds (take k queue) kind.Free) in plain_collected s low (kind_at kinds s) refl (shows.plain s low);
-    limbo = λ j lt.
-        let low : k + j < length queue = omega (arith, dropped_length) in
-        ap (use_of (collect uses)) (dropped_at j)
-        ∙ collected_at (get_or queue (k + j) 0) (is.inside (k + j) low)
-        ∙ ap collect_at (shows.limbo (k + j) low)
-        ∙ later_kept (k + j) (omega arith)
-        ∙ ap (λ (sights : List Sight). Limbo sights) (sights_dropped j);
-  })
+  told_collected = grind (arith, told_is, queue_dropped, length-map, length-set_each, plain_collected, dropped_length, dropped_at, collected_at, later_kept, sights_dropped)

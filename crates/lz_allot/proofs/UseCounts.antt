@@ -1,15 +1,16 @@
 -- How many slots are free, taken and in limbo.
 use Rattle.std.proofs.Common.{◌≡◌, ◌≢◌, ⊎_elim, ℕ, zero, suc, ◌+◌, ◌-◌, ◌<◌, ◌≤◌, Bool, true, false, not, cond, List, [], ◌∷◌, length, get_or, set, map, refl, sym, ◌∙◌, ap, arith, get_or-set_same, get_or-set_other, length-set}
-use Rattle.std.specs.List.{count_by, list_all, position, prefix_len}
+use Rattle.std.specs.List.{count_by, position, prefix_len}
 use Rattle.std.proofs.lemmas.List.{ext_get_or, get_or-map, length-map}
 use Rattle.std.proofs.lemmas.List.Sums.{sum_by-cons, sum_by-set}
 use Rattle.std.proofs.lemmas.Bool.{cases_eq, cases_Bool}
+use Rattle.std.proofs.lemmas.Grind.{common_steps, elements}
 use Rattle.lz_allot.specs.declared.kind.Kind.{Kind}
 use Rattle.lz_allot.specs.declared.kind.Kind.TheVariants as kind
 use Rattle.lz_allot.specs.declared.row.Row.{Row}
 use Rattle.lz_allot.specs.declared.sight.Sight.{Sight}
 use Rattle.lz_allot.specs.declared.counts.Counts.{Counts}
-use Rattle.lz_allot.specs.Uses.{Use, Free, Taken, Limbo, use_of, is_free, is_taken, is_limbo, has_left, collect_at, collect, see_pin_at, see_pin, counts}
+use Rattle.lz_allot.specs.Uses.{Use, Free, Taken, Limbo, use_of, is_free, is_taken, is_limbo, collect, see_pin, counts}
 use Rattle.lz_allot.specs.Allots.{IsQueue, kind_at, is_free_kind}
 use Rattle.lz_allot.proofs.ToldUses.{IsPlain, Shows}
 
@@ -66,18 +67,10 @@ module _ {X : Type 0} (p : X → Bool) where
 
   -- elements are changed, and pass as before
   count_kept : (f : X → X) → ((x : X) → p (f x) ≡ p x) → (xs : List X) → count_by p (map f xs) ≡ count_by p xs
-  count_kept f same [] = refl
-  count_kept f same (x ∷ xs) =
-      count_cons (f x) (map f xs)
-      ∙ rw (same x, count_kept f same xs) refl
-      ∙ sym (count_cons x xs)
+  count_kept f same xs = grind (arith, common_steps, elements)
 
   count_map : (xs : List X) → count_by (λ b. b) (map p xs) ≡ count_by p xs
-  count_map [] = refl
-  count_map (x ∷ xs) =
-      sum_by-cons (λ (b : Bool). cond b 1 0) (p x) (map p xs)
-      ∙ ap (λ (n : ℕ). cond (p x) 1 0 + n) (count_map xs)
-      ∙ sym (sum_by-cons (λ x. cond (p x) 1 0) x xs)
+  count_map xs = grind (arith, common_steps, elements)
 
   prefix_map : (xs : List X) → prefix_len (λ b. not b) (map p xs) ≡ prefix_len (λ x. not (p x)) xs
   prefix_map [] = refl
@@ -152,41 +145,12 @@ free_counted uses kinds same = sym (count_map is_free uses) ∙ ap (λ (bs : Lis
 
 -- no slot is taken or given back by a collecting
 pub taken_collected : (uses : List Use) → (counts (collect uses)).taken ≡ (counts uses).taken
-taken_collected uses = count_kept is_taken collect_at same uses
-  where
-    same : (x : Use) → is_taken (collect_at x) ≡ is_taken x
-    same Free = refl
-    same Taken = refl
-    same (Limbo sights) = ⊎_elim
-        (λ (all : list_all has_left sights ≡ true). rw all refl)
-        (λ (some : list_all has_left sights ≡ false). rw some refl)
-        (cases_Bool (list_all has_left sights))
+taken_collected uses = grind (arith, count_kept)
 
 pub counts_collected : (uses : List Use) (freed : ℕ) → (counts (collect uses)).limbo + freed ≡ (counts uses).limbo
     → counts (collect uses) ≡ record { free = (counts uses).free + freed; taken = (counts uses).taken; limbo = (counts uses).limbo - freed }
-counts_collected uses freed fewer =
-    let sum = counts_sum uses in
-    let sum' = counts_sum (collect uses) in
-    let size = length-map uses collect_at in
-    let taken = taken_collected uses in
-    same_counts _ _ (omega arith) taken (omega arith)
+counts_collected uses freed fewer = grind (arith, counts_sum, length-map, taken_collected)
 
 -- a pin that is seen changes no slot's use but for its sights
 pub counts_seen : (pass pin : ℕ) (uses : List Use) → counts (see_pin pass pin uses) ≡ counts uses
-counts_seen pass pin uses =
-    same_counts _ _ (count_kept is_free (see_pin_at pass pin) free uses) (count_kept is_taken (see_pin_at pass pin) taken uses) (count_kept is_limbo (see_pin_at pass pin) limbo uses)
-  where
-    free : (x : Use) → is_free (see_pin_at pass pin x) ≡ is_free x
-    free Free = refl
-    free Taken = refl
-    free (Limbo sights) = refl
-
-    taken : (x : Use) → is_taken (see_pin_at pass pin x) ≡ is_taken x
-    taken Free = refl
-    taken Taken = refl
-    taken (Limbo sights) = refl
-
-    limbo : (x : Use) → is_limbo (see_pin_at pass pin x) ≡ is_limbo x
-    limbo Free = refl
-    limbo Taken = refl
-    limbo (Limbo sights) = refl
+counts_seen pass pin uses = grind (arith, count_kept)

@@ -1,7 +1,6 @@
 -- The nodes of a chain, by key and by slot.
 use Rattle.std.proofs.Common.{◌≡◌, ℕ, ◌≤◌, ◌<◌, true, false, ◌||◌, [], ◌∷◌, ◌++◌, refl, arith}
 use mathlib.Core.Bool.{false≢true}
-use Rattle.std.proofs.lemmas.Bool.Decides.{nat_tests}
 use Rattle.lz_slot.specs.Nodes.{has_node}
 use Rattle.lz_list.specs.Traces.{Chain, has_key, has_slot, bucket_of}
 
@@ -13,11 +12,11 @@ bucket_low buckets k some = omega (arith, some)
 -- the slot of a chain's node is one of the chain's
 pub node_slot : (k s : ℕ) (es : Chain) → has_node k s es ≡ true → has_slot s es ≡ true
 node_slot k s [] there = absurd (false≢true there)
-node_slot k s (f ∷ es) there = grind (arith, nat_tests, node_slot k s es)
+node_slot k s (f ∷ es) there = grind (arith, node_slot k s es)
 
 pub node_has_key : (k s : ℕ) (c : Chain) → has_node k s c ≡ true → has_key k c ≡ true
 node_has_key k s [] has = has
-node_has_key k s (f ∷ c) has = grind (arith, nat_tests, node_has_key k s c)
+node_has_key k s (f ∷ c) has = grind (arith, node_has_key k s c)
 
 pub has_key_append : (k : ℕ) (c d : Chain) → has_key k (c ++ d) ≡ (has_key k c || has_key k d)
 has_key_append k [] d = refl

@@ -1,14 +1,13 @@
 -- Chains that words show: there is one for each bucket, and where its places stand.
 use Rattle.std.proofs.Common.{◌≡◌, ◌≢◌, inl, inr, ℕ, suc, ◌<◌, true, [], ◌∷◌, length, refl, sym, ap, ◌∙◌, subst, arith}
 use Rattle.std.proofs.lemmas.Bool.{cases_eq}
-use Rattle.std.proofs.lemmas.Bool.Decides.{nat_tests, eqb_tells, leb_tells}
+use Rattle.std.proofs.lemmas.Bool.Decides.{nat_tests}
 use Rattle.lz_list.specs.declared.place.Place.{Place}
-use Rattle.lz_list.specs.declared.place.Place.TheVariants.{Bucket, Node}
 use Rattle.lz_list.specs.declared.word.Word.TheVariants.{Key}
 use Rattle.lz_list.specs.Words.{Words, get, next_at, place_number}
 use Rattle.lz_list.specs.Traces.{Chain, insert, without, on, rank_at, WordsShow, bucket_of}
 use Rattle.lz_list.specs.Lists.{next_in, home, AreSlots, ShowsChain, IsNodeIn, IsOfBucket, IsTable}
-use Rattle.lz_list.proofs.Chains.PlaceRank.{apart, on_start}
+use Rattle.lz_list.proofs.Chains.PlaceRank.{apart}
 use Rattle.lz_list.proofs.Chains.TraceChain.{bucket_on}
 use Rattle.lz_list.proofs.Traces.NodeBits.{one_node}
 
@@ -35,23 +34,17 @@ slot_on slots x (n ∷ c) h s there other = elim (cases_eq s n.1) [
 
 pub slots_insert : (slots k s : ℕ) (c : Chain) → s < slots → AreSlots slots c → AreSlots slots (insert k s c)
 slots_insert slots k s [] lt h = (lt, tt)
-slots_insert slots k s (n ∷ c) lt h = elim (leb_tells (suc n.0) k) [
-  | inl t ↦ rw t.0 (h.0, slots_insert slots k s c lt h.1)
-  | inr f ↦ rw f.0 (lt, h)
-]
+slots_insert slots k s (n ∷ c) lt h = grind (arith, slots_insert slots k s c lt h.1)
 
 pub slots_without : (slots k : ℕ) (c : Chain) → AreSlots slots c → AreSlots slots (without k c)
 slots_without slots k [] h = tt
-slots_without slots k (n ∷ c) h = elim (eqb_tells n.0 k) [
-  | inl t ↦ rw t.0 h.1
-  | inr f ↦ rw f.0 (h.0, slots_without slots k c h.1)
-]
+slots_without slots k (n ∷ c) h = grind (arith, slots_without slots k c h.1)
 
 -- a node of another key stays where one is put in or taken out
 pub on_without_other : (next keys : ℕ → ℕ) (k x y : ℕ) (c : Chain) → WordsShow next keys x c → on x c y ≡ true → rank_at keys y ≢ suc k → on x (without k c) y ≡ true
 on_without_other next keys k x y [] h there other = there
-on_without_other next keys k x y (n ∷ []) h there other = grind (arith, nat_tests, h.1, ap (rank_at keys), on_start x [])
-on_without_other next keys k x y (n ∷ m ∷ c) h there other = grind (arith, nat_tests, h.1, ap (rank_at keys), on_without_other next keys k (suc n.1) y (m ∷ c) h.3)
+on_without_other next keys k x y (n ∷ []) h there other = grind arith
+on_without_other next keys k x y (n ∷ m ∷ c) h there other = grind (arith, on_without_other next keys k (suc n.1) y (m ∷ c) h.3)
 
 pub bucket_below : (w : Words) (k : ℕ) → IsTable w → home w k < length w.heads
 unfolding bucket_of
@@ -78,5 +71,4 @@ module _ (w : Words) (b : ℕ) where
       omega arith
 
   pub next_of_place : (place : Place) → IsOfBucket b place → next_at w place ≡ next_in w b (place_number place)
-  next_of_place (Bucket c) here = ap (λ (d : ℕ). next_at w (Bucket d)) here
-  next_of_place (Node s) here = refl
+  next_of_place place here = grind arith

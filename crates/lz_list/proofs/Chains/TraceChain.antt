@@ -1,24 +1,18 @@
 -- After a lawful trace the words of each bucket show its chain.
 use Rattle.std.proofs.Common.{◌≡◌, ◌≢◌, inl, inr, ℕ, zero, suc, true, false, ◌==◌, [], ◌∷◌, refl, sym, ap, ◌∙◌, subst, arith}
-use Rattle.std.proofs.lemmas.Bool.Decides.{nat_tests, leb_tells, eqb_tells}
-use Rattle.lz_list.specs.declared.publishing.Publishing.TheVariants.{Linked as linked, Marked as marked, Unlinked as unlinked, Settled as settled, KeyPrepared as key_prepared, LinkPrepared as link_prepared, Halted as halted}
+use Rattle.std.proofs.lemmas.Bool.Decides.{nat_tests, eqb_tells}
+use Rattle.lz_list.specs.declared.publishing.Publishing.TheVariants.{Linked as linked, Unlinked as unlinked, KeyPrepared as key_prepared, LinkPrepared as link_prepared}
 use Rattle.lz_list.specs.Traces.{Trace, Chain, insert, without, on, rank_at, WordsShow, bucket_of, chain, chain_of, place_of, key_word, node_next, next_link, IsLoose, MayLink, MayUnlink, Lawful, KeysBelong, IsShown}
 use Rattle.lz_list.proofs.Chains.PlaceRank.{before_on, shows_frame, shows_keys, shows_insert, shows_without, next_is_above, has_on}
 
 module _ (buckets : ℕ) where
   pub within_insert : (b k s : ℕ) (c : Chain) → bucket_of buckets k ≡ b → KeysBelong buckets b c → KeysBelong buckets b (insert k s c)
   within_insert b k s [] here h = (here, tt)
-  within_insert b k s (n ∷ c) here h = elim (leb_tells (suc n.0) k) [
-    | inl t ↦ rw t.0 (h.0, within_insert b k s c here h.1)
-    | inr f ↦ rw f.0 (here, h)
-  ]
+  within_insert b k s (n ∷ c) here h = grind (arith, within_insert b k s c here h.1)
 
   pub within_without : (b k : ℕ) (c : Chain) → KeysBelong buckets b c → KeysBelong buckets b (without k c)
   within_without b k [] h = tt
-  within_without b k (n ∷ c) h = elim (eqb_tells n.0 k) [
-    | inl t ↦ rw t.0 h.1
-    | inr f ↦ rw f.0 (h.0, within_without b k c h.1)
-  ]
+  within_without b k (n ∷ c) h = grind (arith, within_without b k c h.1)
 
   -- the key of a node is of the chain's bucket
   pub bucket_on : (next keys : ℕ → ℕ) (b x : ℕ) (c : Chain) → WordsShow next keys x c → KeysBelong buckets b c → (t : ℕ) → on x c (suc t) ≡ true → suc t ≢ x → bucket_of buckets (keys t) ≡ b
@@ -30,20 +24,16 @@ module _ (buckets : ℕ) where
 
   module _ (k s p : ℕ) (P : Trace) where
     pub linked_at : (w : ℕ) → w ≡ place_of buckets k P → next_link buckets (bucket_of buckets k) (linked k s p ∷ P) w ≡ suc s
-    linked_at zero is = grind (arith, nat_tests)
-    linked_at (suc t) is = grind (arith, nat_tests)
+    linked_at w is = grind arith
 
     pub linked_off : (b y : ℕ) → y ≢ place_of buckets k P → next_link buckets b (linked k s p ∷ P) y ≡ next_link buckets b P y
-    linked_off b zero off = grind (arith, nat_tests)
-    linked_off b (suc t) off = grind (arith, nat_tests)
+    linked_off b y off = grind arith
 
     pub unlinked_at : (w : ℕ) → w ≡ place_of buckets k P → next_link buckets (bucket_of buckets k) (unlinked k s p ∷ P) w ≡ node_next buckets s P
-    unlinked_at zero is = grind (arith, nat_tests)
-    unlinked_at (suc t) is = grind (arith, nat_tests)
+    unlinked_at w is = grind arith
 
     pub unlinked_off : (b y : ℕ) → y ≢ place_of buckets k P → next_link buckets b (unlinked k s p ∷ P) y ≡ next_link buckets b P y
-    unlinked_off b zero off = grind (arith, nat_tests)
-    unlinked_off b (suc t) off = grind (arith, nat_tests)
+    unlinked_off b y off = grind arith
 
     -- a word of another bucket's chain isn't touched
     pub apart_bucket : ((b : ℕ) → IsShown buckets b P) → (b y : ℕ) → (b ≢ bucket_of buckets k) → on 0 (chain buckets b P) (suc y) ≡ true → suc y ≢ place_of buckets k P
@@ -125,6 +115,4 @@ module _ (buckets : ℕ) where
   words_show_chain slots (unlinked k s p ∷ P) law b = unlinked_shown k s p P (words_show_chain slots P law.1) law.0 b
   words_show_chain slots (key_prepared s v ∷ P) law b = key_shown s v b P (words_show_chain slots P law.1 b) law.0
   words_show_chain slots (link_prepared s v ∷ P) law b = link_shown s v b P (words_show_chain slots P law.1 b) law.0
-  words_show_chain slots (marked k s p ∷ P) law b = let h = words_show_chain slots P law.1 b in record { shows = h.shows; within = h.within }
-  words_show_chain slots (settled s r ∷ P) law b = let h = words_show_chain slots P law.1 b in record { shows = h.shows; within = h.within }
-  words_show_chain slots (halted ∷ P) law b = let h = words_show_chain slots P law.1 b in record { shows = h.shows; within = h.within }
+  words_show_chain slots (e ∷ P) law b = grind (arith, words_show_chain slots P)

@@ -63,11 +63,4 @@ module _ (Stays : ℕ → Type 0) (w new : Words) (b : ℕ) (c : Chain) (h : Sho
       → ((t : ℕ) → on 0 c (suc t) ≡ true → get new (Key t) ≡ get w (Key t))
       → ((t : ℕ) → on 0 c (suc t) ≡ true → Stays (get w (Key t)) → is_marked_at new (Node t) ≡ is_marked_at w (Node t))
       → Moved Stays w new b
-  frame_moved heads links nexts keys marks = record {
-    before = c;
-    after = c;
-    was_shown = h;
-    is_shown = frame_shown heads links nexts keys;
-    there = λ t on_it stays. (on_it, keys t on_it, marks t on_it stays);
-    back = λ t on_it stays. (on_it, keys t on_it, marks t on_it (subst Stays (keys t on_it) stays));
-  }
+  frame_moved heads links nexts keys marks = grind (arith, frame_shown)

@@ -1,5 +1,5 @@
 -- What Check found is where the machine's change goes.
-use Rattle.std.proofs.Common.{ap, ◌≡◌, ◌⊎◌, inl, inr, ℕ, suc, ◌<◌, ◌≤◌, [], ◌∷◌, sym, arith}
+use Rattle.std.proofs.Common.{◌≡◌, ◌⊎◌, inl, inr, ℕ, suc, ◌<◌, ◌≤◌, [], ◌∷◌, sym, arith}
 use Rattle.std.proofs.lemmas.Bool.Decides.{nat_tests}
 use Rattle.lz_list.specs.Traces.{Chain, place_before, link_above, rank_at, WordsShow, Adjacent}
 use Rattle.lz_list.proofs.Chains.PlaceRank.{rank_on, adjacent_on}
@@ -16,5 +16,5 @@ module _ (next keys : ℕ → ℕ) where
   -- a place that leads to the node of key k is the one before k
   pub place_to : (k s x : ℕ) (c : Chain) → WordsShow next keys x c → (y : ℕ) → Adjacent x c y (suc s) → rank_at keys y ≤ k → keys s ≡ k → place_before k x c ≡ y
   place_to k s x [] h y adj low key = sym adj.0
-  place_to k s x (m ∷ c) h y (inl here) low key = grind (arith, nat_tests, here.0, here.1, h.1, ap (rank_at keys) here.1)
-  place_to k s x (m ∷ c) h y (inr later) low key = grind (arith, nat_tests, place_to k s (suc m.1) c h.3 y later low key, h.1, rank_on next keys (suc m.1) c h.3 y (adjacent_on (suc m.1) c y (suc s) later))
+  place_to k s x (m ∷ c) h y (inl here) low key = grind arith
+  place_to k s x (m ∷ c) h y (inr later) low key = grind (arith, place_to k s (suc m.1) c h.3 y later low key, rank_on next keys (suc m.1) c h.3 y (adjacent_on (suc m.1) c y (suc s) later))

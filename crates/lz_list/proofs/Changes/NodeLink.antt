@@ -2,9 +2,8 @@
 use Rattle.std.proofs.Common.{◌≡◌, ◌≢◌, ◌⊎◌, ◌↔◌, inl, inr, ℕ, zero, suc, ◌<◌, ◌^◌, true, false, [], ◌∷◌, length, refl, sym, ap, ◌∙◌, subst, arith}
 use Rattle.std.specs.Prelude.{slice_index, List}
 use Rattle.std.proofs.lemmas.Bool.{cases_eq}
-use Rattle.std.proofs.lemmas.Bool.Decides.{nat_tests}
 use Rattle.lz_list.specs.declared.place.Place.{Place}
-use Rattle.lz_list.specs.declared.place.Place.TheVariants.{Bucket, Node}
+use Rattle.lz_list.specs.declared.place.Place.TheVariants.{Node}
 use Rattle.lz_list.specs.declared.word.Word.TheVariants.{Key}
 use Rattle.lz_list.specs.Words.{Words, get, redirect, place_number, next_at, is_marked_at}
 use Rattle.lz_list.specs.Traces.{Chain, insert, has_key, on, place_before, link_above, rank_at, WordsShow, Adjacent, KeysBelong, bucket_of}
@@ -20,13 +19,12 @@ use Rattle.lz_list.proofs.Tables.Redirect.{heads_redirect, links_redirect, keys_
 
 -- a place before a key is one of the table
 pub place_in : (w : Words) (k : ℕ) → IsTable w → (place : Place) → IsPredecessor w place k → IsPlace w place
-place_in w k table (Bucket b) h = subst (λ (c : ℕ). c < length w.heads) (sym h.bucket) (bucket_below w k table)
-place_in w k table (Node t) h = slot_on (length w.links) 0 h.chain h.shown.in_range t h.stands (λ e. grind arith)
+place_in w k table place h = grind (arith, bucket_below, slot_on)
 
 -- what stands on the chain into which a node is put
 pub inserted_on : (k s x : ℕ) (c : Chain) → on x (insert k s c) (suc s) ≡ true
-inserted_on k s x [] = grind (arith, nat_tests)
-inserted_on k s x (n ∷ c) = grind (arith, nat_tests, inserted_on k s (suc n.1) c)
+inserted_on k s x [] = grind arith
+inserted_on k s x (n ∷ c) = grind (arith, inserted_on k s (suc n.1) c)
 
 module _ (w : Words) (k n : ℕ) (pred : Place) (in_it : IsPlace w pred) (small : n < 2 ^ 32) (h : IsPredecessor w pred k) where
   same_key : (t : ℕ) → get (redirect w pred n) (Key t) ≡ get w (Key t)

@@ -1,6 +1,5 @@
 -- A chain is looked for along a bucket's links.
 use Rattle.std.proofs.Common.{◌≡◌, ◌↔◌, IsTrue, ◌==◌, ℕ, zero, suc, ◌<◌, true, [], ◌∷◌, length, refl, sym, ◌∙◌, subst, arith}
-use Rattle.std.proofs.lemmas.Bool.Decides.{nat_tests}
 use Rattle.lz_list.specs.declared.place.Place.{Place}
 use Rattle.lz_list.specs.declared.place.Place.TheVariants.{Bucket, Node}
 use Rattle.lz_list.specs.declared.word.Word.TheVariants.{Key}
@@ -27,12 +26,7 @@ pub record Reached (w : Words) (b : ℕ) (place : Place) : Type 0 where
 
 module _ (w : Words) (b : ℕ) where
   pub reached_head : b < length w.heads → Reached w b (Bucket b)
-  reached_head lt = record {
-    here = refl;
-    in_it = lt;
-    whole = λ c tail. (c, record { shows = tail.shows; within = tail.within; in_range = tail.in_range });
-    leads = λ c shown. on_start 0 c;
-  }
+  reached_head lt = grind (arith, on_start)
 
   module _ (place : Place) (r : Reached w b place) where
     same_next : next_at w place ≡ next_in w b (place_number place)
@@ -46,11 +40,7 @@ module _ (w : Words) (b : ℕ) where
     stands c shown s next = adjacent_next 0 c (place_number place) (suc s) (subst (Adjacent 0 c (place_number place)) next (behind c shown)) (λ e. omega arith)
 
     longer : (s : ℕ) → Follows w b place s → (c : Chain) → Tail w b (suc s) c → Tail w b (place_number place) ((get w (Key s), s) ∷ c)
-    longer s f c tail = record {
-      shows = (sym same_next ∙ f.next, refl, omega (arith, f.above), tail.shows);
-      within = (f.bucket, tail.within);
-      in_range = (f.slot, tail.in_range);
-    }
+    longer s f c tail = grind arith
 
     pub reached_next : (s : ℕ) → Follows w b place s → Reached w b (Node s)
     reached_next s f = record {
@@ -84,7 +74,4 @@ module _ (w : Words) (b : ℕ) where
         by (suc s) is = absurd (none s (follows c shown s is))
 
     pub chain_tells : ((s : ℕ) → Follows w b place s → ⊥) → IsTrue (next_at w place == 0) ↔ ((d : Chain) × ShowsChain w b d)
-    chain_tells none = (
-      (λ is. whole_chain (grind (arith, nat_tests))),
-      (λ c. let end = chain_ends none c.0 c.1 in grind (arith, nat_tests)),
-    )
+    chain_tells none = grind (arith, whole_chain, chain_ends)

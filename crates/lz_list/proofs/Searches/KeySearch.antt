@@ -2,7 +2,6 @@
 use Rattle.std.proofs.Common.{◌≡◌, ◌≢◌, ◌⊎◌, ◌↔◌, IsTrue, not, inl, inr, ℕ, zero, suc, ◌<◌, ◌≤◌, true, [], ◌∷◌, length, refl, sym, ap, ◌∙◌, subst, arith}
 use mathlib.Core.Bool.{false≢true}
 use Rattle.std.proofs.lemmas.Bool.{cases_Bool}
-use Rattle.std.proofs.lemmas.Bool.Decides.{nat_tests}
 use Rattle.lz_slot.specs.Limits.{most_slots}
 use Rattle.lz_list.specs.declared.place.Place.{Place}
 use Rattle.lz_list.specs.declared.place.Place.TheVariants.{Bucket, Node}
@@ -16,8 +15,7 @@ use Rattle.lz_list.proofs.Chains.SortedChain.{slot_on, bucket_below, node_on, sa
 -- what a place leads to is of a higher key
 pub next_rank : (next keys : ℕ → ℕ) (x : ℕ) (c : Chain) → WordsShow next keys x c → (y s : ℕ) → Adjacent x c y (suc s) → rank_at keys y ≤ keys s
 next_rank next keys x [] h y s adj = absurd (omega (arith, adj.1))
-next_rank next keys x (n ∷ c) h y s (inl here) = grind (arith, nat_tests, here.0, here.1, h.1, h.2, ap (rank_at keys) here.0)
-next_rank next keys x (n ∷ c) h y s (inr later) = next_rank next keys (suc n.1) c h.3 y s later
+next_rank next keys x (n ∷ c) h y s adj = grind (arith, next_rank next keys (suc n.1) c)
 
 module _ (w : Words) (table : IsTable w) (k : ℕ) where
   pub head_before : IsSorted w → IsPredecessor w (Bucket (home w k)) k
@@ -59,8 +57,7 @@ module _ (w : Words) (table : IsTable w) (k : ℕ) where
       found key = record { chain = h.chain; shown = h.shown; stands = stands; key = key }
 
       pub passed : get w (Key s) ≢ k → (next_at w place ≡ 0) ⊎ (k < rank_at keys (next_at w place)) → (next_at w place ≡ 0) ⊎ (suc k < rank_at keys (next_at w place))
-      passed other (inl none) = inl none
-      passed other (inr up) = inr (subst (λ (m : ℕ). suc k < rank_at keys m) next (omega (arith, other, subst (λ (m : ℕ). k < rank_at keys m) (sym next) up)))
+      passed other last = grind arith
 
     pub next_in_range : next_at w place ≤ most_slots
     next_in_range = reaches (next_at w place) refl

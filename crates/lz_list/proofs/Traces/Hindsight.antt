@@ -1,9 +1,7 @@
 -- What a walker read of a node that was taken out was so in a state since it was pinned.
 use Rattle.std.proofs.Common.{◌≡◌, ◌≢◌, ◌⊎◌, inl, inr, ℕ, zero, suc, ◌<◌, ◌≤◌, Bool, true, false, [], ◌∷◌, refl, sym, ap, ◌∙◌, subst, arith}
-use mathlib.Core.Bool.{false≢true}
-use Rattle.std.proofs.lemmas.Bool.Decides.{nat_tests, eqb_tells}
+use Rattle.std.proofs.lemmas.Bool.Decides.{nat_tests}
 use Rattle.lz_list.specs.declared.publishing.Publishing.{Publishing}
-use Rattle.lz_list.specs.declared.publishing.Publishing.TheVariants.{Linked as linked, Unlinked as unlinked, KeyPrepared as key_prepared, LinkPrepared as link_prepared}
 use Rattle.lz_list.specs.Traces.{Trace, Begins, Chain, insert, without, on, place_before, rank_at, Adjacent, bucket_of, chain, chain_of, place_of, key_word, node_next, next_link, Lawful, SettledNo}
 use Rattle.lz_list.specs.Pinned.{Once, Stood, IsKept, IsQuiet}
 use Rattle.lz_list.proofs.Chains.PlaceRank.{before_on, on_start, adjacent, adjacent_on, adjacent_next}
@@ -12,47 +10,38 @@ use Rattle.lz_list.proofs.Traces.Absence.{adjacent_is_absent}
 
 -- the place before k stays when k is put in or taken out
 before_insert : (k s x : ℕ) (c : Chain) → on x (insert k s c) (place_before k x c) ≡ true
-before_insert k s x [] = grind (arith, nat_tests)
-before_insert k s x (n ∷ c) = grind (arith, nat_tests, before_insert k s (suc n.1) c)
+before_insert k s x [] = grind arith
+before_insert k s x (n ∷ c) = grind (arith, before_insert k s (suc n.1) c)
 
 before_without : (k x : ℕ) (c : Chain) → on x (without k c) (place_before k x c) ≡ true
-before_without k x [] = grind (arith, nat_tests)
-before_without k x (n ∷ c) = grind (arith, nat_tests, before_without k (suc n.1) c, on_start x c)
+before_without k x [] = grind arith
+before_without k x (n ∷ c) = grind (arith, before_without k (suc n.1) c, on_start x c)
 
 pub once_begins : (P0 P : Trace) (A : Trace → Type 0) → Once P0 P A → Begins P0 P
 once_begins P0 [] A once = once.0
-once_begins P0 (e ∷ P) A (inl now) = now.0
-once_begins P0 (e ∷ P) A (inr before) = inr (once_begins P0 P A before)
+once_begins P0 (e ∷ P) A once = grind (arith, once_begins P0 P)
 
 pub once_weaker : (P0 P : Trace) (A B : Trace → Type 0) → ((R : Trace) → Begins P0 R → Begins R P → A R → B R) → Once P0 P A → Once P0 P B
 once_weaker P0 [] A B f once = (once.0, f [] once.0 refl once.1)
-once_weaker P0 (e ∷ P) A B f (inl now) = inl (now.0, f (e ∷ P) now.0 (inl refl) now.1)
-once_weaker P0 (e ∷ P) A B f (inr before) = inr (once_weaker P0 P A B (λ R from to. f R from (inr to)) before)
+once_weaker P0 (e ∷ P) A B f once = grind (arith, once_weaker P0 P)
 
 pub once_from : (P0 R P : Trace) (A : Trace → Type 0) → Begins P0 R → Begins R P → A R → Once P0 P A
 once_from P0 R [] A from to a = (rw to at from, rw to at a)
-once_from P0 R (e ∷ P) A from (inl here) a = inl (rw here at from, rw here at a)
-once_from P0 R (e ∷ P) A from (inr to) a = inr (once_from P0 R P A from to a)
+once_from P0 R (e ∷ P) A from to a = grind (arith, once_from P0 R P)
 
 pub lawful_begins : (buckets slots : ℕ) (R P : Trace) → Begins R P → Lawful buckets slots P → Lawful buckets slots R
 lawful_begins buckets slots R [] to law = rw to law
-lawful_begins buckets slots R (e ∷ P) (inl here) law = rw here law
-lawful_begins buckets slots R (e ∷ P) (inr to) law = lawful_begins buckets slots R P to law.1
+lawful_begins buckets slots R (e ∷ P) to law = grind (arith, lawful_begins buckets slots R P)
 
 -- what a walker may rely on it could rely on before
 pub quiet_begins : (buckets : ℕ) (P0 R P : Trace) → Begins R P → IsQuiet buckets P0 P → IsQuiet buckets P0 R
 quiet_begins buckets P0 R [] to quiet = subst (IsQuiet buckets P0) (sym to) quiet
-quiet_begins buckets P0 R (e ∷ P) (inl here) quiet = subst (IsQuiet buckets P0) (sym here) quiet
-quiet_begins buckets P0 R (e ∷ P) (inr to) quiet = quiet_begins buckets P0 R P to quiet.1
+quiet_begins buckets P0 R (e ∷ P) to quiet = grind (arith, quiet_begins buckets P0 R P)
 
 module _ (buckets slots : ℕ) (P0 : Trace) where
   -- a key word stays
   pub key_stays : (b t : ℕ) (e : Publishing) (P : Trace) → IsKept buckets P0 e P → Stood buckets b P0 P (suc t) → key_word t (e ∷ P) ≡ key_word t P
-  key_stays b t (key_prepared s v) P kept stood = elim (eqb_tells s t) [
-    | inl same ↦ absurd (kept b (rw (ap suc same.1) stood))
-    | inr f ↦ rw f.0
-  ]
-  key_stays b t _ P kept stood = refl
+  key_stays b t e P kept stood = grind arith
 
   -- and names the bucket
   pub stood_bucket : (b t : ℕ) (P : Trace) → Lawful buckets slots P → IsQuiet buckets P0 P → Stood buckets b P0 P (suc t) → bucket_of buckets (key_word t P) ≡ b
@@ -70,26 +59,13 @@ module _ (buckets slots : ℕ) (P0 : Trace) where
 
   -- the next link of a node that isn't on its chain stays
   link_stays : (b t : ℕ) (e : Publishing) (P : Trace) → Lawful buckets slots P → IsKept buckets P0 e P → Stood buckets b P0 P (suc t) → bucket_of buckets (key_word t P) ≡ b → on 0 (chain buckets b (e ∷ P)) (suc t) ≡ false → node_next buckets t (e ∷ P) ≡ node_next buckets t P
-  link_stays b t (linked k s p) P law kept stood in' off = elim (eqb_tells (place_of buckets k P) (suc t)) [
-    | inl is ↦ absurd (false≢true (sym off ∙ grind (arith, nat_tests, in', changed_place k t P law is.1, before_insert k s 0 (chain_of buckets k P))))
-    | inr f ↦ rw f.0
-  ]
-  link_stays b t (unlinked k s p) P law kept stood in' off = elim (eqb_tells (place_of buckets k P) (suc t)) [
-    | inl is ↦ absurd (false≢true (sym off ∙ grind (arith, nat_tests, in', changed_place k t P law is.1, before_without k 0 (chain_of buckets k P))))
-    | inr f ↦ rw f.0
-  ]
-  link_stays b t (link_prepared s v) P law kept stood in' off = elim (eqb_tells s t) [
-    | inl same ↦ absurd (kept b (rw (ap suc same.1) stood))
-    | inr f ↦ rw f.0
-  ]
-  link_stays b t _ P law kept stood in' off = refl
+  link_stays b t e P law kept stood in' off = grind (arith, changed_place, before_insert, before_without)
 
   pub stands : (b x : ℕ) (P : Trace) → Lawful buckets slots P → on 0 (chain buckets b P) x ≡ true → Adjacent 0 (chain buckets b P) x (next_link buckets b P x)
   stands b x P law there = adjacent (next_link buckets b P) (λ t. key_word t P) 0 (chain buckets b P) (words_show_chain buckets slots P law b).shows x there
 
   next_stays : (b x : ℕ) (e : Publishing) (P : Trace) → Lawful buckets slots P → IsKept buckets P0 e P → IsQuiet buckets P0 P → Stood buckets b P0 P x → on 0 (chain buckets b (e ∷ P)) x ≡ false → next_link buckets b (e ∷ P) x ≡ next_link buckets b P x
-  next_stays b zero e P law kept quiet stood off = absurd (false≢true (sym off ∙ on_start 0 (chain buckets b (e ∷ P))))
-  next_stays b (suc t) e P law kept quiet stood off = link_stays b t e P law kept stood (stood_bucket b t P law quiet stood) off
+  next_stays b x e P law kept quiet stood off = grind (arith, on_start, link_stays, stood_bucket)
 
   -- a place that stood on the chain and the place that its next link names now stood next to each other
   pub hindsight : (b x : ℕ) (P : Trace) → Lawful buckets slots P → IsQuiet buckets P0 P → Stood buckets b P0 P x → Once P0 P (λ R. Adjacent 0 (chain buckets b R) x (next_link buckets b P x))
@@ -115,11 +91,4 @@ module _ (buckets slots : ℕ) (P0 : Trace) where
 
   -- a walk that passed k's place: k's absence was settled in a state since the pin
   pub absent_since : (k x n : ℕ) (P : Trace) → Lawful buckets slots P → IsQuiet buckets P0 P → Once P0 P (λ R. Adjacent 0 (chain_of buckets k R) x n) → rank_at (λ t. key_word t P) x ≤ k → (n ≡ 0) ⊎ (suc k < rank_at (λ t. key_word t P) n) → Once P0 P (λ R. SettledNo R R k)
-  absent_since k x n P law quiet once low high = once_weaker P0 P (λ R. Adjacent 0 (chain_of buckets k R) x n) (λ R. SettledNo R R k) at once
-    where
-      above : (R : Trace) → Begins P0 R → Begins R P → Adjacent 0 (chain_of buckets k R) x n → (m : ℕ) → n ≡ m → (n ≡ 0) ⊎ (suc k < rank_at (λ t. key_word t R) n)
-      above R from to adj zero is = inl is
-      above R from to adj (suc m) is = inr (grind (arith, high, key_since (bucket_of buckets k) n R P quiet from to (adjacent_next 0 (chain_of buckets k R) x n adj (λ e. grind arith))))
-
-      at : (R : Trace) → Begins P0 R → Begins R P → Adjacent 0 (chain_of buckets k R) x n → SettledNo R R k
-      at R from to adj = adjacent_is_absent buckets k slots R (lawful_begins buckets slots R P to law) x n adj (omega (arith, key_since (bucket_of buckets k) x R P quiet from to (adjacent_on 0 (chain_of buckets k R) x n adj))) (above R from to adj n refl)
+  absent_since k x n P law quiet once low high = grind (arith, once_weaker, key_since, adjacent_next, adjacent_is_absent, lawful_begins, adjacent_on)

@@ -2,42 +2,28 @@
 use Rattle.std.proofs.Common.{◌≡◌, ◌↔◌, inl, inr, ℕ, zero, suc, ◌<◌, ◌≤◌, ◌^◌, Bool, true, false, not, List, [], ◌∷◌, length, refl, sym, ap, ◌∙◌, subst, arith}
 use mathlib.Core.Bool.{false≢true}
 use Rattle.std.proofs.lemmas.Bool.{cases_eq, cases_Bool}
-use Rattle.std.proofs.lemmas.Bool.Decides.{nat_tests, eqb_tells}
+use Rattle.std.proofs.lemmas.Bool.Decides.{nat_tests}
 use Rattle.std.specs.Prelude.{◌==◌, if◌then◌else◌}
 use Rattle.lz_slot.specs.Limits.{most_slots}
 use Rattle.std.specs.Prelude.{slice_index}
-use Rattle.lz_list.specs.declared.place.Place.{Place}
 use Rattle.lz_list.specs.declared.place.Place.TheVariants.{Node}
 use Rattle.lz_list.specs.declared.word.Word.TheVariants.{Head, Link, Key}
-use Rattle.lz_list.specs.declared.publishing.Publishing.TheVariants.{Linked as linked, Marked as marked, Unlinked as unlinked, Settled as settled, KeyPrepared as key_prepared, LinkPrepared as link_prepared, Halted as halted}
-use Rattle.lz_list.specs.Words.{Words, get, is_marked_at, link_with, next_of, flags_of, next_at, place_number}
+use Rattle.lz_list.specs.Words.{Words, get, is_marked_at, link_with, flags_of}
 use Rattle.lz_list.specs.Traces.{Trace, Chain, on, rank_at, WordsShow, has_key, KeysBelong, Lawful, chain, bucket_of, next_link, node_next, key_word, is_marked, member, flags_after, word_after, words_of_trace, table}
-use Rattle.lz_list.specs.Lists.{next_in, home, AreSlots, ShowsChain, IsSorted, IsMember, IsMemberIn, IsNodeIn, IsTable, IsOfBucket}
+use Rattle.lz_list.specs.Lists.{next_in, home, AreSlots, ShowsChain, IsSorted, IsMember, IsMemberIn, IsNodeIn, IsTable}
 use Rattle.lz_list.specs.Members.{key_changes}
 use Rattle.lz_list.proofs.Chains.PlaceRank.{adjacent, adjacent_next, shows_frame, shows_keys, on_start}
 use Rattle.lz_list.proofs.Chains.TraceChain.{words_show_chain}
 use Rattle.lz_list.proofs.Traces.NodeBits.{node}
 use Rattle.lz_list.proofs.Traces.Absence.{unlinked_is_settled}
 use Rattle.lz_list.proofs.Tables.WordTable.{table_at, length-table}
-use Rattle.lz_list.proofs.Tables.PackedLink.{next_of_link, mark_of_link}
-use Rattle.lz_list.proofs.Chains.SortedChain.{slot_on, slots_insert, slots_without, bucket_below, node_on, node_home, next_of_place}
+use Rattle.lz_list.proofs.Tables.PackedLink.{mark_of_link}
+use Rattle.lz_list.proofs.Chains.SortedChain.{slot_on, slots_insert, slots_without, bucket_below, node_on, node_home}
 
 module _ (buckets slots b : ℕ) where
   pub chain_slots : (P : Trace) → Lawful buckets slots P → AreSlots slots (chain buckets b P)
   chain_slots [] law = tt
-  chain_slots (linked k s p ∷ P) law = elim (eqb_tells (bucket_of buckets k) b) [
-    | inl t ↦ rw t.0 (slots_insert slots k s (chain buckets b P) law.0.in_range (chain_slots P law.1))
-    | inr f ↦ rw f.0 (chain_slots P law.1)
-  ]
-  chain_slots (unlinked k s p ∷ P) law = elim (eqb_tells (bucket_of buckets k) b) [
-    | inl t ↦ rw t.0 (slots_without slots k (chain buckets b P) (chain_slots P law.1))
-    | inr f ↦ rw f.0 (chain_slots P law.1)
-  ]
-  chain_slots (marked k s p ∷ P) law = chain_slots P law.1
-  chain_slots (settled s r ∷ P) law = chain_slots P law.1
-  chain_slots (key_prepared s v ∷ P) law = chain_slots P law.1
-  chain_slots (link_prepared s v ∷ P) law = chain_slots P law.1
-  chain_slots (halted ∷ P) law = chain_slots P law.1
+  chain_slots (e ∷ P) law = grind (arith, chain_slots P law.1, slots_insert, slots_without)
 
 -- a key of a chain has a node there
 pub node_of_key : (next keys : ℕ → ℕ) (k x : ℕ) (c : Chain) → WordsShow next keys x c → has_key k c ≡ true → (s : ℕ) × (on x c (suc s) ≡ true) × (keys s ≡ k)
@@ -63,12 +49,6 @@ module _ (slots buckets : ℕ) (P : Trace) (few : slots ≤ most_slots) (law : L
   links_are : length words.links ≡ slots
   links_are = ap length links ∙ length-table slots (λ s. word_after buckets P (Link s))
 
-  keys_are : length words.keys ≡ slots
-  keys_are = ap length key_words ∙ length-table slots (λ s. word_after buckets P (Key s))
-
-  head_is : (b : ℕ) → b < buckets → get words (Head b) ≡ word_after buckets P (Head b)
-  head_is b lt = ap (λ (xs : List ℕ). slice_index xs b) heads ∙ table_at buckets (λ c. word_after buckets P (Head c)) b 0 lt
-
   link_is : (s : ℕ) → s < slots → get words (Link s) ≡ link_with (node_next buckets s P) (flags_after s P)
   link_is s lt = ap (λ (xs : List ℕ). slice_index xs s) links ∙ table_at slots (λ t. word_after buckets P (Link t)) s 0 lt
 
@@ -76,7 +56,7 @@ module _ (slots buckets : ℕ) (P : Trace) (few : slots ≤ most_slots) (law : L
   key_is s lt = ap (λ (xs : List ℕ). slice_index xs s) key_words ∙ table_at slots (λ t. word_after buckets P (Key t)) s 0 lt
 
   pub table_after : 0 < buckets → IsTable words
-  table_after some = record { buckets = omega (arith, heads_are); slots = omega (arith, links_are); keys = keys_are ∙ sym links_are }
+  table_after some = grind (arith, length-table)
 
   module _ (b : ℕ) where
     -- what stands on the chain is a slot, and leads to one or to the end
@@ -95,15 +75,13 @@ module _ (slots buckets : ℕ) (P : Trace) (few : slots ≤ most_slots) (law : L
             omega arith
 
     next_is : b < buckets → (y : ℕ) → on 0 (chain buckets b P) y ≡ true → next_in words b y ≡ next_link buckets b P y
-    next_is lt zero there = let e = small_next 0 there in ap next_of (head_is b lt) ∙ omega arith
-    next_is lt (suc t) there = ap next_of (link_is t (slot_there t there)) ∙ next_of_link (node_next buckets t P) (small_next (suc t) there) (flags_after t P)
+    next_is lt y there = grind (arith, small_next, table_at, slot_there)
 
     mark_is : (t : ℕ) → on 0 (chain buckets b P) (suc t) ≡ true → is_marked_at words (Node t) ≡ is_marked t P
     mark_is t there = ap (λ (v : ℕ). (flags_of v).mark) (link_is t (slot_there t there)) ∙ mark_of_link (node_next buckets t P) (small_next (suc t) there) (flags_after t P)
 
     rank_is : (y : ℕ) → on 0 (chain buckets b P) y ≡ true → rank_at (λ t. get words (Key t)) y ≡ rank_at keys y
-    rank_is zero there = refl
-    rank_is (suc t) there = ap suc (key_is t (slot_there t there))
+    rank_is y there = grind (arith, key_is, slot_there)
 
     pub shown_after : b < buckets → ShowsChain words b (chain buckets b P)
     shown_after lt = record {
@@ -150,11 +128,7 @@ module _ (slots buckets : ℕ) (P : Trace) (few : slots ≤ most_slots) (law : L
 
     pub members_after : IsMember words k ↔ (member k P ≡ true)
     members_after = (is_then, then_is)
-
     -- a place of the key's bucket from there on to the key
-    module _ (pred : Place) (bucket_is : IsOfBucket bucket pred) (there : on 0 (chain buckets bucket P) (place_number pred) ≡ true) (low : rank_at keys (place_number pred) ≤ k) where
-      leads_to : next_at words pred ≡ next_link buckets bucket P (place_number pred)
-      leads_to = next_of_place words bucket pred bucket_is ∙ next_is bucket in_table (place_number pred) there
 
 -- the members hang on the keys linked and marked alone
 member_of : ℕ → List (ℕ × Bool) → Bool
@@ -164,13 +138,7 @@ member_of k (c ∷ cs) = if c.0 == k then c.1 else member_of k cs
 member_is : (k : ℕ) (P : Trace) → member k P ≡ member_of k (key_changes P)
 unfolding member_of
 member_is k [] = refl
-member_is k (linked j s p ∷ P) = ap (λ (m : Bool). if j == k then true else m) (member_is k P)
-member_is k (marked j s p ∷ P) = ap (λ (m : Bool). if j == k then false else m) (member_is k P)
-member_is k (unlinked j s p ∷ P) = member_is k P
-member_is k (settled s r ∷ P) = member_is k P
-member_is k (key_prepared s v ∷ P) = member_is k P
-member_is k (link_prepared s v ∷ P) = member_is k P
-member_is k (halted ∷ P) = member_is k P
+member_is k (e ∷ P) = grind (arith, member_is k P)
 
 pub one_list : (slots buckets passes : ℕ) (P Q : Trace) → slots ≤ most_slots → 0 < buckets → Lawful buckets slots P → Lawful 1 slots Q → key_changes P ≡ key_changes Q
     → (k : ℕ) → IsMember (words_of_trace slots buckets passes P) k ↔ IsMember (words_of_trace slots 1 passes Q) k
@@ -181,7 +149,4 @@ one_list slots buckets passes P Q few some law law1 same k =
     ((λ is. one.1 (sym agree ∙ many.0 is)), (λ is. many.1 (agree ∙ one.0 is)))
 
 pub union : (w : Words) → IsTable w → (k : ℕ) → IsMember w k ↔ (b : ℕ) × (b < length w.heads) × IsMemberIn w b k
-union w table k = (
-  (λ is. (home w k, bucket_below w k table, is)),
-  (λ is. subst (λ (b : ℕ). IsMemberIn w b k) (sym (node_home w is.0 k is.2.0 is.2.1)) is.2),
-)
+union w table k = grind (arith, bucket_below, node_home)

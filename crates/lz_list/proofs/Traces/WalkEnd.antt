@@ -1,11 +1,10 @@
 -- What a walker knows of the node on which its walk ended.
-use Rattle.std.proofs.Common.{◌≡◌, ◌≢◌, ◌⊎◌, ⊎_elim, inl, inr, ℕ, suc, true, false, not, [], ◌∷◌, refl, sym, ap, ◌∙◌, subst, arith}
+use Rattle.std.proofs.Common.{◌≡◌, ◌≢◌, ◌⊎◌, ⊎_elim, inl, inr, ℕ, suc, true, false, not, [], ◌∷◌, sym, ap, ◌∙◌, subst, arith}
 use mathlib.Core.Bool.{false≢true}
-use Rattle.std.proofs.lemmas.Bool.{cases_eq, cases_Bool}
-use Rattle.std.proofs.lemmas.Bool.Decides.{nat_tests, eqb_tells}
+use Rattle.std.proofs.lemmas.Bool.{cases_Bool}
+use Rattle.std.proofs.lemmas.Bool.Decides.{nat_tests}
 use Rattle.lz_list.specs.declared.publishing.Publishing.{Publishing}
-use Rattle.lz_list.specs.declared.publishing.Publishing.TheVariants.{Linked as linked, Marked as marked, Unlinked as unlinked, Settled as settled, LinkPrepared as link_prepared}
-use Rattle.lz_list.specs.Traces.{Trace, Begins, Chain, insert, without, on, WordsShow, bucket_of, chain_of, key_word, next_link, member, linking, linking_in, is_settled, is_removed, is_marked, has_added, has_removed, Lawful, IsNode, SettledYes, SettledNo}
+use Rattle.lz_list.specs.Traces.{Trace, Begins, Chain, insert, without, on, WordsShow, bucket_of, chain_of, key_word, member, linking, linking_in, is_settled, is_removed, is_marked, has_added, has_removed, Lawful, IsNode, SettledYes, SettledNo}
 use Rattle.lz_list.specs.Pinned.{Once, Stood, IsKept, IsQuiet}
 use Rattle.lz_list.proofs.Chains.PlaceRank.{on_start}
 use Rattle.lz_list.proofs.Chains.TraceChain.{words_show_chain}
@@ -14,48 +13,28 @@ use Rattle.lz_list.proofs.Traces.Hindsight.{once_begins, once_from, once_weaker,
 use Rattle.lz_list.proofs.Traces.NodeBits.{node}
 
 pub on_insert : (k s x y : ℕ) (c : Chain) → on x c y ≡ true → on x (insert k s c) y ≡ true
-on_insert k s x y [] there = grind (arith, nat_tests)
-on_insert k s x y (n ∷ c) there = grind (arith, nat_tests, on_insert k s (suc n.1) y c)
+on_insert k s x y [] there = grind arith
+on_insert k s x y (n ∷ c) there = grind (arith, on_insert k s (suc n.1) y c)
 
 on_move : (w x y : ℕ) (c : Chain) → on w c y ≡ true → y ≢ w → on x c y ≡ true
-on_move w x y [] there other = grind (arith, nat_tests)
-on_move w x y (n ∷ c) there other = grind (arith, nat_tests)
+on_move w x y [] there other = grind arith
+on_move w x y (n ∷ c) there other = grind arith
 
 pub on_without_other : (next keys : ℕ → ℕ) (j s x : ℕ) (c : Chain) → WordsShow next keys x c → keys s ≢ j → on x c (suc s) ≡ true → on x (without j c) (suc s) ≡ true
 on_without_other next keys j s x [] h other there = there
-on_without_other next keys j s x (n ∷ c) h other there = elim (eqb_tells n.0 j) [
-  | inl t ↦ rw t.0 (grind (arith, nat_tests, on_start x c, on_move (suc n.1) x (suc s) c, h.1, ap keys))
-  | inr f ↦ rw f.0 (grind (arith, nat_tests, on_without_other next keys j s (suc n.1) c h.3 other))
-]
+on_without_other next keys j s x (n ∷ c) h other there = grind (arith, on_without_other next keys j s (suc n.1) c h.3 other, on_start, on_move)
 
 module _ (buckets slots : ℕ) (P0 : Trace) where
   -- a node leaves its chain only by its own unlinking
   pub leaves : (k s : ℕ) (e : Publishing) (P : Trace) → Lawful buckets slots (e ∷ P) → key_word s P ≡ k → on 0 (chain_of buckets k P) (suc s) ≡ true → on 0 (chain_of buckets k (e ∷ P)) (suc s) ≡ false → (member k P ≡ false) × (is_removed (linking k P) P ≡ true) × (is_marked s (e ∷ P) ≡ is_marked s P)
-  leaves k s (linked j t p) P law key there off = absurd (false≢true (sym off ∙ grind (arith, nat_tests, on_insert j t 0 (suc s) (chain_of buckets k P))))
-  leaves k s (unlinked j t p) P law key there off = elim (cases_eq j k) [
-    | inl same ↦ (subst (λ (q : ℕ). member q P ≡ false) same law.0.no_member, subst (λ (q : ℕ). is_removed (linking q P) P ≡ true) same law.0.removed, refl)
-    | inr other ↦
-        let shown = words_show_chain buckets slots P law.1 (bucket_of buckets k) in
-        absurd (false≢true (sym off ∙ grind (arith, nat_tests, on_without_other (next_link buckets (bucket_of buckets k) P) (λ t. key_word t P) j s 0 (chain_of buckets k P) shown.shows (λ e. other (sym e ∙ key)) there)))
-  ]
-  leaves k s _ P law key there off = absurd (false≢true (sym off ∙ there))
+  leaves k s e P law key there off = grind (arith, on_insert, words_show_chain, on_without_other)
 
   pub mark_stays : (b s : ℕ) (e : Publishing) (P : Trace) → IsKept buckets P0 e P → Stood buckets b P0 P (suc s) → is_marked s P ≡ true → is_marked s (e ∷ P) ≡ true
-  mark_stays b s (marked k t p) P kept stood is = grind (arith, nat_tests, is)
-  mark_stays b s (link_prepared t v) P kept stood is = elim (eqb_tells t s) [
-    | inl same ↦ absurd (kept b (rw (ap suc same.1) stood))
-    | inr f ↦ rw f.0 is
-  ]
-  mark_stays b s _ P kept stood is = is
+  mark_stays b s e P kept stood is = grind arith
 
   -- and so does a removed flag
   pub removed_stays : (b s : ℕ) (e : Publishing) (P : Trace) → IsKept buckets P0 e P → Stood buckets b P0 P (suc s) → has_removed s P ≡ true → has_removed s (e ∷ P) ≡ true
-  removed_stays b s (settled t c) P kept stood is = grind (arith, nat_tests, is)
-  removed_stays b s (link_prepared t v) P kept stood is = elim (eqb_tells t s) [
-    | inl same ↦ absurd (kept b (rw (ap suc same.1) stood))
-    | inr f ↦ rw f.0 is
-  ]
-  removed_stays b s _ P kept stood is = is
+  removed_stays b s e P kept stood is = grind arith
 
   -- a node that stood on the chain stands there still, or k's absence was settled since, and its slot says so
   pub left_surely : (k s : ℕ) (P : Trace) → Lawful buckets slots P → IsQuiet buckets P0 P → Stood buckets (bucket_of buckets k) P0 P (suc s) → key_word s P ≡ k
@@ -83,42 +62,24 @@ module _ (buckets slots : ℕ) (P0 : Trace) where
 
 pub settled_later : (n : ℕ) (P Q : Trace) → Begins P Q → is_settled n P ≡ true → is_settled n Q ≡ true
 settled_later n P [] to is = rw to at is
-settled_later n P (e ∷ Q) (inl here) is = rw here at is
-settled_later n P (settled s r ∷ Q) (inr to) is = grind (arith, nat_tests, settled_later n P Q to is)
-settled_later n P (e ∷ Q) (inr to) is = settled_later n P Q to is
+settled_later n P (e ∷ Q) to is = grind (arith, settled_later n P Q)
 
 pub removed_later : (n : ℕ) (P Q : Trace) → Begins P Q → is_removed n P ≡ true → is_removed n Q ≡ true
 removed_later n P [] to is = rw to at is
-removed_later n P (e ∷ Q) (inl here) is = rw here at is
-removed_later n P (settled s r ∷ Q) (inr to) is = grind (arith, nat_tests, removed_later n P Q to is)
-removed_later n P (e ∷ Q) (inr to) is = removed_later n P Q to is
+removed_later n P (e ∷ Q) to is = grind (arith, removed_later n P Q)
 
 pub begins_before : (R P Q : Trace) → Begins R P → Begins P Q → Begins R Q
 begins_before R P [] to more = rw more at to
-begins_before R P (e ∷ Q) to (inl here) = rw here at to
-begins_before R P (e ∷ Q) to (inr more) = inr (begins_before R P Q to more)
+begins_before R P (e ∷ Q) to more = grind (arith, begins_before R P Q)
 
 module _ (buckets slots : ℕ) (P0 : Trace) where
   -- the slot of a node that stood is linked to nothing else meanwhile
   pub linking_stays : (b s : ℕ) (e : Publishing) (P : Trace) → Lawful buckets slots (e ∷ P) → IsQuiet buckets P0 P → Stood buckets b P0 P (suc s) → linking_in s (e ∷ P) ≡ linking_in s P
-  linking_stays b s (linked j t p) P law quiet stood = elim (eqb_tells t s) [
-    | inl slot ↦
-        let key : key_word s P ≡ j = subst (λ (q : ℕ). key_word q P ≡ j) slot.1 law.0.key in
-        let bucket : bucket_of buckets j ≡ b = ap (bucket_of buckets) (sym key) ∙ stood_bucket buckets slots P0 b s P law.1 quiet stood in
-        elim (left_surely buckets slots P0 j s P law.1 quiet (rw bucket stood) key) [
-          | inl there ↦ absurd (false≢true (sym (law.0.loose (bucket_of buckets j)) ∙ subst (λ (q : ℕ). on 0 (chain_of buckets j P) (suc q) ≡ true) (sym slot.1) there))
-          | inr gone ↦ absurd (false≢true (sym law.0.no_mark ∙ subst (λ (q : ℕ). is_marked q P ≡ true) (sym slot.1) gone.1))
-        ]
-    | inr f ↦ rw f.0
-  ]
-  linking_stays b s _ P law quiet stood = refl
+  linking_stays b s e P law quiet stood = grind (arith, stood_bucket, left_surely)
 
   pub linking_since : (b s : ℕ) (P Q : Trace) → Lawful buckets slots Q → IsQuiet buckets P0 Q → Begins P Q → Stood buckets b P0 P (suc s) → (linking_in s Q ≡ linking_in s P) × Stood buckets b P0 Q (suc s)
   linking_since b s P [] law quiet to stood = (ap (linking_in s) (sym to), subst (λ (R : Trace). Stood buckets b P0 R (suc s)) to stood)
-  linking_since b s P (e ∷ Q) law quiet (inl here) stood = (ap (linking_in s) (sym here), subst (λ (R : Trace). Stood buckets b P0 R (suc s)) here stood)
-  linking_since b s P (e ∷ Q) law quiet (inr to) stood =
-      let before = linking_since b s P Q law.1 quiet.1 to stood in
-      (linking_stays b s e Q law quiet.1 before.1 ∙ before.0, inr before.1)
+  linking_since b s P (e ∷ Q) law quiet to stood = grind (arith, linking_since b s P Q, linking_stays)
 
   module _ (k s : ℕ) (P Q : Trace) (law : Lawful buckets slots P) (quiet : IsQuiet buckets P0 P) (stood : Stood buckets (bucket_of buckets k) P0 P (suc s)) (key : key_word s P ≡ k) (to : Begins P Q) where
     -- a walk that ended on a marked node whose removal is settled by Q
@@ -131,11 +92,7 @@ module _ (buckets slots : ℕ) (P0 : Trace) where
             no_member = h.is_member ∙ ap not mark;
             settled = inr (rw h.same at is);
           })
-      | inr gone ↦ once_weaker P0 P (λ R. SettledNo R R k) (λ R. SettledNo R Q k) (λ R from upto no. record {
-        begins = begins_before R P Q upto to;
-        no_member = no.no_member;
-        settled = ⊎_elim (λ none. inl none) (λ there. inr (removed_later (linking k R) R Q (begins_before R P Q upto to) there)) no.settled;
-      }) gone.0
+      | inr gone ↦ grind (arith, nat_tests, once_weaker, begins_before, removed_later)
     ]
 
     -- a walk that ended on an unmarked node whose adding is settled by Q
@@ -171,6 +128,4 @@ module _ (buckets slots : ℕ) (P0 : Trace) where
 
     -- not marked, with the added flag: k is a member, and surely
     pub unmarked_surely : is_marked s P ≡ false → has_added s P ≡ true → SettledYes P P k
-    unmarked_surely mark is =
-        let h = unsure_node (inl mark) in
-        record { begins = begins_itself P; member = h.is_member ∙ ap not mark; settled = sym h.added ∙ is }
+    unmarked_surely mark is = grind (arith, unsure_node, begins_itself)

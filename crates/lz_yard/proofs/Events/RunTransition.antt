@@ -1,17 +1,18 @@
 -- A call's next event, played on a yard over any device, as a step of a run.
-use Rattle.std.proofs.Common.{◌≡◌, ◌≢◌, inl, ◌≤◌, length, IsTrue, ℕ, Bool, true, false, Option, Some, refl, sym, ap, ◌∙◌, subst}
+use Rattle.std.proofs.Common.{◌≡◌, ◌≢◌, ◌≤◌, length, IsTrue, ℕ, Bool, true, false, Option, Some, refl, sym, ◌∙◌, subst, arith}
 use Rattle.std.proofs.lemmas.Bool.{false≢true}
+use Rattle.std.proofs.lemmas.Bool.Decides.{nat_tests}
 use Rattle.lz_slot.specs.Counted.{set_of_pass}
 use Rattle.lz_disk.specs.Images.{Medium}
 use Rattle.lz_disk.specs.Devices.{Device}
-use Rattle.lz_vault.specs.Vaults.{DeviceCall, NoCall, WriteAt, SyncAll, MayFail, medium_after}
+use Rattle.lz_vault.specs.Vaults.{DeviceCall, NoCall, MayFail, medium_after}
 use Rattle.lz_machine.specs.declared.event.Outcome.{Outcome}
 use Rattle.lz_machine.specs.declared.event.Outcome.TheVariants.{Fault}
 use Rattle.lz_machine.specs.Yards.{Shape, Yard}
-use Rattle.lz_machine.specs.Table.{line, line_failed, line_call}
+use Rattle.lz_machine.specs.Table.{line_call}
 use Rattle.lz_machine.specs.Calls.{progress_after}
 use Rattle.lz_machine.specs.Points.{IsReached}
-use Rattle.lz_machine.specs.Runs.{Start, Caller, Service, State, Up, Transition, Turn, Fails, MayStep, HasTurn, HasFault, MayPlay, Point, caller_at, next_event, reply_at, moved_on, played, after_turn, after_fault, state_after}
+use Rattle.lz_machine.specs.Runs.{Start, Caller, Service, State, Up, Transition, Turn, Fails, MayStep, HasTurn, HasFault, MayPlay, Point, caller_at, next_event, reply_at, moved_on, played, state_after}
 use Rattle.lz_machine.proofs.Frames.OneActor.{caller_range}
 use Rattle.lz_machine.proofs.Runs.CallerEvent.{is_next}
 use Rattle.lz_machine.proofs.Runs.ReachedPoint.{as_reached}
@@ -34,14 +35,11 @@ pub record Steps (w : State) (step : Transition) (next : Service) (after : Devic
   pub device : IsTrue after.honest → after.medium ≡ medium
 
 as_played : (service : Service) (a : ℕ) (caller : Caller) (yard : Yard) (o : Outcome) (l : Yard × Outcome) → yard ≡ l.0 → o ≡ l.1 → played service a caller l ≡ after_it service a caller yard o
-as_played service a caller yard o l same_yard same_outcome =
-    ap (λ (y : Yard). after_it service a caller y l.1) (sym same_yard) ∙ ap (λ (r : Outcome). after_it service a caller yard r) (sym same_outcome)
+as_played service a caller yard o l same_yard same_outcome = grind arith
 
 -- a device call that failed may have changed nothing
 may_fail : (call : DeviceCall) (disk : Medium) → call ≢ NoCall → MayFail call disk disk
-may_fail NoCall disk asked = absurd (asked refl)
-may_fail (WriteAt at bytes) disk asked = inl refl
-may_fail SyncAll disk asked = refl
+may_fail call disk asked = grind arith
 
 module _ (start : Start) (p : Point) (reached : IsReached start p) (service : Service) (medium : Medium) (up : p.state ≡ Up service medium) (a : ℕ) (caller : Caller) (at : caller_at service.callers a ≡ Some caller) where
   pub may_play : (honest : Bool) (disk : Medium) → (IsTrue honest → disk ≡ medium) → MayPlay service.yard honest disk a (next_event service.yard caller)
@@ -68,12 +66,8 @@ module _ (start : Start) (p : Point) (reached : IsReached start p) (service : Se
       record {
         may = subst (HasTurn service a) (sym at) (in_time start p reached service medium up a caller at);
         medium = medium_after (line_call service.yard a e) medium;
-        to = λ n.
-            ap (after_turn service medium a) at
-            ∙ ap (λ (s : Service). Up s (medium_after (line_call service.yard a e) medium)) (as_played service a caller new outcome (line service.yard a e) h.yard h.answer);
-        device = λ honest.
-            let was = subst IsTrue h.call.honest honest in
-            h.call.medium was ∙ ap (medium_after (line_call service.yard a e)) (same was);
+        to = grind (arith, nat_tests, as_played);
+        device = grind (arith, nat_tests);
       }
 
   failed_to : (before after : Device) (new : Yard) (outcome : Outcome) (changed : _) (left : Medium) → outcome ≡ Fault → MayFail (line_call service.yard a (next_event service.yard caller)) medium left
@@ -84,9 +78,7 @@ module _ (start : Start) (p : Point) (reached : IsReached start p) (service : Se
       record {
         may = subst (λ (o : Option Caller). HasFault service medium a o left) (sym at) fails;
         medium = left;
-        to = λ n.
-            ap (after_fault service left a) at
-            ∙ ap (λ (s : Service). Up s left) (as_played service a caller new outcome (line_failed service.yard a e) (event.failed fault).yard fault);
+        to = grind (arith, nat_tests, as_played);
         device = there;
       }
 

@@ -5,7 +5,7 @@ use Rattle.std.specs.Prelude.{slice_get, Some, replicate, slice_index_or, if◌t
 use Rattle.std.specs.List.{range_with_len}
 use Rattle.std.proofs.lemmas.List.{length-map, get_or-map, get_or_append_left, get_or_push, ext_get_or}
 use Rattle.std.proofs.lemmas.List.FromFn.{length-range_with_len, get_or-range_with_len}
-use Rattle.std.proofs.lemmas.Option.{same_Some, slice_get-get_or}
+use Rattle.std.proofs.lemmas.Option.{slice_get-get_or}
 use Rattle.std.proofs.lemmas.Bool.{cases_eq, cases_Bool}
 use Rattle.std.proofs.lemmas.Bool.Decides.{nat_tests}
 use Rattle.lz_slot.specs.declared.slot.SlotRead.{SlotRead}
@@ -16,21 +16,18 @@ use Rattle.lz_slot.specs.declared.format.Format.{Format}
 use Rattle.lz_slot.specs.Sets.{members}
 use Rattle.lz_slot.specs.Bytes.{Holds, format_of, open_byte, header_body, slot_at, held, held_key}
 use Rattle.lz_disk.specs.Images.{AreBytes}
-use Rattle.lz_vault.specs.declared.vault.Stage.TheVariants.{Closed, Open}
+use Rattle.lz_vault.specs.declared.vault.Stage.TheVariants.{Closed}
 use Rattle.lz_vault.specs.Stages.{Cell, AreSteady}
 use Rattle.lz_vault.specs.Vaults.{Vaulted}
 use Rattle.lz_disk.specs.Devices.{Device}
 use Rattle.lz_vault.specs.Opens.{IsCellOf, AreFound, AreBlank}
 use Rattle.lz_allot.specs.Uses.{Use, Free, Taken}
 use Rattle.lz_allot.specs.Allots.{Allotted}
-use Rattle.lz_list.specs.Words.{Words}
-use Rattle.lz_list.specs.Locks.{NodeLocks}
 use Rattle.lz_list.specs.Lists.{Listed}
-use Rattle.lz_list.specs.declared.word.Word.TheVariants.{Head, Link}
-use Rattle.lz_list.specs.Traces.{Chain, IsFound, has_slot, word_after, words_of_trace, opening}
+use Rattle.lz_list.specs.Traces.{Chain, IsFound, has_slot, words_of_trace, opening}
 use Rattle.lz_list.proofs.Tables.WordTable.{length-table}
 use Rattle.lz_machine.specs.declared.actor.Actor.{Actor}
-use Rattle.lz_machine.specs.Yards.{Yard, Shape, cell_read, use_read, slots_read, opened_yard}
+use Rattle.lz_machine.specs.Yards.{cell_read, use_read, slots_read, opened_yard}
 use Rattle.lz_slot.specs.Nodes.{has_node}
 use Rattle.lz_vault.specs.Members.{member_in, member_at, no_cell}
 use Rattle.lz_yard.specs.Filling.{AreTables}
@@ -57,16 +54,7 @@ append_cases k s (f ∷ c) d there = elim (node_cases k s f (c ++ d) there) [
 
 -- what is said of a slot, and its cell
 cell_same : (r : SlotRead) (cell : Cell) → IsCellOf r cell → (cell.stage ≡ Closed → cell.key ≡ 0) → cell ≡ cell_read r
-cell_same Closed_read cell is blank =
-    ap (λ s. record { stage = s; key = cell.key }) is ∙ ap (λ (k : ℕ). record { stage = Closed; key = k }) (blank is)
-cell_same (Member_read k) cell is blank =
-    ap (λ s. record { stage = s; key = cell.key }) is.0 ∙ ap (λ (k : ℕ). record { stage = Open; key = k }) is.1
-cell_same BadKey_read cell is blank = absurd is
-
-member_says : (r : SlotRead) (k : ℕ) → member_in (cell_read r) ≡ Some k → r ≡ Member_read k
-member_says Closed_read k is = absurd cc
-member_says (Member_read j) k is = ap (λ (n : ℕ). Member_read n) (same_Some j k is)
-member_says BadKey_read k is = absurd cc
+cell_same r cell is blank = grind arith
 
 module _ (t : List ℕ) where
   read_at : (n i : ℕ) (d : SlotRead) → i < n → slice_index_or (slots_read t n) i d ≡ slot_at t i
@@ -79,12 +67,7 @@ module _ (t : List ℕ) where
   ]
 
   held_read : (n k s : ℕ) (r : SlotRead) → slot_at t n ≡ r → has_node k s (held_key r n) ≡ true → (s ≡ n) × (slot_at t s ≡ Member_read k)
-  held_read n k s (Member_read j) at there = elim (node_cases k s (j, n) [] there) [
-    | inl first ↦ (sym first.1, ap (slot_at t) (sym first.1) ∙ at ∙ ap (λ (q : ℕ). Member_read q) first.0)
-    | inr later ↦ absurd (false≢true later)
-  ]
-  held_read n k s Closed_read at there = absurd (false≢true there)
-  held_read n k s BadKey_read at there = absurd (false≢true there)
+  held_read n k s r at there = grind (arith, nat_tests)
 
   held_node : (n k s : ℕ) → has_node k s (held t n) ≡ true → (s < n) × (slot_at t s ≡ Member_read k)
   held_node zero k s there = absurd (false≢true there)
@@ -114,7 +97,7 @@ module _ (t : List ℕ) where
         (λ i low. cell_is i low ∙ sym (get_or-map cell_read (slots_read t N) i Closed_read no_cell (omega (arith, low, read_length t N)) ∙ ap cell_read (read_at N i Closed_read low)))
 
     member_is : (i k : ℕ) → i < N → member_at cells i ≡ Some k → slot_at t i ≡ Member_read k
-    member_is i k low is = member_says (slot_at t i) k (ap member_in (sym (cell_is i low)) ∙ is)
+    member_is i k low is = grind (arith, cell_is)
 
     is_member : (i k : ℕ) → i < N → slot_at t i ≡ Member_read k → member_at cells i ≡ Some k
     is_member i k low is = ap member_in (cell_is i low ∙ ap cell_read is)
@@ -126,9 +109,7 @@ module _ (t : List ℕ) where
     within k s there = let node = held_node N k s there in are.found.all k s node.0 (is_member s k node.0 node.1)
 
     without : Within es (held t N)
-    without k s there =
-        let node = are.found.each k s there in
-        node_held t N k s node.0 (member_is s k node.0 node.1)
+    without k s there = grind (arith, node_held, member_is)
 
     found : IsFound N es
     found = are_found cells N es are.found.ascend are.found.each
@@ -137,24 +118,13 @@ module _ (t : List ℕ) where
     words_are = are.words ∙ same_words_after N B S es (held t N) found (held_found t N N no_key_twice (omega arith)) without within
 
     locks_are : list.locks ≡ record { heads = replicate B 0; nodes = replicate N 0 }
-    locks_are =
-        are.locks
-        ∙ ap (λ (w : Words). record { heads = replicate (length w.heads) 0; nodes = replicate (length w.links) 0 }) are.words
-        ∙ ap (λ (n : ℕ). record { heads = replicate n 0; nodes = replicate (length (words_of_trace N B S (opening B es)).links) 0 }) (length-table B (λ b. word_after B (opening B es) (Head b)))
-        ∙ ap (λ (n : ℕ). record { heads = replicate B 0; nodes = replicate n 0 }) (length-table N (λ s. word_after B (opening B es) (Link s)))
+    locks_are = grind (arith, length-table)
 
     vault_is : vault ≡ record { format = format_of t; cells = map cell_read (slots_read t N); syncs = 0; dead = false }
-    vault_is =
-        ap (λ (F : Format). record vault { format = F }) named
-        ∙ ap (λ (c : List Cell). record vault { format = format_of t; cells = c }) cells_are
-        ∙ ap (λ (n : ℕ). record { format = format_of t; cells = map cell_read (slots_read t N); syncs = n; dead = vault.dead }) fresh.0
-        ∙ ap (λ (d : Bool). record { format = format_of t; cells = map cell_read (slots_read t N); syncs = 0; dead = d }) fresh.1
+    vault_is = grind (arith, cells_are)
 
     use_same : (i : ℕ) → i < N → (b : Bool) → has_slot i es ≡ b → (r : SlotRead) → slot_at t i ≡ r → (if b then Taken else Free) ≡ use_read r
-    use_same i low true has r is =
-        let node = slot_node i es has in
-        let says = member_is i node.0 low (are.found.each node.0 i node.1).1 in
-        ap use_read (sym says ∙ is)
+    use_same i low true has r is = grind (arith, slot_node, member_is)
     use_same i low false has r is = free r is
       where
         free : (r : SlotRead) → slot_at t i ≡ r → Free ≡ use_read r
@@ -177,17 +147,11 @@ module _ (t : List ℕ) where
             ∙ use_same i low (has_slot i es) refl (slot_at t i) refl
             ∙ sym (get_or-map use_read (slots_read t N) i Closed_read Taken (omega (arith, low, read_length t N)) ∙ ap use_read (read_at N i Closed_read low))
 
-    same_yard : (shape : Shape) (w w' : Words) (l l' : NodeLocks) (v v' : Vaulted) (u u' : List Use) (a a' : List Actor) → w ≡ w' → l ≡ l' → v ≡ v' → u ≡ u' → a ≡ a'
-        → ◌≡◌ {A = Yard} (record { shape = shape; words = w; locks = l; vault = v; uses = u; actors = a }) (record { shape = shape; words = w'; locks = l'; vault = v'; uses = u'; actors = a' })
-    same_yard shape w w' l l' v v' u u' a a' one two three four five = cc (one, two, three, four, five)
-
     yard_at : opened vault B S N list allot actors are refl ≡ opened_yard (record { slots = N; buckets = B; passes = S }) t
-    yard_at = same_yard (record { slots = N; buckets = B; passes = S }) list.words _ list.locks _ vault _ allot.uses _ actors _ words_are locks_are vault_is uses_are are.idle
+    yard_at = grind (arith, words_are, locks_are, vault_is, uses_are)
 
     pub yard_is : (slots : ℕ) (count : slots ≡ N) → opened vault B S slots list allot actors are count ≡ opened_yard (record { slots = slots; buckets = B; passes = S }) t
-    yard_is slots count =
-        subst (λ (n : ℕ). ◌≡◌ {A = Yard} (record { shape = record { slots = n; buckets = B; passes = S }; words = list.words; locks = list.locks; vault = vault; uses = allot.uses; actors = actors }) (opened_yard (record { slots = n; buckets = B; passes = S }) t))
-        (sym count) yard_at
+    yard_is slots count = grind (arith, yard_at)
 
 -- a text that says what the cells of an open do begins a life
 module _ (vault : Vaulted) (B S : ℕ) (list : Listed) (allot : Allotted) (actors : List Actor) (are : AreTables vault.cells B S list allot actors)

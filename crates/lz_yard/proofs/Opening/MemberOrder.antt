@@ -3,7 +3,6 @@ use Rattle.std.proofs.Common.{◌≡◌, ◌⊎◌, inl, inr, ℕ, suc, ◌≤�
 use mathlib.Core.Bool.{false≢true}
 use Rattle.std.proofs.lemmas.Bool.{cases_eq, cases_Bool}
 use Rattle.std.proofs.lemmas.Bool.Decides.{nat_tests, leb_tells, eqb_tells}
-use Rattle.lz_list.specs.Words.{link_with}
 use Rattle.lz_list.specs.Traces.{Trace, Chain, WordsShow, rank_at, on, IsFound, insert, bucket_of, chain, chain_of, place_of, has_slot, head_word, node_next, next_link, key_word, has_added, has_removed, flags_after, words_of_trace, halt_word, opening}
 use Rattle.lz_list.proofs.Chains.PlaceRank.{before_on, on_start}
 use Rattle.lz_list.proofs.Traces.OpeningTrace.{opening_lawful}
@@ -15,7 +14,6 @@ use Rattle.lz_machine.proofs.Open.FirstNodes.{off_chains, none_marked}
 use Rattle.lz_vault.proofs.Members.{node_cases, node_first, node_later}
 use Rattle.lz_list.proofs.Chains.ChainNode.{node_slot}
 use Rattle.lz_yard.proofs.Opening.MemberNodes.{slot_node}
-use Rattle.lz_machine.proofs.Frames.Store.{table_same}
 
 -- the nodes of the first are nodes of the second
 abbrev pub Within : Chain → Chain → Type 0
@@ -35,10 +33,7 @@ same_list (n ∷ c) (m ∷ d) up up' in' out = elim (node_cases n.0 n.1 m d (in'
 ]
   where
     rest : (n m : ℕ × ℕ) (c d : Chain) → Ascends (n ∷ c) → Within (n ∷ c) (m ∷ d) → m.0 ≡ n.0 → Within c d
-    rest n m c d up in' same k s there = elim (node_cases k s m d (in' k s (node_later k s n c there))) [
-      | inl first ↦ absurd (omega (arith, up.0 k s there, first.0, same))
-      | inr later ↦ later
-    ]
+    rest n m c d up in' same k s there = grind (arith, nat_tests, node_cases, node_later)
 
 -- a chain that is shown ascends
 shown_above : (next keys : ℕ → ℕ) (x : ℕ) (c : Chain) → WordsShow next keys x c → (k s : ℕ) → has_node k s c ≡ true → rank_at keys x ≤ k
@@ -71,10 +66,7 @@ insert_cases k s j t (n ∷ c) there = elim (leb_tells (suc n.0) j) [
 
 insert_new : (j t : ℕ) (c : Chain) → has_node j t (insert j t c) ≡ true
 insert_new j t [] = node_first (j, t) []
-insert_new j t (n ∷ c) = elim (leb_tells (suc n.0) j) [
-  | inl e ↦ rw e.0 (node_later j t n (insert j t c) (insert_new j t c))
-  | inr f ↦ rw f.0 (node_first (j, t) (n ∷ c))
-]
+insert_new j t (n ∷ c) = grind (arith, insert_new j t c)
 
 insert_old : (k s j t : ℕ) (c : Chain) → has_node k s c ≡ true → has_node k s (insert j t c) ≡ true
 insert_old k s j t [] there = absurd (false≢true there)
@@ -88,9 +80,7 @@ insert_old k s j t (n ∷ c) there = elim (leb_tells (suc n.0) j) [
 
 -- a chain's next links are told by it
 same_next : (next keys other keys' : ℕ → ℕ) (x : ℕ) (c : Chain) → WordsShow next keys x c → WordsShow other keys' x c → (y : ℕ) → on x c y ≡ true → next y ≡ other y
-same_next next keys other keys' x [] shows shows' y there =
-    let at : y ≡ x = grind (arith, nat_tests, there) in
-    ap next at ∙ shows ∙ sym shows' ∙ ap other (sym at)
+same_next next keys other keys' x [] shows shows' y there = grind arith
 same_next next keys other keys' x (n ∷ c) shows shows' y there = elim (cases_eq y x) [
   | inl at ↦ ap next at ∙ shows.0 ∙ sym shows'.0 ∙ ap other (sym at)
   | inr away ↦ same_next next keys other keys' (suc n.1) c shows.3 shows'.3 y (grind (arith, nat_tests, there, away))
@@ -145,7 +135,7 @@ module _ (B : ℕ) where
 
   none_key : (s : ℕ) (F : Chain) → has_slot s F ≡ false → key_word s (opening B F) ≡ 0
   none_key s [] none = refl
-  none_key s (f ∷ F) none = grind (arith, nat_tests, none_key s F)
+  none_key s (f ∷ F) none = grind (arith, none_key s F)
 
   -- and of one that holds a member
   some_key : (N k s : ℕ) (F : Chain) → IsFound N F → has_node k s F ≡ true → key_word s (opening B F) ≡ k
@@ -163,11 +153,11 @@ module _ (B : ℕ) where
 
   added_slots : (s : ℕ) (F : Chain) → has_added s (opening B F) ≡ has_slot s F
   added_slots s [] = refl
-  added_slots s (f ∷ F) = grind (arith, nat_tests, added_slots s F)
+  added_slots s (f ∷ F) = grind (arith, added_slots s F)
 
   none_gone : (s : ℕ) (F : Chain) → has_removed s (opening B F) ≡ false
   none_gone s [] = refl
-  none_gone s (f ∷ F) = grind (arith, nat_tests, none_gone s F)
+  none_gone s (f ∷ F) = grind (arith, none_gone s F)
 
 module _ (N B S : ℕ) (F G : Chain) (found : IsFound N F) (found' : IsFound N G) (in' : Within F G) (out : Within G F) where
   abbrev P : Trace
@@ -183,24 +173,16 @@ module _ (N B S : ℕ) (F G : Chain) (found : IsFound N F) (found' : IsFound N G
   shows' b = (words_show_chain B N Q (opening_lawful B N G found') b).shows
 
   chains : (b : ℕ) → chain B b P ≡ chain B b Q
-  chains b = same_list (chain B b P) (chain B b Q) (shown_ascends _ _ 0 (chain B b P) (shows b)) (shown_ascends _ _ 0 (chain B b Q) (shows' b))
-      (λ k s there. let was = chain_has B b k s F there in has_chain B b k s G was.0 (in' k s was.1))
-      (λ k s there. let was = chain_has B b k s G there in has_chain B b k s F was.0 (out k s was.1))
+  chains b = grind (arith, same_list, shown_ascends, shows, shows', chain_has, has_chain)
 
   nexts : (b y : ℕ) → on 0 (chain B b P) y ≡ true → next_link B b P y ≡ next_link B b Q y
-  nexts b y there = same_next (next_link B b P) (λ t. key_word t P) (next_link B b Q) (λ t. key_word t Q) 0 (chain B b P) (shows b) (subst (WordsShow (next_link B b Q) (λ t. key_word t Q) 0) (sym (chains b)) (shows' b)) y there
+  nexts b y there = grind (arith, same_next, shows, chains, shows')
 
   heads : (b : ℕ) → head_word B b P ≡ head_word B b Q
   heads b = nexts b 0 (on_start 0 (chain B b P))
 
   slots : (s : ℕ) → has_slot s F ≡ has_slot s G
-  slots s = go (has_slot s F) (has_slot s G) refl refl
-    where
-      go : (p q : Bool) → has_slot s F ≡ p → has_slot s G ≡ q → has_slot s F ≡ has_slot s G
-      go true true is is' = is ∙ sym is'
-      go false false is is' = is ∙ sym is'
-      go true false is is' = let node = slot_node s F is in absurd (false≢true (sym is' ∙ node_slot node.0 s G (in' node.0 s node.1)))
-      go false true is is' = let node = slot_node s G is' in absurd (false≢true (sym is ∙ node_slot node.0 s F (out node.0 s node.1)))
+  slots s = grind (arith, slot_node, node_slot)
 
   links : (s : ℕ) → node_next B s P ≡ node_next B s Q
   links s = elim (cases_Bool (has_slot s F)) [
@@ -209,10 +191,7 @@ module _ (N B S : ℕ) (F G : Chain) (found : IsFound N F) (found' : IsFound N G
   ]
 
   keys : (s : ℕ) → key_word s P ≡ key_word s Q
-  keys s = elim (cases_Bool (has_slot s F)) [
-    | inl there ↦ let node = slot_node s F there in some_key B N node.0 s F found node.1 ∙ sym (some_key B N node.0 s G found' (in' node.0 s node.1))
-    | inr none ↦ none_key B s F none ∙ sym (none_key B s G (sym (slots s) ∙ none))
-  ]
+  keys s = grind (arith, slot_node, some_key, none_key)
 
   flags : (s : ℕ) → flags_after s P ≡ flags_after s Q
   flags s = cc (none_marked B s F, none_marked B s G, added_slots B s F, added_slots B s G, slots s, none_gone B s F, none_gone B s G)
@@ -222,10 +201,4 @@ module _ (N B S : ℕ) (F G : Chain) (found : IsFound N F) (found' : IsFound N G
   halted (f ∷ H) = halted H
 
   pub same_words_after : words_of_trace N B S P ≡ words_of_trace N B S Q
-  same_words_after = cc (
-    table_same B (λ b. head_word B b Q) (λ b. head_word B b P) heads,
-    table_same N (λ s. link_with (node_next B s Q) (flags_after s Q)) (λ s. link_with (node_next B s P) (flags_after s P)) (λ s. cc (links s, flags s)),
-    table_same N (λ s. key_word s Q) (λ s. key_word s P) keys,
-    halted F,
-    halted G,
-  )
+  same_words_after = grind (arith, heads, links, flags, keys, halted)

@@ -1,9 +1,8 @@
-use Rattle.std.proofs.Common.{◌≡◌, ◌∙◌, sym, ap, length, take, drop, ◌++◌, arith, List, deque_len}
+use Rattle.std.proofs.Common.{◌≡◌, ◌∙◌, sym, ap, length, take, drop, ◌++◌, arith, deque_len}
 use Rattle.std.proofs.lemmas.List.{get_or_default, length-map}
 use Rattle.std.proofs.lemmas.Bool.{eqb-true}
-use Rattle.lz_allot.specs.declared.kind.Kind.{Kind}
 use Rattle.lz_allot.specs.declared.kind.Kind.TheVariants as kind
-use Rattle.lz_allot.specs.Rows.{least_left, row_freed, rows_freed, first_row}
+use Rattle.lz_allot.specs.Rows.{least_left, rows_freed, first_row}
 use Rattle.lz_allot.specs.Allots.{set_each}
 use Rattle.lz_allot.proofs.FilledPlaces.{length-set_each, written_whole}
 use Rattle.lz_allot.proofs.CallEffects.{least, least_few, total, in_limbo, told_freed, limbo_freed, allot_freed, none_left, rows_stay, uses_stay}
@@ -58,18 +57,11 @@ overflow_sub-self c =
 -- what the slices hold that were handed out
 kinds_are : (c : goal.After-self-4-1) → take c.self.inside.kinds.len (c.free_first.new.kinds ++ drop (length c.free_first.new.kinds) c.self.inside.kinds.items)
     ≡ set_each c.self.inside.kinds.items (take c.least_left-freed.result c.self.inside.limbo.items) kind.Free
-kinds_are c =
-    let kinds = c.self.inside.kinds in
-    let places = take c.least_left-freed.result c.self.inside.limbo.items in
-    let all = c.free_first.ensures.kinds ∙ ap (λ (ks : List Kind). set_each ks places kind.Free) c.deref_mut.ensures.value in
-    written_whole kinds.len c.free_first.new.kinds kinds.items (omega (arith, kinds.ok)) (ap length all ∙ length-set_each kinds.items places kind.Free) ∙ all
+kinds_are c = grind (arith, written_whole, length-set_each)
 
 rows_are : (c : goal.After-self-4-1) → take c.self.inside.rows.len (c.drop_first.new.rows ++ drop (length c.drop_first.new.rows) c.self.inside.rows.items)
     ≡ rows_freed c.least_left-freed.result c.self.inside.rows.items
-rows_are c =
-    let rows = c.self.inside.rows in
-    let all = c.drop_first.ensures ∙ ap (rows_freed c.least_left-freed.result) c.deref_mut-2.ensures.value in
-    written_whole rows.len c.drop_first.new.rows rows.items (omega (arith, rows.ok)) (ap length all ∙ length-map rows.items (row_freed c.least_left-freed.result)) ∙ all
+rows_are c = grind (arith, written_whole, length-map)
 
 pub invariant_of-self : goal.invariant_of-self
 invariant_of-self c =

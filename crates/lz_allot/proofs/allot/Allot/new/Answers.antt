@@ -4,21 +4,15 @@ use Rattle.std.specs.VecDeque.{deque_capacity}
 use Rattle.std.proofs.lemmas.List.Sums.{count_by-le-length}
 use Rattle.lz_allot.specs.declared.kind.Kind.TheVariants as kind
 use Rattle.lz_allot.specs.Rows.{first_row}
-use Rattle.lz_allot.specs.Allots.{first_uses, is_free_kind, set_each, uses_told}
+use Rattle.lz_allot.specs.Allots.{is_free_kind}
 use Rattle.lz_allot.proofs.CallEffects.{first_length, told_first, allot_first}
 use Rattle.lz_allot.proofs.allot.Allot.new.Goals as goal
 
 pub free_of-requires : goal.free_of-requires
-free_of-requires c =
-    let count = first_length c.args.slots c.args.passes c.args.taken.now (λ i low. c.requires.taken i 0 low) in
-    rw (c.deref.ensures.value, c.in_ok-kinds.ensures) (omega (arith, count, c.requires.slots))
+free_of-requires c = grind (arith, first_length)
 
 pub overflow_sub-counts : goal.overflow_sub-counts
-overflow_sub-counts c =
-    let kinds = set_each (replicate c.args.slots kind.Free) c.args.taken.now kind.Taken in
-    let count = first_length c.args.slots c.args.passes c.args.taken.now (λ i low. c.requires.taken i 0 low) in
-    let free : c.count_free-free_count.result ≡ count_by is_free_kind kinds = c.count_free-free_count.ensures ∙ ap (λ ks. count_by is_free_kind ks) (c.deref-2.ensures.value ∙ c.in_ok-kinds.ensures) in
-    omega (arith, free, count_by-le-length is_free_kind kinds, count)
+overflow_sub-counts c = grind (arith, first_length, count_by-le-length)
 
 pub invariant_of-result : goal.invariant_of-result
 invariant_of-result c =
@@ -30,7 +24,4 @@ invariant_of-result c =
     (allot_first c.args.slots c.args.passes taken (λ i low. c.requires.taken i 0 low) c.requires.slots.0 c.requires.slots.1 c.requires.passes.0 c.requires.passes.1 (deque_capacity c.in_ok-limbo.limbo) c.in_ok-limbo.ensures.capacity)
 
 pub returns-clause-uses : goal.returns-clause-uses
-returns-clause-uses c =
-    let told : uses_told c.in_ok-kinds.kinds.items c.in_ok-limbo.limbo.items c.in_ok-rows.rows.items ≡ first_uses c.args.slots c.args.taken.now =
-    rw (c.in_ok-limbo.ensures.items, c.in_ok-kinds.ensures) (told_first c.args.slots c.args.passes c.args.taken.now (λ i low. c.requires.taken i 0 low) c.in_ok-rows.rows.items) in
-    told
+returns-clause-uses c = grind (arith, told_first)

@@ -1,20 +1,15 @@
-use Rattle.std.proofs.Common.{◌≡◌, ◌-◌, ◌<◌, ◌∙◌, sym, ap, subst, set, length, arith, List, rules}
+use Rattle.std.proofs.Common.{◌≡◌, ◌-◌, ◌∙◌, sym, ap, subst, set, length, arith, List}
 use Rattle.std.proofs.lemmas.List.{get_or_read}
 use Rattle.std.specs.VecDeque.{deque_capacity}
 use Rattle.lz_allot.specs.declared.row.Row.{Row}
-use Rattle.lz_allot.specs.Rows.{first_row, rows_seen}
+use Rattle.lz_allot.specs.Rows.{rows_seen}
 use Rattle.lz_allot.specs.Allots.{IsAllot, uses_told}
 use Rattle.lz_allot.proofs.SightChanges.{rows_seen_is}
 use Rattle.lz_allot.proofs.CallEffects.{allot_seen, told_pin, limbo_is}
 use Rattle.lz_allot.proofs.allot.Allot.see_pin.Goals as goal
 
 rows_are : (c : goal.After-self-1) → set c.self.inside.rows.items (c.args.pass - 1) c.see.new.self ≡ rows_seen c.args.pass c.args.pin (length c.self.inside.limbo.items) c.self.inside.rows.items
-rows_are c =
-    let within = rw (← c.self.view_is) at c.requires in
-    let low : c.args.pass - 1 < length c.self.inside.rows.items = omega (arith, within) in
-    let row = get_or_read c.self.inside.rows.items (c.args.pass - 1) c.index_mut.result.now low c.index_mut.ensures.value first_row in
-    let queued : c.len-queued.result ≡ length c.self.inside.limbo.items = search rules in
-    rw (c.see.ensures, queued, row) (sym (rows_seen_is c.args.pass c.args.pin (length c.self.inside.limbo.items) c.self.inside.rows.items within.0))
+rows_are c = grind (arith, get_or_read, rows_seen_is)
 
 pub invariant_of-self : goal.invariant_of-self
 invariant_of-self c =

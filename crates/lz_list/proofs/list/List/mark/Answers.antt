@@ -11,7 +11,7 @@ invariant_of-self c =
       table = set_table c.self.inside.words old.table old.sorted (Link c.args.slot) _;
       sorted = mark_sorted c.self.inside.words old.table old.sorted c.args.slot within;
       heads = old.heads;
-      nodes = old.nodes ∙ sym (links_set c.self.inside.words old.table old.sorted (Link c.args.slot) _);
+      nodes = old.nodes ∙ sym (links_set c.self.inside.words (Link c.args.slot) _);
     })
 
 pub returns-clause-key : goal.returns-clause-key

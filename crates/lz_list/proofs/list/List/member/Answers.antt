@@ -1,15 +1,11 @@
-use Rattle.std.proofs.Common.{◌<◌, length, subst, sym}
+use Rattle.std.proofs.Common.{arith}
 use mathlib.Core.Bool.{false≢true}
-use Rattle.lz_list.specs.Lists.{Listed, home}
 use Rattle.lz_list.proofs.Chains.SortedChain.{node_slot}
 use Rattle.lz_list.proofs.Searches.KeySearch.{node_tells}
 use Rattle.lz_list.proofs.list.List.member.Goals as goal
 
 pub is_marked-requires : goal.is_marked-requires
-is_marked-requires c =
-    let node = rw c.rank.ensures.value at c.in-Some.ensures.some in
-    subst (λ (l : Listed). c.in-Some.slot < length l.words.links) (sym c.self.view_is)
-    (node_slot c.args.self.now.words (home c.args.self.now.words c.args.key) c.args.key c.in-Some.slot node)
+is_marked-requires c = grind (arith, node_slot)
 
 pub returns-in-None : goal.returns-in-None
 returns-in-None c =

@@ -10,8 +10,8 @@ invariant_of-self c =
     rw c.set.ensures (record {
       table = set_table c.self.inside.words old.table old.sorted c.args.word c.args.value;
       sorted = set_sorted c.self.inside.words old.table old.sorted c.args.word c.args.value within keeps;
-      heads = old.heads ∙ sym (heads_set c.self.inside.words old.table old.sorted c.args.word c.args.value);
-      nodes = old.nodes ∙ sym (links_set c.self.inside.words old.table old.sorted c.args.word c.args.value);
+      heads = old.heads ∙ sym (heads_set c.self.inside.words c.args.word c.args.value);
+      nodes = old.nodes ∙ sym (links_set c.self.inside.words c.args.word c.args.value);
     })
 
 pub returns-clause-members : goal.returns-clause-members
