@@ -6,7 +6,7 @@ use Rattle.lz_slot.specs.Histories.{IsRefused, count_of}
 use Rattle.lz_judge.specs.Records.{IsMade, IsPoint, Record}
 use Rattle.lz_judge.specs.Flaws.{IsFirstKind, IsFlaw, flaw_turn}
 use Rattle.lz_judge.specs.declared.flaw.Flaw.{Flaw}
-use Rattle.lz_judge.specs.declared.flaw.Flaw.TheVariants.{Unlisted, NeverCalled, Misordered, WrongReply, WrongSet, ListedTwice, RefusedListed}
+use Rattle.lz_judge.specs.declared.flaw.Flaw.TheVariants.{Unlisted, NeverCalled, Misordered, ListedTwice, RefusedListed}
 use Rattle.lz_judge.specs.Readings.{IsAt}
 use Rattle.lz_judge.specs.Plays.{IsKnown}
 use Rattle.lz_judge.specs.Verdicts.{AreCalled, AreListed}
@@ -26,42 +26,25 @@ AreUnrefused h = (i p : ℕ) → IsRefused h.marks i → IsPoint h.points i p �
 -- the first kind of all
 pub first_stranger : (h : Record) (i : ℕ) → IsFirstKind h (NeverCalled i)
 first_stranger h i (NeverCalled j) is = omega arith
-first_stranger h i (ListedTwice j) is = omega arith
-first_stranger h i (RefusedListed j) is = omega arith
-first_stranger h i (Unlisted j) is = omega arith
-first_stranger h i (Misordered j) is = omega arith
-first_stranger h i (WrongReply j) is = omega arith
-first_stranger h i (WrongSet j) is = omega arith
+first_stranger h i _ is = omega arith
 
 -- after the strangers
 pub first_twin : (h : Record) (i : ℕ) → AreMade h → IsFirstKind h (ListedTwice i)
 first_twin h i made (NeverCalled j) ((p, is), unmade) = absurd (unmade (made j p is))
-first_twin h i made (ListedTwice j) is = omega arith
-first_twin h i made (RefusedListed j) is = omega arith
-first_twin h i made (Unlisted j) is = omega arith
-first_twin h i made (Misordered j) is = omega arith
-first_twin h i made (WrongReply j) is = omega arith
-first_twin h i made (WrongSet j) is = omega arith
+first_twin h i made _ is = omega arith
 
 -- and after the calls with two points
 pub first_refused : (h : Record) (i : ℕ) → AreMade h → AreSingle h → IsFirstKind h (RefusedListed i)
 first_refused h i made once (NeverCalled j) ((p, is), unmade) = absurd (unmade (made j p is))
 first_refused h i made once (ListedTwice j) twice = let single = once j in absurd (omega (arith, single, twice))
-first_refused h i made once (RefusedListed j) is = omega arith
-first_refused h i made once (Unlisted j) is = omega arith
-first_refused h i made once (Misordered j) is = omega arith
-first_refused h i made once (WrongReply j) is = omega arith
-first_refused h i made once (WrongSet j) is = omega arith
+first_refused h i made once _ is = omega arith
 
 -- and after the refused calls
 pub first_unlisted : (h : Record) (i : ℕ) → AreMade h → AreSingle h → AreUnrefused h → IsFirstKind h (Unlisted i)
 first_unlisted h i made once unrefused (NeverCalled j) ((p, is), unmade) = absurd (unmade (made j p is))
 first_unlisted h i made once unrefused (ListedTwice j) twice = let single = once j in absurd (omega (arith, single, twice))
 first_unlisted h i made once unrefused (RefusedListed j) (refused, (p, is)) = absurd (unrefused j p refused is)
-first_unlisted h i made once unrefused (Unlisted j) is = omega arith
-first_unlisted h i made once unrefused (Misordered j) is = omega arith
-first_unlisted h i made once unrefused (WrongReply j) is = omega arith
-first_unlisted h i made once unrefused (WrongSet j) is = omega arith
+first_unlisted h i made once unrefused _ is = omega arith
 
 -- what is known once the points are in order but for their places
 module _ (h : Record) (places : BTreeMap ℕ ℕ) (listed : AreListed h.marks h.points places) (called : AreCalled h.marks h.points) (same : (i p : ℕ) → IsAt places i p ↔ IsPoint h.points i p) where
@@ -74,9 +57,7 @@ module _ (h : Record) (places : BTreeMap ℕ ℕ) (listed : AreListed h.marks h.
   behind_points (ListedTwice j) twice = let single = called.once j in absurd (omega (arith, single, twice))
   behind_points (RefusedListed j) (refused, (p, is)) = absurd (unrefused j p refused is)
   behind_points (Unlisted j) ((b, told), never) = let (p, is) = listed.answered j b told in absurd (never p ((same j p).0 is))
-  behind_points (Misordered j) is = omega arith
-  behind_points (WrongReply j) is = omega arith
-  behind_points (WrongSet j) is = omega arith
+  behind_points _ is = omega arith
 
   -- and after those of their order
   pub behind_order : (answers : BTreeMap ℕ Bool) → IsKnown places answers h.marks → (flaw : Flaw) → IsFlaw h flaw → 6 ≤ flaw_turn flaw
@@ -91,5 +72,4 @@ module _ (h : Record) (places : BTreeMap ℕ ℕ) (listed : AreListed h.marks h.
   behind_order answers known (ListedTwice j) twice = let single = called.once j in absurd (omega (arith, single, twice))
   behind_order answers known (RefusedListed j) (refused, (p, is)) = absurd (unrefused j p refused is)
   behind_order answers known (Unlisted j) ((b, told), never) = let (p, is) = listed.answered j b told in absurd (never p ((same j p).0 is))
-  behind_order answers known (WrongReply j) is = omega arith
-  behind_order answers known (WrongSet j) is = omega arith
+  behind_order answers known _ is = omega arith

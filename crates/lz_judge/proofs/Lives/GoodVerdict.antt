@@ -26,13 +26,7 @@ is_made_tells (Call j a c ∷ M) i is = elim (eqb_tells j i) [
   | inl t ↦ (c, (a, inl (ap (λ (n : ℕ). Call n a c) t.1)))
   | inr f ↦ made_more (Call j a c) M i (is_made_tells M i (rw f.0 at is))
 ]
-is_made_tells (Answer j b ∷ M) i is = made_more (Answer j b) M i (is_made_tells M i is)
-is_made_tells (Refused j why ∷ M) i is = made_more (Refused j why) M i (is_made_tells M i is)
-is_made_tells (Cut j why ∷ M) i is = made_more (Cut j why) M i (is_made_tells M i is)
-is_made_tells (Stop ∷ M) i is = made_more Stop M i (is_made_tells M i is)
-is_made_tells (Crash ∷ M) i is = made_more Crash M i (is_made_tells M i is)
-is_made_tells (Opened keys ∷ M) i is = made_more (Opened keys) M i (is_made_tells M i is)
-is_made_tells (OpenFailed why ∷ M) i is = made_more (OpenFailed why) M i (is_made_tells M i is)
+is_made_tells (m ∷ M) i is = made_more m M i (is_made_tells M i is)
 
 -- what stands earlier in a part, or in the first of two parts, stands earlier in the whole
 earlier_left : (i j : ℕ) (L R : List ℕ) → IsEarlier i j L → IsEarlier i j (L ++ R)

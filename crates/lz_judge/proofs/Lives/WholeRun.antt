@@ -3,7 +3,7 @@ use Rattle.std.proofs.Common.{◌≡◌, ◌⊎◌, inl, inr, ⊎_elim, ℕ, ◌
 use Rattle.lz_slot.specs.Sets.{Keys, Same, after, key_of, members, reply}
 use Rattle.lz_slot.specs.declared.command.Command.{Command}
 use Rattle.lz_slot.specs.declared.history.Mark.{Mark}
-use Rattle.lz_slot.specs.declared.history.Mark.TheVariants.{Call, Answer, Refused, Cut, Stop, Crash, Opened, OpenFailed}
+use Rattle.lz_slot.specs.declared.history.Mark.TheVariants.{Call, Answer, Refused, Cut, Opened}
 use Rattle.lz_slot.specs.Histories.{IsAnswered, IsCalled, IsListed, Runs, lives}
 use Rattle.lz_judge.specs.Records.{IsLawful, IsMade, MayFollow}
 use Rattle.lz_judge.specs.Flaws.{IsInOrder, IsLifeBefore, Leads, OrderedChain}
@@ -52,13 +52,7 @@ runs_then M (i ∷ L) R S T U (c, called, right, rest) second = (c, called, righ
 lawful_past : (M : List Mark) → IsLawful M → IsLawful (past_of M)
 lawful_past [] lawful = lawful
 lawful_past (Opened keys ∷ M) lawful = lawful.1
-lawful_past (Stop ∷ M) lawful = lawful_past M lawful.1
-lawful_past (Crash ∷ M) lawful = lawful_past M lawful.1
-lawful_past (OpenFailed why ∷ M) lawful = lawful_past M lawful.1
-lawful_past (Call j a c ∷ M) lawful = lawful_past M lawful.1
-lawful_past (Answer j b ∷ M) lawful = lawful_past M lawful.1
-lawful_past (Refused j why ∷ M) lawful = lawful_past M lawful.1
-lawful_past (Cut j why ∷ M) lawful = lawful_past M lawful.1
+lawful_past (_ ∷ M) lawful = lawful_past M lawful.1
 
 -- an answer was given in the past or in the life that goes on
 answer_later : (m : Mark) (M : List Mark) (i : ℕ) (b : Bool) → IsAnswered (past_of M) i b ⊎ IsAnswered (this_life M) i b → IsAnswered (past_of M) i b ⊎ IsAnswered (m ∷ this_life M) i b
@@ -68,13 +62,11 @@ answer_later m M i b (inr here) = inr (inr here)
 answer_split : (M : List Mark) (i : ℕ) (b : Bool) → IsAnswered M i b → IsAnswered (past_of M) i b ⊎ IsAnswered (this_life M) i b
 answer_split [] i b has = absurd has
 answer_split (Opened keys ∷ M) i b has = inl (⊎_elim (λ here. absurd (cc)) (λ there. there) has)
-answer_split (Stop ∷ M) i b has = answer_split M i b (⊎_elim (λ here. absurd (cc)) (λ there. there) has)
-answer_split (Crash ∷ M) i b has = answer_split M i b (⊎_elim (λ here. absurd (cc)) (λ there. there) has)
-answer_split (OpenFailed why ∷ M) i b has = answer_split M i b (⊎_elim (λ here. absurd (cc)) (λ there. there) has)
 answer_split (Call j a c ∷ M) i b has = answer_later (Call j a c) M i b (answer_split M i b (⊎_elim (λ here. absurd (cc)) (λ there. there) has))
 answer_split (Refused j why ∷ M) i b has = answer_later (Refused j why) M i b (answer_split M i b (⊎_elim (λ here. absurd (cc)) (λ there. there) has))
 answer_split (Cut j why ∷ M) i b has = answer_later (Cut j why) M i b (answer_split M i b (⊎_elim (λ here. absurd (cc)) (λ there. there) has))
 answer_split (Answer j d ∷ M) i b has = ⊎_elim (λ here. inr (inl here)) (λ there. answer_later (Answer j d) M i b (answer_split M i b there)) has
+answer_split (_ ∷ M) i b has = answer_split M i b (⊎_elim (λ here. absurd (cc)) (λ there. there) has)
 
 -- the calls with a place, in order, are a run from the empty set to T
 pub record RunIs (at : ℕ → ℕ → Type 0) (M : List Mark) (T : Keys) : Type 0 where
@@ -168,13 +160,7 @@ module _ (at : ℕ → ℕ → Type 0) where
   past_run (Opened keys ∷ M) lawful apart chain =
       let earlier = λ (i j p q : ℕ) (is : at i p) (is' : at j q) (before : IsLifeBefore M i j). apart i j p q is is' (inr before) in
       run_of M lawful.1 earlier (members keys) chain (past_run M lawful.1 earlier (chain_before M (members keys) chain))
-  past_run (Stop ∷ M) lawful apart chain = past_run M lawful.1 (λ i j p q is is' before. apart i j p q is is' (inr before)) chain
-  past_run (Crash ∷ M) lawful apart chain = past_run M lawful.1 (λ i j p q is is' before. apart i j p q is is' (inr before)) chain
-  past_run (OpenFailed why ∷ M) lawful apart chain = past_run M lawful.1 (λ i j p q is is' before. apart i j p q is is' (inr before)) chain
-  past_run (Call k a c ∷ M) lawful apart chain = past_run M lawful.1 (λ i j p q is is' before. apart i j p q is is' (inr before)) chain
-  past_run (Answer k b ∷ M) lawful apart chain = past_run M lawful.1 (λ i j p q is is' before. apart i j p q is is' (inr before)) chain
-  past_run (Refused k why ∷ M) lawful apart chain = past_run M lawful.1 (λ i j p q is is' before. apart i j p q is is' (inr before)) chain
-  past_run (Cut k why ∷ M) lawful apart chain = past_run M lawful.1 (λ i j p q is is' before. apart i j p q is is' (inr before)) chain
+  past_run (_ ∷ M) lawful apart chain = past_run M lawful.1 (λ i j p q is is' before. apart i j p q is is' (inr before)) chain
 
   -- a chain is one run of all its calls
   pub chain_run : (M : List Mark) (T : Keys) → IsLawful M → AreApart M → OrderedChain at (lives (members []) M) T → RunIs at M T

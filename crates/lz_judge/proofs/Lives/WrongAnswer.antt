@@ -8,7 +8,7 @@ use Rattle.std.specs.Ordering.{nat_cmp}
 use Rattle.std.proofs.lemmas.Option.{same_Some}
 use Rattle.lz_slot.specs.Sets.{Keys, Same, after, key_of, members, reply}
 use Rattle.lz_slot.specs.declared.history.Mark.{Mark}
-use Rattle.lz_slot.specs.declared.history.Mark.TheVariants.{Call, Answer, Refused, Cut, Stop, Crash, Opened, OpenFailed}
+use Rattle.lz_slot.specs.declared.history.Mark.TheVariants.{Call, Opened}
 use Rattle.lz_slot.specs.Histories.{IsCalled, IsEarlier, IsListed}
 use Rattle.lz_judge.specs.Records.{IsMade}
 use Rattle.lz_judge.specs.Flaws.{IsInOrder, Leads, opens}
@@ -268,35 +268,17 @@ ran_none places answers keys is_set = record {
 pub ran_rest : (places : BTreeMap ℕ ℕ) (answers : BTreeMap ℕ Bool) (M : List Mark) (keys : BTreeSet ℕ) (wrong_reply : Option ℕ) (m : Mark) → ((found : List ℕ) → m ≢ Opened found) → Ran places answers M keys wrong_reply
     → Ran places answers (m ∷ M) keys wrong_reply
 ran_rest places answers M keys wrong_reply (Opened found) no_open ran = absurd (no_open found refl)
-ran_rest places answers M keys wrong_reply Stop no_open ran = record { now = ran.now; is_set = ran.is_set; list = ran.list; in_order = ran.in_order; leads = ran.leads; wrong_is = ran.wrong_is }
-ran_rest places answers M keys wrong_reply Crash no_open ran = record { now = ran.now; is_set = ran.is_set; list = ran.list; in_order = ran.in_order; leads = ran.leads; wrong_is = ran.wrong_is }
-ran_rest places answers M keys wrong_reply (OpenFailed why) no_open ran = record { now = ran.now; is_set = ran.is_set; list = ran.list; in_order = ran.in_order; leads = ran.leads; wrong_is = ran.wrong_is }
-ran_rest places answers M keys wrong_reply (Call j a c) no_open ran = record { now = ran.now; is_set = ran.is_set; list = ran.list; in_order = ran.in_order; leads = ran.leads; wrong_is = ran.wrong_is }
-ran_rest places answers M keys wrong_reply (Answer j b) no_open ran = record { now = ran.now; is_set = ran.is_set; list = ran.list; in_order = ran.in_order; leads = ran.leads; wrong_is = ran.wrong_is }
-ran_rest places answers M keys wrong_reply (Refused j why) no_open ran = record { now = ran.now; is_set = ran.is_set; list = ran.list; in_order = ran.in_order; leads = ran.leads; wrong_is = ran.wrong_is }
-ran_rest places answers M keys wrong_reply (Cut j why) no_open ran = record { now = ran.now; is_set = ran.is_set; list = ran.list; in_order = ran.in_order; leads = ran.leads; wrong_is = ran.wrong_is }
+ran_rest places answers M keys wrong_reply _ no_open ran = record { now = ran.now; is_set = ran.is_set; list = ran.list; in_order = ran.in_order; leads = ran.leads; wrong_is = ran.wrong_is }
 
 pub compared_none : (places : BTreeMap ℕ ℕ) → Compared places [] 0 None
 compared_none places = record { counts = refl; set_is = λ n is. absurd (cc) }
 
 pub compared_rest : (places : BTreeMap ℕ ℕ) (M : List Mark) (count : ℕ) (wrong_set : Option ℕ) (m : Mark) → ((found : List ℕ) → m ≢ Opened found) → Compared places M count wrong_set → Compared places (m ∷ M) count wrong_set
 compared_rest places M count wrong_set (Opened found) no_open compared = absurd (no_open found refl)
-compared_rest places M count wrong_set Stop no_open compared = record { counts = compared.counts; set_is = compared.set_is }
-compared_rest places M count wrong_set Crash no_open compared = record { counts = compared.counts; set_is = compared.set_is }
-compared_rest places M count wrong_set (OpenFailed why) no_open compared = record { counts = compared.counts; set_is = compared.set_is }
-compared_rest places M count wrong_set (Call j a c) no_open compared = record { counts = compared.counts; set_is = compared.set_is }
-compared_rest places M count wrong_set (Answer j b) no_open compared = record { counts = compared.counts; set_is = compared.set_is }
-compared_rest places M count wrong_set (Refused j why) no_open compared = record { counts = compared.counts; set_is = compared.set_is }
-compared_rest places M count wrong_set (Cut j why) no_open compared = record { counts = compared.counts; set_is = compared.set_is }
+compared_rest places M count wrong_set _ no_open compared = record { counts = compared.counts; set_is = compared.set_is }
 
 -- there are no more opens than marks
 pub opens_within : (M : List Mark) → opens M ≤ length M
 opens_within [] = omega arith
 opens_within (Opened keys ∷ M) = let rest = opens_within M in omega (arith, rest)
-opens_within (Stop ∷ M) = let rest = opens_within M in omega (arith, rest)
-opens_within (Crash ∷ M) = let rest = opens_within M in omega (arith, rest)
-opens_within (OpenFailed why ∷ M) = let rest = opens_within M in omega (arith, rest)
-opens_within (Call j a c ∷ M) = let rest = opens_within M in omega (arith, rest)
-opens_within (Answer j b ∷ M) = let rest = opens_within M in omega (arith, rest)
-opens_within (Refused j why ∷ M) = let rest = opens_within M in omega (arith, rest)
-opens_within (Cut j why ∷ M) = let rest = opens_within M in omega (arith, rest)
+opens_within (_ ∷ M) = let rest = opens_within M in omega (arith, rest)

@@ -10,7 +10,7 @@ use Rattle.std.proofs.lemmas.Option.{same_Some}
 use Rattle.std.proofs.lemmas.Bool.{cases_eq, cases_lt}
 use Rattle.lz_slot.specs.declared.command.Command.{Command}
 use Rattle.lz_slot.specs.declared.history.Mark.{Mark}
-use Rattle.lz_slot.specs.declared.history.Mark.TheVariants.{Call, Answer, Refused, Cut, Stop, Crash, Opened, OpenFailed}
+use Rattle.lz_slot.specs.declared.history.Mark.TheVariants.{Call, Answer, Opened}
 use Rattle.lz_judge.specs.Records.{IsMade}
 use Rattle.lz_judge.specs.Flaws.{IsMisplaced, IsPast}
 use Rattle.lz_judge.specs.Readings.{Floored, IsAt, Ordered}
@@ -76,11 +76,7 @@ module _ (M : List Mark) (places : BTreeMap ℕ ℕ) (floor top : ℕ) (used : B
   floored_rest (Call j a c) no_call no_answer no_open = absurd (no_call j a c refl)
   floored_rest (Answer j b) no_call no_answer no_open = absurd (no_answer j b refl)
   floored_rest (Opened keys) no_call no_answer no_open = absurd (no_open keys refl)
-  floored_rest (Refused j why) no_call no_answer no_open = floored_other (Refused j why) no_call no_answer (λ i is. is) (λ i is. is)
-  floored_rest (Cut j why) no_call no_answer no_open = floored_other (Cut j why) no_call no_answer (λ i is. is) (λ i is. is)
-  floored_rest Stop no_call no_answer no_open = floored_other Stop no_call no_answer (λ i is. is) (λ i is. is)
-  floored_rest Crash no_call no_answer no_open = floored_other Crash no_call no_answer (λ i is. is) (λ i is. is)
-  floored_rest (OpenFailed why) no_call no_answer no_open = floored_other (OpenFailed why) no_call no_answer (λ i is. is) (λ i is. is)
+  floored_rest m no_call no_answer no_open = floored_other m no_call no_answer (λ i is. is) (λ i is. is)
 
   -- the answer of a call without a point
   pub floored_untold : (i : ℕ) (b : Bool) → tree.get nat_cmp places i ≡ None → Floored (Answer i b ∷ M) places floor top used least

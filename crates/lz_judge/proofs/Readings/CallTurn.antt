@@ -13,7 +13,7 @@ use Rattle.std.proofs.lemmas.Bool.{cases_eq}
 use Rattle.lz_slot.specs.Sets.{Keys, Same, members}
 use Rattle.lz_slot.specs.declared.command.Command.{Command}
 use Rattle.lz_slot.specs.declared.history.Mark.{Mark}
-use Rattle.lz_slot.specs.declared.history.Mark.TheVariants.{Call, Answer, Refused, Cut, Stop, Crash, Opened, OpenFailed}
+use Rattle.lz_slot.specs.declared.history.Mark.TheVariants.{Call, Answer, Refused, Cut, Opened}
 use Rattle.lz_slot.specs.Histories.{Fits, IsCalled, IsListed, Life, lives}
 use Rattle.lz_judge.specs.Records.{IsMade}
 use Rattle.lz_judge.specs.Flaws.{IsInOrder, OrderedChain}
@@ -146,12 +146,10 @@ module _ (places : BTreeMap ℕ ℕ) (M : List Mark) (keys : BTreeSet ℕ) (life
   pub played_rest : (m : Mark) → ((j a : ℕ) (c : Command) → m ≢ Call j a c) → ((found : List ℕ) → m ≢ Opened found) → Played places (m ∷ M) keys life wrong_reply wrong_set
   played_rest (Call j a c) no_call no_open = absurd (no_call j a c refl)
   played_rest (Opened found) no_call no_open = absurd (no_open found refl)
-  played_rest Stop no_call no_open = record { now = before.now; is_set = before.is_set; is_life = before.is_life; chain = before.chain }
-  played_rest Crash no_call no_open = record { now = before.now; is_set = before.is_set; is_life = before.is_life; chain = before.chain }
-  played_rest (OpenFailed why) no_call no_open = record { now = before.now; is_set = before.is_set; is_life = before.is_life; chain = before.chain }
   played_rest (Answer j b) no_call no_open = record { now = before.now; is_set = before.is_set; is_life = life_other places (this_life M) life (Answer j b) no_call before.is_life; chain = before.chain }
   played_rest (Refused j why) no_call no_open = record { now = before.now; is_set = before.is_set; is_life = life_other places (this_life M) life (Refused j why) no_call before.is_life; chain = before.chain }
   played_rest (Cut j why) no_call no_open = record { now = before.now; is_set = before.is_set; is_life = life_other places (this_life M) life (Cut j why) no_call before.is_life; chain = before.chain }
+  played_rest _ no_call no_open = record { now = before.now; is_set = before.is_set; is_life = before.is_life; chain = before.chain }
 
   -- a call without a place
   pub played_unlisted : (i a : ℕ) (c : Command) → tree.get nat_cmp places i ≡ None → Played places (Call i a c ∷ M) keys life wrong_reply wrong_set

@@ -15,7 +15,8 @@ use Rattle.lz_slot.specs.declared.history.Mark.{Mark}
 use Rattle.lz_slot.specs.declared.history.Mark.TheVariants.{Call}
 use Rattle.lz_judge.specs.Records.{IsMade, MayFollow, actor_of}
 use Rattle.lz_judge.specs.Ledgers.{IsLedger}
-use Rattle.lz_judge.proofs.Lives.LawfulHistory.{made_cases, made_more, open_made}
+use Rattle.lz_judge.proofs.Lives.LawfulHistory.{made_cases, made_more}
+use Rattle.lz_judge.proofs.Lives.CurrentLife.{open_made}
 
 module _ (M : List Mark) (calls : BTreeSet ℕ) (actors busy : BTreeMap ℕ ℕ) (living : Bool) (before : IsLedger M calls actors busy living) where
   -- a call begins

@@ -13,7 +13,7 @@ use Rattle.lz_machine.specs.declared.event.Event.TheVariants.{Hop, Check}
 use Rattle.lz_machine.specs.declared.event.Outcome.TheVariants.{Value}
 use Rattle.lz_machine.specs.declared.event.Reply.{Reply}
 use Rattle.lz_machine.specs.declared.caller.Sequence.{Sequence}
-use Rattle.lz_machine.specs.declared.caller.Sequence.TheVariants.{Pinning, Resting, Writing, Adding, Removing, Releasing, Halting}
+use Rattle.lz_machine.specs.declared.caller.Sequence.TheVariants.{Resting, Writing, Adding, Removing}
 use Rattle.lz_machine.specs.declared.caller.Progress.{Progress}
 use Rattle.lz_machine.specs.declared.caller.Progress.TheVariants.{Playing, LoadsHalt, Walking}
 use Rattle.lz_machine.specs.Yards.{Shape}
@@ -81,13 +81,11 @@ no_load_in (e ∷ es) zero none = none.0
 no_load_in (e ∷ es) (suc i) none = no_load_in es i none.1
 
 no_loads : (c : Command) (sequence : Sequence) → NoLoads (events_of c sequence)
-no_loads c Pinning = (refl, tt)
 no_loads c (Resting s reply) = (refl, (refl, tt))
 no_loads c (Writing s) = (refl, (refl, tt))
 no_loads c (Adding s) = (refl, (refl, (refl, (refl, (refl, tt)))))
 no_loads c (Removing s) = (refl, (refl, (refl, (refl, (refl, (refl, (refl, tt)))))))
-no_loads c (Releasing aim) = (refl, tt)
-no_loads c (Halting reply) = (refl, tt)
+no_loads c _ = (refl, tt)
 
 pub load_place : (shape : Shape) (c : Command) (at : Progress) (w : Word) → event_at shape c at ≡ Hop w → IsLoading at
 load_place shape c (Playing sequence i) w is = absurd (false≢true (ap is_some (sym (no_load_in (events_of c sequence) i (no_loads c sequence)) ∙ ap hop_of is)))

@@ -24,7 +24,7 @@ use Rattle.lz_machine.specs.declared.event.Outcome.TheVariants.{Value, Slot, NoS
 use Rattle.lz_machine.specs.declared.event.Reply.{Reply}
 use Rattle.lz_machine.specs.declared.event.Reply.TheVariants.{Yes, No, Halted, OldFile as SaysOldFile}
 use Rattle.lz_machine.specs.declared.caller.Sequence.{Sequence}
-use Rattle.lz_machine.specs.declared.caller.Sequence.TheVariants.{Pinning, Resting, Writing, Adding, Removing, Releasing, Halting}
+use Rattle.lz_machine.specs.declared.caller.Sequence.TheVariants.{Resting, Writing, Adding, Removing, Releasing}
 use Rattle.lz_machine.specs.declared.caller.Progress.{Progress}
 use Rattle.lz_machine.specs.declared.caller.Progress.TheVariants.{Playing, LoadsHalt, Walking, Reserving, SeeingPins, Claiming, Checking, Answering}
 use Rattle.lz_machine.specs.Yards.{Shape, IsInside}
@@ -92,13 +92,11 @@ no_invoke_in (e ∷ es) zero none = none.0
 no_invoke_in (e ∷ es) (suc i) none = no_invoke_in es i none.1
 
 no_invokes : (c : Command) (sequence : Sequence) → AreNoInvokes (events_of c sequence)
-no_invokes c Pinning = (refl, tt)
 no_invokes c (Resting s reply) = (refl, (refl, tt))
 no_invokes c (Writing s) = (refl, (refl, tt))
 no_invokes c (Adding s) = (refl, (refl, (refl, (refl, (refl, tt)))))
 no_invokes c (Removing s) = (refl, (refl, (refl, (refl, (refl, (refl, (refl, tt)))))))
-no_invokes c (Releasing aim) = (refl, tt)
-no_invokes c (Halting reply) = (refl, tt)
+no_invokes c _ = (refl, tt)
 
 goes_on_with : (shape : Shape) (c : Command) (at : Progress) → is_invoke (event_at shape c at) ≡ false
 goes_on_with shape c (Playing sequence i) = no_invoke_in (events_of c sequence) i (no_invokes c sequence)
@@ -116,11 +114,7 @@ module _ (z : Sizes) (walkable : IsWalkable z) (shape : Shape) (c : Command) (P0
   on_walk : (sequence : Sequence) → OnWalk z c (goes_on sequence) P0 Q
   on_walk (Writing s) = first_look z walkable (key_of c) P0 Q
   on_walk (Releasing aim) = first_look z walkable (key_of c) P0 Q
-  on_walk Pinning = tt
-  on_walk (Resting s reply) = tt
-  on_walk (Adding s) = tt
-  on_walk (Removing s) = tt
-  on_walk (Halting reply) = tt
+  on_walk _ = tt
 
   sequence_walk : (sequence : Sequence) (i : ℕ) → OnWalk z c (after_event c sequence i) P0 Q
   sequence_walk sequence i = go (nat_lt (i + 1) (length (events_of c sequence)))
@@ -145,15 +139,11 @@ module _ (z : Sizes) (walkable : IsWalkable z) (shape : Shape) (c : Command) (P0
   follows_walk (Reserving true) (Slot s) none = tt
   follows_walk (Reserving false) (NoSlot counts) none = tt
   follows_walk (Reserving true) (NoSlot counts) none = tt
-  follows_walk (Reserving false) o none = tt
-  follows_walk (Reserving true) o none = tt
   follows_walk (SeeingPins p) o none = pin_walk p
   follows_walk (Claiming aim pred curr) Taken none = tt
-  follows_walk (Claiming aim pred curr) o none = tt
   follows_walk (Checking aim curr) True none = changes_walk c aim curr
   follows_walk (Checking aim curr) False none = tt
-  follows_walk (Checking aim curr) o none = tt
-  follows_walk (Answering reply) o none = tt
+  follows_walk _ o none = tt
 
   next_walk : (at : Progress) (o : Outcome) → hop_of (event_at shape c at) ≡ None → OnWalk z c (progress_after shape c at o) P0 Q
   next_walk at Fault none = tt
@@ -167,17 +157,15 @@ module _ (z : Sizes) (walkable : IsWalkable z) (shape : Shape) (c : Command) (P0
   rests_walk s asks_sync reply = tt
 
   walked_walk : (d : Command) (aim : Option ℕ) (pred : Place) (curr : Option ℕ) (met : Met) → OnWalk z c (walked d aim pred curr met) P0 Q
-  walked_walk (Has k) aim pred curr Absent = tt
   walked_walk (Has k) aim pred curr (Unmarked s flags) = rests_walk s (may_answer flags) Yes
-  walked_walk (Has k) aim pred curr (met_marked s flags) = rests_walk s (may_answer flags) No
   walked_walk (Add k) aim pred curr (Unmarked s flags) = rests_walk s (may_answer flags) No
   walked_walk (Add k) None pred curr Absent = tt
   walked_walk (Add k) None pred curr (met_marked s flags) = tt
   walked_walk (Add k) (Some t) pred curr Absent = tt
   walked_walk (Add k) (Some t) pred curr (met_marked s flags) = tt
-  walked_walk (Remove k) aim pred curr Absent = tt
-  walked_walk (Remove k) aim pred curr (met_marked s flags) = rests_walk s (may_answer flags) No
   walked_walk (Remove k) aim pred curr (Unmarked s flags) = tt
+  walked_walk _ aim pred curr Absent = tt
+  walked_walk _ aim pred curr (met_marked s flags) = rests_walk s (may_answer flags) No
 
   hop_walk : (aim : Option ℕ) (x : Hopped) → Walked z (key_of c) P0 Q x → OnWalk z c (hops_on c aim x) P0 Q
   hop_walk aim (More look) h = h

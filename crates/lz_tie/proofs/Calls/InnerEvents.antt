@@ -9,7 +9,7 @@ use Rattle.lz_machine.specs.declared.event.Event.TheVariants.{Pin, Check, Answer
 use Rattle.lz_machine.specs.declared.event.Outcome.{Outcome}
 use Rattle.lz_machine.specs.declared.caller.Sequence.TheVariants.{Pinning, Resting, Writing, Adding, Removing, Releasing, Halting}
 use Rattle.lz_machine.specs.declared.caller.Progress.{Progress}
-use Rattle.lz_machine.specs.declared.caller.Progress.TheVariants.{Playing, LoadsHalt, Walking, Reserving, SeeingPins, Claiming, Checking, Answering}
+use Rattle.lz_machine.specs.declared.caller.Progress.TheVariants.{Playing, LoadsHalt, Reserving, SeeingPins, Claiming, Checking, Answering}
 use Rattle.lz_machine.specs.Yards.{Shape}
 use Rattle.lz_machine.specs.Calls.{event_at, events_of, loaded}
 use Rattle.lz_machine.specs.CallersSound.{is_before_pin}
@@ -46,7 +46,6 @@ plain_loaded w (SeePin p value) plain = refl
 plain_loaded w e plain = plain
 
 pub plain_event : (shape : Shape) (c : Command) (at : Progress) → IsPlain at → is_pinning (event_at shape c at) ≡ false
-plain_event shape c (Playing Pinning i) plain = absurd plain
 plain_event shape c (Playing (Resting s reply) i) plain = plain_in (events_of c (Resting s reply)) i (refl, (refl, tt))
 plain_event shape c (Playing (Writing s) i) plain = plain_in (events_of c (Writing s)) i (refl, (refl, tt))
 plain_event shape c (Playing (Adding s) i) plain = plain_in (events_of c (Adding s)) i (refl, (refl, (refl, (refl, (refl, tt)))))
@@ -57,9 +56,7 @@ plain_event shape c (Reserving again) plain = refl
 plain_event shape c (SeeingPins p) plain = refl
 plain_event shape c (Claiming aim pred curr) plain = refl
 plain_event shape c (Checking aim curr) plain = refl
-plain_event shape c LoadsHalt plain = absurd plain
-plain_event shape c (Walking aim look) plain = absurd plain
-plain_event shape c (Answering reply) plain = absurd plain
+plain_event shape c _ plain = absurd plain
 
 pub plain_going : (at : Progress) → IsPlain at → reply_at at ≡ None
 plain_going (Answering reply) plain = absurd plain

@@ -14,7 +14,7 @@ use Rattle.lz_list.specs.declared.publishing.Publishing.TheVariants.{Linked as l
 use Rattle.lz_list.specs.Words.{Words, get, set, redirect, word_of, change_flags}
 use Rattle.lz_flush.specs.Settling.{settle}
 use Rattle.lz_machine.specs.declared.course.Course.{Course}
-use Rattle.lz_machine.specs.declared.course.Course.TheVariants.{Refused, Dies, Plays}
+use Rattle.lz_machine.specs.declared.course.Course.TheVariants.{Plays}
 use Rattle.lz_machine.specs.declared.actor.Actor.{Actor}
 use Rattle.lz_machine.specs.declared.event.Event.{Event}
 use Rattle.lz_machine.specs.declared.event.Event.TheVariants.{Pin, WriteKey, WriteOpen, Link, Mark, Settle, Unlink, Answer, Halt}
@@ -83,9 +83,8 @@ changed_walked y a Answer not_one = go (stays_out (actor_at y a) (pin_of y a)) n
 changed_walked y a e not_one = tt
 
 on_others : (y : Yard) (a : ℕ) (e : Event) (v : Word) (c : Course) → changed_on c y (actor_at y a) a e ≢ Some v → get (line_on c y (actor_at y a) a e).0.words v ≡ get y.words v
-on_others y a e v (Refused o) away = refl
-on_others y a e v Dies away = refl
 on_others y a e v Plays away = others_stay y (actor_at y a) a e v away
+on_others y a e v _ away = refl
 
 pub line_others : (y : Yard) (a : ℕ) (e : Event) (v : Word) → line_changes y a e ≢ Some v → get (line y a e).0.words v ≡ get y.words v
 line_others y a e v away = on_others y a e v (course y a e) away
@@ -106,17 +105,15 @@ made_own y actor a q Unlink away = none_of q (unlinked (get y.words (key_at (nod
 made_own y actor a q _ away = refl
 
 on_own : (y : Yard) (a q : ℕ) (e : Event) (c : Course) → q ≢ a → own q (published_on c y (actor_at y a) a e) ≡ []
-on_own y a q e (Refused o) away = refl
-on_own y a q e Dies away = refl
 on_own y a q e Plays away = made_own y (actor_at y a) a q e away
+on_own y a q e _ away = refl
 
 pub line_own : (y : Yard) (a q : ℕ) (e : Event) → q ≢ a → own q (line_publishes y a e) ≡ []
 line_own y a q e away = on_own y a q e (course y a e) away
 
 on_pin : (y : Yard) (a q : ℕ) (e : Event) (c : Course) → changed_on c y (actor_at y a) a e ≡ Some (pin_at q) → (c ≡ Plays) × (word_changed y (actor_at y a) a e ≡ Some (pin_at q))
-on_pin y a q e (Refused o) is = absurd (false≢true (ap is_some is))
-on_pin y a q e Dies is = absurd (false≢true (ap is_some is))
 on_pin y a q e Plays is = (refl, is)
+on_pin y a q e _ is = absurd (false≢true (ap is_some is))
 
 -- an event whose line names a pin word is played, and counts its actor's pin word up
 pub pin_changed : (y : Yard) (a q : ℕ) (e : Event) → line_changes y a e ≡ Some (pin_at q) → (is_counting y a e ≡ true) × (course y a e ≡ Plays)
@@ -136,6 +133,5 @@ counting_silent y a e is = on (course y a e)
     none e is = absurd (false≢true is)
 
     on : (c : Course) → published_on c y (actor_at y a) a e ≡ []
-    on (Refused o) = refl
-    on Dies = refl
     on Plays = none e is
+    on _ = refl

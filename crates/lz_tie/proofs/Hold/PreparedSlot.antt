@@ -8,7 +8,7 @@ use Rattle.lz_list.specs.declared.publishing.Publishing.{Publishing}
 use Rattle.lz_list.specs.declared.publishing.Publishing.TheVariants.{KeyPrepared as key_prepared, LinkPrepared as link_prepared}
 use Rattle.lz_list.specs.Traces.{Trace}
 use Rattle.lz_machine.specs.declared.course.Course.{Course}
-use Rattle.lz_machine.specs.declared.course.Course.TheVariants.{Refused, Dies, Plays}
+use Rattle.lz_machine.specs.declared.course.Course.TheVariants.{Plays}
 use Rattle.lz_machine.specs.declared.event.Event.{Event}
 use Rattle.lz_machine.specs.declared.event.Event.TheVariants.{WriteKey, WriteOpen, Settle}
 use Rattle.lz_machine.specs.Yards.{Yard, actor_at, cell_at}
@@ -56,9 +56,8 @@ prepared_hand y a e s is = on (course y a e) refl is
     go e has is = absurd (none_some s is)
 
     on : (c : Course) → course y a e ≡ c → prepared (published_on c y (actor_at y a) a e) ≡ Some s → (actor_at y a).slot ≡ Some s
-    on (Refused o) at is = absurd (none_some s is)
-    on Dies at is = absurd (none_some s is)
     on Plays at is = go e (plays_needs y a e at) is
+    on _ at is = absurd (none_some s is)
 
 -- a slot that each pass has left may be prepared
 pub prepares_left : (z : Sizes) (opened : Trace) (ns : List Note) (x : Option Publishing) → ((s : ℕ) → prepared (as_list x) ≡ Some s → AllLeft z opened ns s) → MayPrepare z opened ns x

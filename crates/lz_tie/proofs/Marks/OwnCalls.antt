@@ -101,8 +101,7 @@ number_within p (n ∷ ns) = go n.what (number_within p ns)
 
     go : (what : What) → last_call_number p ns ≤ calls_in ns → number_with p n.by what (calls_in ns) (last_call_number p ns) ≤ calls_with what (calls_in ns)
     go (Called c format) high = of_made high (n.by == p)
-    go (Played e o) high = high
-    go (Found q v) high = high
+    go _ high = high
 
 module _ (shape : Shape) (p : ℕ) where
   abbrev calls_at : List Note → List SeenCall

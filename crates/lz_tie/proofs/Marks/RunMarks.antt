@@ -207,11 +207,10 @@ reads_marked start (n ∷ ns) steps runs (new, before, is, tells, rest) =
         }
 
     go : (what : What) → n.what ≡ what → Placed start (run (first_point start) before) ns → Marked start (run (first_point start) before) ns → TellsOf (run (first_point start) before).state n what new → Marked start (run (first_point start) (new ++ before)) (n ∷ ns)
-    go (Called c format) same h m t = one h m t
-    go (Played e o) same h m t = one h m t
     go (Found q v) same h m t =
         subst (λ (l : List Transition). Marked start (run (first_point start) (l ++ before)) (n ∷ ns)) (sym t.2.steps)
         (found_marked start (run (first_point start) (replicate t.2.looks (Looks q) ++ before)) n ns q v same (looks_marked start (first_point start) t.2.looks q before ns m))
+    go _ same h m t = one h m t
 
 -- the marks of the run are those of the notes, and so is the count of its calls
 pub marks_read : (start : Start) (ns : List Note) (steps : List Transition) → IsRun (first_point start) steps → ReadsAs (first_point start) ns steps

@@ -12,7 +12,7 @@ use Rattle.lz_list.specs.declared.place.Place.TheVariants.{Bucket, Node}
 use Rattle.lz_list.specs.declared.word.Word.TheVariants.{Pin as pin_word}
 use Rattle.lz_list.specs.Words.{Words, get, set, redirect}
 use Rattle.lz_machine.specs.declared.course.Course.{Course}
-use Rattle.lz_machine.specs.declared.course.Course.TheVariants.{Refused, Dies, Plays}
+use Rattle.lz_machine.specs.declared.course.Course.TheVariants.{Refused, Plays}
 use Rattle.lz_machine.specs.declared.actor.Actor.{Actor}
 use Rattle.lz_machine.specs.declared.event.Event.{Event}
 use Rattle.lz_machine.specs.declared.event.Event.TheVariants.{Invoke, Pin, Link, Settle, Unlink, Answer}
@@ -27,7 +27,7 @@ use Rattle.lz_machine.proofs.Theorem.WornPass.{up_at}
 use Rattle.lz_machine.proofs.Frames.OneActor.{caller_range}
 use Rattle.lz_machine.proofs.Frames.Outside.{out_even, answered_pin, answered_other, outside_even}
 use Rattle.lz_board.specs.declared.view.What.{What}
-use Rattle.lz_board.specs.declared.view.What.TheVariants.{Called, Played, Found}
+use Rattle.lz_board.specs.declared.view.What.TheVariants.{Played, Found}
 use Rattle.lz_board.specs.declared.view.Note.{Note}
 use Rattle.lz_board.specs.Notes.{pin_after_played, pin_after_what, pin_after}
 use Rattle.lz_tie.specs.NotedRuns.{TellsTurn, TellsFault, TellsStep, TellsOne, TellsOf, ReadsAs}
@@ -63,8 +63,6 @@ words_pins y actor a _ not_one = refl
 
 -- there are as many pin words as before
 pub line_count : (y : Yard) (a : ℕ) (e : Event) (c : Course) → length (line_on c y (actor_at y a) a e).0.words.pins ≡ length y.words.pins
-line_count y a e (Refused o) = refl
-line_count y a e Dies = refl
 line_count y a Pin Plays = length-set_of_pass y.words.pins a (get y.words (pin_word a) + 1)
 line_count y a Answer Plays = go (stays_out (actor_at y a) (pin_of y a))
   where
@@ -72,11 +70,11 @@ line_count y a Answer Plays = go (stays_out (actor_at y a) (pin_of y a))
     go true = refl
     go false = length-set_of_pass y.words.pins a (pin_of y a + 1)
 line_count y a e Plays = ap length (words_pins y (actor_at y a) a e refl)
+line_count y a e _ = refl
 
 pub line_pins : (y : Yard) (a : ℕ) (e : Event) → is_pinning e ≡ false → (c : Course) → (line_on c y (actor_at y a) a e).0.words.pins ≡ y.words.pins
-line_pins y a e not_one (Refused o) = refl
-line_pins y a e not_one Dies = refl
 line_pins y a e not_one Plays = words_pins y (actor_at y a) a e not_one
+line_pins y a e not_one _ = refl
 
 pub fault_pin : (e : Event) (pin : ℕ) → pin_after_played e Fault pin ≡ pin
 fault_pin (Invoke c) pin = refl
@@ -266,8 +264,6 @@ module _ (start : Start) (starts : IsStart start) where
           ∙ step_pins (suc (run p before).calls) service disk n ns t.step count (subst (λ w. TellsStep w n t.step) at t.tells) q now
 
       go : (service : Service) (disk : Medium) → (run p before).state ≡ Up service disk → length service.yard.words.pins ≡ length service.callers → pin_of service.yard q ≡ pin_after q ns → IsRun p (new ++ before) → (what : What) → n.what ≡ what → TellsOf (run p before).state n what new → pin_in_state (run p (new ++ before)).state q ≡ pin_after q (n ∷ ns)
-      go service disk at count now runs (Called c format) same t = one service disk at count now t
-      go service disk at count now runs (Played e o) same t = one service disk at count now t
       go service disk at count now runs (Found r v) same t =
           let l = looks_pins t.2.looks r before service disk (subst (λ l. IsRun p (l ++ before)) t.2.steps runs) at in
           ap (λ l. pin_in_state (run p (l ++ before)).state q) t.2.steps ∙ ap (λ w. pin_in_state w q) l.at
@@ -276,3 +272,4 @@ module _ (start : Start) (starts : IsStart start) where
           (λ (away : r ≢ q). l.others q (λ is. away (sym is)) ∙ now ∙ ap (λ c. if c then v else pin_after q ns) (sym (ne_eqb r q away)))
           (cases_eq r q)
           ∙ ap (λ w. pin_after_what q n.by w (pin_after q ns)) (sym same)
+      go service disk at count now runs _ same t = one service disk at count now t

@@ -29,7 +29,7 @@ use Rattle.lz_machine.specs.Calls.{events_of, goes_on, after_event, first_progre
 use Rattle.lz_machine.specs.CallersSound.{IsAdder}
 use Rattle.lz_machine.specs.Runs.{reply_at}
 use Rattle.lz_board.specs.declared.view.What.{What}
-use Rattle.lz_board.specs.declared.view.What.TheVariants.{Called, Played, Found}
+use Rattle.lz_board.specs.declared.view.What.TheVariants.{Called, Played}
 use Rattle.lz_board.specs.declared.view.Note.{Note}
 use Rattle.lz_board.specs.Notes.{note_by, place, placed, unless_replied as call_goes_on}
 use Rattle.lz_tie.specs.Answers.{IsWithin, AreWithin}
@@ -124,11 +124,10 @@ module _ (c : Command) (other : IsAdder c → ⊥) where
   follows_not shape (Playing sequence i) o is = playing_not c sequence i o is
   follows_not shape LoadsHalt o is = halt_not o
   follows_not shape (Walking aim look) o is = hop_not shape aim look o
-  follows_not shape (Reserving again) o is = absurd (true≢false is)
-  follows_not shape (SeeingPins p) o is = absurd (true≢false is)
   follows_not shape (Claiming aim pred curr) o is = claim_not aim pred curr o
   follows_not shape (Checking aim curr) o is = check_not c aim curr o
   follows_not shape (Answering reply) o is = is
+  follows_not shape _ o is = absurd (true≢false is)
 
   after_not : (shape : Shape) (at : Progress) (o : Outcome) → asks_slot at ≡ false → asks_slot (progress_after shape c at o) ≡ false
   after_not shape at Fault is = refl
@@ -143,14 +142,13 @@ AsksNone c None = Unit {0}
 AsksNone c (Some call) = (call.0 ≡ c) × (asks_slot call.1 ≡ false)
 
 placed_not : (shape : Shape) (c : Command) → (IsAdder c → ⊥) → (what : What) → IsWithin what → (at : Option (Command × Progress)) → AsksNone c at → AsksNone c (placed shape what at)
-placed_not shape c other (Called d format) within at asks = absurd within
-placed_not shape c other (Found q v) within at asks = absurd within
 placed_not shape c other (Played e o) within None asks = tt
 placed_not shape c other (Played e o) within (Some call) asks = go (reply_at call.1)
   where
     go : (r : Option Reply) → AsksNone c (call_goes_on r call.0 (progress_after shape call.0 call.1 o))
     go (Some reply) = tt
     go None = (asks.0, after_not call.0 (λ adder. other (subst IsAdder asks.0 adder)) shape call.1 o asks.1)
+placed_not shape c other _ within at asks = absurd within
 
 module _ (shape : Shape) (p : ℕ) (format : Format) (c : Command) where
   within_not : (IsAdder c → ⊥) → (within : List Note) → AreWithin within → AsksNone c (place shape (within ++ note_by p (Called c format) None ∷ []))
@@ -165,5 +163,4 @@ module _ (shape : Shape) (p : ℕ) (format : Format) (c : Command) where
 
       go : (d : Command) → c ≡ d → IsAdder c
       go (Add k) is = subst IsAdder (sym is) tt
-      go (Remove k) is = absurd (refuse (λ adder. subst IsAdder is adder))
-      go (Has k) is = absurd (refuse (λ adder. subst IsAdder is adder))
+      go _ is = absurd (refuse (λ adder. subst IsAdder is adder))

@@ -3,7 +3,7 @@ use Rattle.std.proofs.Common.{◌≡◌, inl, inr, ℕ, ◌==◌, if◌then◌el
 use mathlib.Core.Bool.{true≢false}
 use Rattle.std.proofs.lemmas.Bool.Decides.{eqb_tells}
 use Rattle.lz_slot.specs.declared.command.Command.{Command}
-use Rattle.lz_slot.specs.declared.command.Command.TheVariants.{Add, Remove, Has}
+use Rattle.lz_slot.specs.declared.command.Command.TheVariants.{Add}
 use Rattle.lz_slot.specs.declared.format.Format.{Format}
 use Rattle.lz_slot.specs.Sets.{Keys, Same, after, key_of, moved, replies, reply, set_after}
 use Rattle.lz_slot.proofs.Sets.{after_at, after_same, moved_other}
@@ -83,15 +83,13 @@ unmoved k S U it others j = elim (eqb_tells j k) [
 ]
 
 leaves_set : (c : Command) (told : Reply) (S U : Keys) → cuts_off told ≡ false → KeyRow c told (S (key_of c)) (U (key_of c)) → SameBut (key_of c) S U → Same U (after_told c told S)
-leaves_set c Yes S U kept row others = whole c S U row.1 others
-leaves_set c No S U kept row others = whole c S U row.1 others
 leaves_set (Add k) (Full counts) S U kept row others = unmoved k S U row.1 others
-leaves_set (Remove k) (Full counts) S U kept row others = absurd row
-leaves_set (Has k) (Full counts) S U kept row others = absurd row
 leaves_set c Worn S U kept row others = unmoved (key_of c) S U row others
 leaves_set c OldFile S U kept row others = unmoved (key_of c) S U row others
 leaves_set c Halted S U kept row others = absurd (true≢false kept)
 leaves_set c Device S U kept row others = absurd (true≢false kept)
+leaves_set _ (Full counts) S U kept row others = absurd row
+leaves_set c _ S U kept row others = whole c S U row.1 others
 
 abbrev AreReplies : List (Command × Bool) → Keys → Keys → Type 0
 AreReplies asked S T = (map (λ call. call.1) asked ≡ replies S (map (λ call. call.0) asked)) × Same T (set_after S (map (λ call. call.0) asked))

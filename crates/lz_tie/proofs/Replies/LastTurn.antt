@@ -7,7 +7,7 @@ use Rattle.lz_vault.specs.Vaults.{NoCall}
 use Rattle.lz_list.specs.declared.publishing.Publishing.{Publishing}
 use Rattle.lz_list.specs.Traces.{Trace}
 use Rattle.lz_machine.specs.declared.course.Course.{Course}
-use Rattle.lz_machine.specs.declared.course.Course.TheVariants.{Refused, Dies, Plays}
+use Rattle.lz_machine.specs.declared.course.Course.TheVariants.{Refused}
 use Rattle.lz_machine.specs.declared.event.Event.TheVariants.{Answer}
 use Rattle.lz_machine.specs.declared.event.Outcome.{Outcome}
 use Rattle.lz_machine.specs.declared.event.Outcome.TheVariants.{Done, NotNow, Fault}
@@ -37,13 +37,11 @@ done_in_time y a now = ⊎_elim
 
 publishes_nothing : (y : Yard) (a : ℕ) (c : Course) → published_on c y (actor_at y a) a Answer ≡ []
 publishes_nothing y a (Refused o) = refl
-publishes_nothing y a Dies = refl
-publishes_nothing y a Plays = refl
+publishes_nothing y a _ = refl
 
 makes_no_call : (y : Yard) (a : ℕ) (c : Course) → call_on c y (actor_at y a) Answer ≡ NoCall
 makes_no_call y a (Refused o) = refl
-makes_no_call y a Dies = refl
-makes_no_call y a Plays = refl
+makes_no_call y a _ = refl
 
 nothing_listed : (x : Option Publishing) → as_list x ≡ [] → x ≡ None
 nothing_listed None is = refl

@@ -120,18 +120,14 @@ module _ (shape : Shape) (p : ℕ) (F : Format) (pin : ℕ) (new : List Note) (P
       let lacks = rested_no p k P Q (own_key p P Q only k) h.0 h.1 in
       (lacks, λ j. unchanged p P Q only h.1 j ∙ gone_already (keys_in P) k j lacks)
   plain_row (Remove k) (Full counts) h = absurd h
-  plain_row (Has k) Worn h = unchanged p P Q only h.1
-  plain_row (Add k) Worn h = unchanged p P Q only h.1
-  plain_row (Remove k) Worn h = unchanged p P Q only h.1
-  plain_row (Has k) OldFile h = unchanged p P Q only h.1
-  plain_row (Add k) OldFile h = unchanged p P Q only h.1
-  plain_row (Remove k) OldFile h = unchanged p P Q only h.1
   plain_row (Has k) Halted h = cut p P Q only (Has k) h
   plain_row (Add k) Halted h = cut p P Q only (Add k) h
   plain_row (Remove k) Halted h = cut p P Q only (Remove k) h
   plain_row (Has k) Device h = cut p P Q only (Has k) h
   plain_row (Add k) Device h = cut p P Q only (Add k) h
   plain_row (Remove k) Device h = cut p P Q only (Remove k) h
+  plain_row _ Worn h = unchanged p P Q only h.1
+  plain_row _ OldFile h = unchanged p P Q only h.1
 
 pub one_caller : OneCallerIsPlain
 one_caller F c told before after answers one = record {

@@ -168,12 +168,8 @@ module _ (shape : Shape) (p : ℕ) (F : Format) (pin : ℕ) (new : List Note) (P
   row (Has k) OldFile only h = unchanged p k P Q only h.1
   row (Add k) OldFile only h = unchanged p k P Q only h.1
   row (Remove k) OldFile only h = unchanged p k P Q only h.1
-  row (Has k) Halted only h = cut p P Q (Has k) only h
-  row (Add k) Halted only h = cut p P Q (Add k) only h
-  row (Remove k) Halted only h = cut p P Q (Remove k) only h
-  row (Has k) Device only h = cut p P Q (Has k) only h
-  row (Add k) Device only h = cut p P Q (Add k) only h
-  row (Remove k) Device only h = cut p P Q (Remove k) only h
+  row c Halted only h = cut p P Q c only h
+  row c Device only h = cut p P Q c only h
 
 pub one_key : OneKeyIsPlain
 one_key F c told before after answers only = record {

@@ -12,9 +12,9 @@ use Rattle.lz_list.specs.Traces.{Trace, IsLoose}
 use Rattle.lz_machine.specs.declared.actor.Actor.{Actor}
 use Rattle.lz_machine.specs.declared.actor.Hold.TheVariants.{Nothing, Locks, Checked, GateOpened, Linked, GateClosed, Marked, Unlinked}
 use Rattle.lz_machine.specs.declared.course.Course.{Course}
-use Rattle.lz_machine.specs.declared.course.Course.TheVariants.{Refused, Dies, Plays}
+use Rattle.lz_machine.specs.declared.course.Course.TheVariants.{Plays}
 use Rattle.lz_machine.specs.declared.event.Event.{Event}
-use Rattle.lz_machine.specs.declared.event.Event.TheVariants.{Invoke, Pin, Hop, Reserve, WriteKey, Claim, Check, WriteOpen, Link, WriteClose, Mark, Release, Sync, Settle, Unlink, Retire, SeePin, Answer, Halt}
+use Rattle.lz_machine.specs.declared.event.Event.TheVariants.{Invoke, Reserve, Claim, Check, WriteOpen, Link, WriteClose, Mark, Release, Unlink, Retire, SeePin, Answer}
 use Rattle.lz_machine.specs.Yards.{Yard, actor_at, cell_at, idle_actor}
 use Rattle.lz_machine.specs.Table.{course, line_publishes, published_on, publishes, uses_after, actors_after, given_back, kept_slot, is_unused, is_old, node_of, set_actor, with_hold, with_slot, released, reserved, pin_of, pin_answered}
 use Rattle.lz_machine.proofs.Frames.Uses.{use_map}
@@ -48,9 +48,8 @@ reusing_silent y a e is = on (course y a e)
     none e is = absurd (false≢true is)
 
     on : (c : Course) → published_on c y (actor_at y a) a e ≡ []
-    on (Refused o) = refl
-    on Dies = refl
     on Plays = none e is
+    on _ = refl
 
 -- and no other event changes a use
 pub leaves : (y : Yard) (a : ℕ) (e : Event) → is_reusing e ≡ false → uses_after y (actor_at y a) a e ≡ y.uses
@@ -114,13 +113,7 @@ module _ (y : Yard) (a : ℕ) where
   hands_after Unlink other b s is = set_slot y.actors a (with_hold (actor_at y a) Unlinked) (λ t held. held) b s is
   hands_after Retire other b s is = set_slot y.actors a (with_hold (actor_at y a) Nothing) (λ t held. held) b s is
   hands_after Answer other b s is = set_slot y.actors a (with_slot (actor_at y a) (kept_slot y (actor_at y a).slot)) (λ t held. kept (actor_at y a).slot t held) b s is
-  hands_after Pin other b s is = is
-  hands_after (Hop w) other b s is = is
-  hands_after (WriteKey k) other b s is = is
-  hands_after (Sync t) other b s is = is
-  hands_after (Settle t) other b s is = is
-  hands_after (SeePin q v) other b s is = is
-  hands_after Halt other b s is = is
+  hands_after _ other b s is = is
 
 -- what holds of a taken slot is nothing
 not_taken : (u : Use) → u ≡ Free → u ≢ Taken
@@ -189,8 +182,7 @@ module _ (z : Sizes) (opened : Trace) (a : ℕ) (hs : List Load) (ns : List Note
 
         as_free : (s : ℕ) (u : Use) → is_free u ≡ true → UseTold z opened now s u → AllLeft z opened now s
         as_free s Free is told = told
-        as_free s Taken is told = absurd (false≢true is)
-        as_free s (Limbo sights) is told = absurd (false≢true is)
+        as_free s _ is told = absurd (false≢true is)
 
         free : (s : ℕ) → lowest_free (collect y.uses) ≡ Some s → AllLeft z opened now s
         free s found = as_free s (use_of (collect y.uses) s) (position-Some is_free (collect y.uses) s Taken found).1 (collected s)

@@ -8,7 +8,7 @@ use Rattle.lz_machine.specs.Yards.{Shape, Yard}
 use Rattle.lz_machine.proofs.Frames.OneActor.{caller_range}
 use Rattle.lz_board.specs.declared.view.Sizes.{Sizes}
 use Rattle.lz_board.specs.declared.view.What.{What}
-use Rattle.lz_board.specs.declared.view.What.TheVariants.{Called, Played, Found}
+use Rattle.lz_board.specs.declared.view.What.TheVariants.{Found}
 use Rattle.lz_board.specs.declared.view.Note.{Note}
 use Rattle.lz_board.specs.declared.view.Part.{Part}
 use Rattle.lz_board.specs.Notes.{shape_of_sizes}
@@ -76,9 +76,8 @@ module _ (start : Start) (starts : IsStart start) where
           inl (step_actor h.service h.disk n start.shape.passes (ap (λ (s : Shape). s.passes) h.shape) h.count t.step may tells)
 
       go : (what : What) → n.what ≡ what → TellsOf (run (first_point start) before).state n what new → Read n
-      go (Called c f) same t = one t
-      go (Played e o) same t = one t
       go (Found q v) same t = inr (q, v, same)
+      go _ same t = one t
 
   are_sole : start.shape.passes ≡ 1 → (ns : List Note) → AllRead ns → AreSole 1 ns
   are_sole one [] all = tt

@@ -250,6 +250,5 @@ module _ (start : Start) (starts : IsStart start) (a : ℕ) (low : 1 ≤ a) (h :
           some_call (Some caller) is = refl
 
           others : (what : What) (service : Service) (disk : Medium) → (run p before).state ≡ Up service disk → IsSome (caller_at service.callers a) → IsRun p (new ++ before) → x.by ≢ a → TellsOf (run p before).state x what new → list_any (is_of a) new ≡ false
-          others (Called c format) service disk at calls runs away t = ap (list_any (is_of a)) t.steps ∙ ap (λ b. b || false) (other_of a (run p before).state x t.step away t.tells)
-          others (Played e o) service disk at calls runs away t = ap (list_any (is_of a)) t.steps ∙ ap (λ b. b || false) (other_of a (run p before).state x t.step away t.tells)
           others (Found q v) service disk at calls runs away t = ap (list_any (is_of a)) t.2.steps ∙ looks_away p service disk a t.2.looks q before at calls (subst (λ l. IsRun p (l ++ before)) t.2.steps runs)
+          others _ service disk at calls runs away t = ap (list_any (is_of a)) t.steps ∙ ap (λ b. b || false) (other_of a (run p before).state x t.step away t.tells)
