@@ -17,6 +17,7 @@ pub mod Store
 pub mod NodeLocks
 pub mod Ranges
 pub mod LoadedWord
+pub mod OneLoad
 pub mod Limbo
 pub mod Outside
 pub mod Refusal

@@ -9,3 +9,4 @@ pub mod Twins
 pub mod EventOrder
 pub mod ReachedPoint
 pub mod CallerEvent
+pub mod FlowChart

@@ -16,8 +16,7 @@ use Rattle.lz_machine.specs.Yards.{Shape}
 use Rattle.lz_machine.specs.Runs.{Caller, Service, State, Up, Down, Start, Point, caller_at, first_point, run, shape_of}
 use Rattle.lz_machine.proofs.Frames.OneActor.{caller_range}
 use Rattle.lz_machine.proofs.Runs.ReachedPoint.{shape_kept}
-use Rattle.lz_machine.proofs.Theorem.Reached.{reached_sound}
-use Rattle.lz_machine.proofs.Theorem.WornPass.{up_at}
+use Rattle.lz_machine.proofs.Theorem.Reached.{reached_sound, up_at}
 use Rattle.lz_core.specs.declared.play.Step.{Step as PlayStep}
 use Rattle.lz_core.specs.declared.play.Step.TheVariants as step
 use Rattle.lz_core.specs.Worlds.{Ascend, IsAt, IsTold, IsUp, PlaysOn, Shows, WorldOver, next_of_caller}

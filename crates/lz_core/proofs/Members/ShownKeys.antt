@@ -41,8 +41,7 @@ use Rattle.lz_machine.proofs.Open.FirstState.{opened_up}
 use Rattle.lz_machine.proofs.Open.FirstNodes.{held_found}
 use Rattle.lz_machine.proofs.Frames.LoadedWord.{bucket_range}
 use Rattle.lz_core.proofs.Members.AscendingKeys.{eq_of, first_of, later_of}
-use Rattle.lz_machine.proofs.Theorem.WornPass.{up_at}
-use Rattle.lz_machine.proofs.Theorem.Reached.{reached_sound}
+use Rattle.lz_machine.proofs.Theorem.Reached.{up_at, reached_sound}
 use Rattle.lz_yard.proofs.Opening.SlotReads.{read_length}
 use Rattle.lz_machine.proofs.Open.ListedKeys.{any_key, key_by}
 use Rattle.lz_machine.proofs.Frames.Ranges.{few_slots}

@@ -11,7 +11,7 @@ use Rattle.lz_slot.specs.Bytes.{Holds}
 use Rattle.lz_slot.specs.Histories.{History, Life, Fits, lives}
 use Rattle.lz_list.specs.Traces.{Trace, halt_word}
 use Rattle.lz_machine.specs.declared.event.Reply.{Reply}
-use Rattle.lz_machine.specs.declared.event.Reply.TheVariants.{Yes, No, Full, Worn, OldFile, Halted, Device}
+use Rattle.lz_machine.specs.declared.event.Reply.TheVariants.{Yes, Halted, Device}
 use Rattle.lz_machine.specs.declared.caller.Progress.TheVariants.{Answering}
 use Rattle.lz_machine.specs.Runs.{Start, State, Up, Down, Point, MayLeave, reply_at, mark_of, start_keys}
 use Rattle.lz_machine.specs.CallersSound.{View, Relies}
@@ -55,13 +55,9 @@ cut_word v c P0 P changed M i _ h cut clean = absurd (false≢true (sym clean �
 
 -- what a reply's list leads to is served
 pub served_reply : (n i a : ℕ) (c : Command) (reply : Reply) (M : History) (S : Keys) (L : List ℕ) (T : Keys) → i < n → Ended i M → has_cut M ≡ false → Fits S (mark_of i reply ∷ Call i a c ∷ M) L T → IsPlain S (mark_of i reply ∷ Call i a c ∷ M) T
-served_reply n i a c Yes M S L T low h clean fits = served n (mark_of i Yes ∷ Call i a c ∷ M) S L T (refl, low, h) clean fits
-served_reply n i a c No M S L T low h clean fits = served n (mark_of i No ∷ Call i a c ∷ M) S L T (refl, low, h) clean fits
-served_reply n i a c (Full counts) M S L T low h clean fits = served n (mark_of i (Full counts) ∷ Call i a c ∷ M) S L T (refl, low, h) clean fits
-served_reply n i a c Worn M S L T low h clean fits = served n (mark_of i Worn ∷ Call i a c ∷ M) S L T (refl, low, h) clean fits
-served_reply n i a c OldFile M S L T low h clean fits = served n (mark_of i OldFile ∷ Call i a c ∷ M) S L T (refl, low, h) clean fits
 served_reply n i a c Halted M S L T low h clean fits = served_cut i a c cut_halted M S L T h clean fits
 served_reply n i a c Device M S L T low h clean fits = served_cut i a c cut_device M S L T h clean fits
+served_reply n i a c reply M S L T low h clean fits = served n (mark_of i reply ∷ Call i a c ∷ M) S L T (refl, low, h) clean fits
 
 -- once a call was cut off, the next ones change nothing
 served_on : (S : Keys) (i a : ℕ) (c : Command) (M : History) (T : Keys) → has_cut M ≡ true → IsPlain S (Call i a c ∷ M) T → IsPlain S M T

@@ -24,10 +24,8 @@ no_full_rest v (Has k) s counts (suc (suc i)) P0 P changed h = h
 no_full_rest v _ s counts _ _ _ changed h = h.1
 
 no_full_halt : (v : View) (c : Command) (counts : Counts) (i : ℕ) (P0 P : Trace) (changed : Option ℕ) → ReliesOn v c (Halting (Full counts)) i P0 P changed → ⊥
-no_full_halt v (Add k) counts (suc i) P0 P changed h = h
-no_full_halt v (Remove k) counts (suc i) P0 P changed h = h
-no_full_halt v (Has k) counts (suc i) P0 P changed h = h
 no_full_halt v _ counts zero _ _ changed h = h.0
+no_full_halt v _ counts (suc i) P0 P changed h = h
 
 -- what a sequence leads to
 pub sequence_goes : (y : Yard) (Q : Trace) (v : View) (c : Command) (sequence : Sequence) (i : ℕ) (P0 P : Trace) (changed : Option ℕ) → ReliesOn v c sequence i P0 P changed → WalkStands y Q (goes_on sequence) c

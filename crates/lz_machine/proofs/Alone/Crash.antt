@@ -19,7 +19,7 @@ use Rattle.lz_machine.specs.declared.event.Event.TheVariants.{Answer}
 use Rattle.lz_machine.specs.declared.event.Outcome.{Outcome}
 use Rattle.lz_machine.specs.declared.event.Reply.{Reply}
 use Rattle.lz_machine.specs.declared.caller.Progress.{Progress}
-use Rattle.lz_machine.specs.declared.caller.Progress.TheVariants.{Playing, LoadsHalt, Walking, Reserving, SeeingPins, Claiming, Checking, Answering}
+use Rattle.lz_machine.specs.declared.caller.Progress.TheVariants.{Answering}
 use Rattle.lz_machine.specs.Yards.{Shape, Yard, actor_at, pin_in}
 use Rattle.lz_machine.specs.Table.{course, line, line_call, line_failed, is_old}
 use Rattle.lz_machine.specs.Calls.{progress_after, begun}
@@ -258,15 +258,9 @@ module _ (start : Start) (a : ℕ) (service : Service) (disk : Medium) (M : Hist
 
   turn_point : (i : ℕ) (c : Command) (at : Progress) → caller_at service.callers a ≡ Some (call_of_at i c at) → HasTurn service a (Some (call_of_at i c at))
       → IsSound start (turned_to (Some (call_of_at i c at))) → AloneAt start a (turned_to (Some (call_of_at i c at)))
-  turn_point i c (Playing sequence j) is may = going_on i c (Playing sequence j) is refl may
-  turn_point i c LoadsHalt is may = going_on i c LoadsHalt is refl may
-  turn_point i c (Walking aim look) is may = going_on i c (Walking aim look) is refl may
-  turn_point i c (Reserving again) is may = going_on i c (Reserving again) is refl may
-  turn_point i c (SeeingPins p) is may = going_on i c (SeeingPins p) is refl may
-  turn_point i c (Claiming aim pred curr) is may = going_on i c (Claiming aim pred curr) is refl may
-  turn_point i c (Checking aim curr) is may = going_on i c (Checking aim curr) is refl may
   turn_point i c (Answering reply) is may =
       ends_alone (call_of_at i c (Answering reply)) is (line y a Answer) (medium_after (line_call y a Answer) disk) (turn_publishes service a (Some (call_of_at i c (Answering reply))) ++ P) reply refl (answer_halt y a) (ap (λ (call : DeviceCall). medium_after call disk) (answer_is_quiet y a))
+  turn_point i c at is may = going_on i c at is refl may
 
   turn_of : (who : Option Caller) → caller_at service.callers a ≡ who → HasTurn service a who → IsSound start (turned_to who) → AloneAt start a (turned_to who)
   turn_of None is may = absurd may
@@ -313,8 +307,7 @@ module _ (start : Start) (a : ℕ) (service : Service) (disk : Medium) (M : Hist
   up_alone (CrashesIn b u) own may sound' =
       lives_stay start a before (point_after before (CrashesIn b u)) (λ life st h. tt) (λ life t h old leaves list. old t (inr (b, subst (LeftInside service disk b (caller_at service.callers b)) (sym (rest_image u t leaves)) may))) L sound sound'
       (λ t leaves. left_at start (point_after before (CrashesIn b u)) t sound' leaves) alone
-  up_alone Opens own may sound' = absurd may
-  up_alone (OpenFails why done) own may sound' = absurd may
+  up_alone _ own may sound' = absurd may
 
 -- no calls yet
 opened_alone : (a calls : ℕ) (shape : Shape) (t : List ℕ) → AloneUp a (suc calls) (opened_service shape t) []

@@ -1,5 +1,5 @@
 -- What an event leaves of the other actors, where one actor is alone, and of the slots whose gate isn't durable to be open.
-use Rattle.std.proofs.Common.{◌≡◌, ◌≢◌, ◌⊎◌, ⊎_elim, inl, inr, ℕ, zero, suc, ◌%◌, ◌&&◌, not, Bool, true, false, List, [], ◌∷◌, length, map, Option, Some, None, refl, sym, ap, ◌∙◌, subst, arith, length-set, get_or-set_same, get_or-set_other}
+use Rattle.std.proofs.Common.{◌≡◌, ◌≢◌, ◌⊎◌, ⊎_elim, inl, inr, ℕ, zero, suc, ◌%◌, Bool, true, false, List, [], ◌∷◌, length, map, Option, Some, None, refl, sym, ap, ◌∙◌, subst, arith, length-set, get_or-set_same, get_or-set_other}
 use Rattle.std.specs.Prelude.{if◌then◌else◌, slice_set}
 use mathlib.Core.Bool.{false≢true}
 use Rattle.std.proofs.lemmas.Bool.{cases_eq, cases_lt}
@@ -17,42 +17,24 @@ use Rattle.lz_machine.specs.declared.course.Course.TheVariants.{Refused, Dies, P
 use Rattle.lz_machine.specs.declared.actor.Actor.{Actor}
 use Rattle.lz_machine.specs.declared.actor.Hold.TheVariants.{Nothing, Locks}
 use Rattle.lz_machine.specs.declared.event.Event.{Event}
-use Rattle.lz_machine.specs.declared.event.Event.TheVariants.{Invoke, Pin, Hop, Reserve, WriteKey, Claim, Check, WriteOpen, Link, WriteClose, Mark, Release, Sync, Settle, Unlink, Retire, SeePin, Answer, Halt}
+use Rattle.lz_machine.specs.declared.event.Event.TheVariants.{Invoke, Pin, Reserve, WriteKey, Claim, Check, WriteOpen, Link, WriteClose, Mark, Release, Sync, Settle, Unlink, Retire, SeePin, Answer}
 use Rattle.lz_machine.specs.declared.event.Outcome.TheVariants.{NotNow, Dead}
 use Rattle.lz_vault.specs.Members.{no_cell}
 use Rattle.lz_machine.specs.Yards.{Yard, idle_actor, actor_at, cell_at, cell_in, stage_in}
-use Rattle.lz_machine.specs.Table.{course, course_alive, line, line_on, needs, pin_of, is_played_dead, actors_after, words_after, cells_after, uses_after, reserved, is_sure, set_actor}
+use Rattle.lz_machine.specs.Table.{course, course_alive, line, line_on, pin_of, is_played_dead, actors_after, words_after, cells_after, uses_after, reserved, is_sure, set_actor}
 use Rattle.lz_allot.specs.Uses.{Use, Taken, collect, lowest_free}
 use Rattle.lz_machine.proofs.Alone.Sights.{HasLeft, left_set, left_collect, left_seen}
 use Rattle.lz_machine.proofs.Steps.Unlink.{redirect_pins}
 use Rattle.lz_machine.proofs.Steps.Sync.{not_opening}
 use Rattle.lz_machine.proofs.Frames.Outside.{answered_other}
+use Rattle.lz_machine.proofs.Runs.Course.{course_by}
 
 -- the course of an event that was played at all
-abbrev of_parts : Bool → Bool → Bool → Course → Course
-of_parts dead too may alive = if dead && not too then Refused Dead else if may then alive else Refused NotNow
-
 abbrev pub IsCourse : Yard → ℕ → Event → Type 0
 IsCourse y a e = ((y.vault.dead ≡ true) × (is_played_dead e ≡ false) × (course y a e ≡ Refused Dead)) ⊎ (course y a e ≡ course_alive y a (pin_of y a) e)
 
 pub course_is : (y : Yard) (a : ℕ) (e : Event) → (line y a e).1 ≢ NotNow → IsCourse y a e
-course_is y a e now = go y.vault.dead (is_played_dead e) (needs y a e) refl refl refl
-  where
-    parts : (dead too may : Bool) → y.vault.dead ≡ dead → is_played_dead e ≡ too → needs y a e ≡ may → course y a e ≡ of_parts dead too may (course_alive y a (pin_of y a) e)
-    parts dead too may d t m =
-        ap (λ (b : Bool). of_parts b (is_played_dead e) (needs y a e) (course_alive y a (pin_of y a) e)) d
-        ∙ ap (λ (b : Bool). of_parts dead b (needs y a e) (course_alive y a (pin_of y a) e)) t
-        ∙ ap (λ (b : Bool). of_parts dead too b (course_alive y a (pin_of y a) e)) m
-
-    not_now : course y a e ≡ Refused NotNow → ⊥
-    not_now is = now (ap (λ (k : Course). (line_on k y (actor_at y a) a e).1) is)
-
-    go : (dead too may : Bool) → y.vault.dead ≡ dead → is_played_dead e ≡ too → needs y a e ≡ may → IsCourse y a e
-    go true false may d t m = inl (d, t, parts true false may d t m)
-    go true true true d t m = inr (parts true true true d t m)
-    go false too true d t m = inr (parts false too true d t m)
-    go true true false d t m = absurd (not_now (parts true true false d t m))
-    go false too false d t m = absurd (not_now (parts false too false d t m))
+course_is y a e now = course_by (λ k. course y a e ≡ k → IsCourse y a e) y a e (λ dead stops is. inl (dead, stops, is)) (λ lacks is. absurd (now (ap (λ (k : Course). (line_on k y (actor_at y a) a e).1) is))) (λ has lives is. inr is) refl
 
 -- the hands and pins of others
 actors_other : (y : Yard) (actor : Actor) (a b : ℕ) (e : Event) → b ≢ a → of_pass (actors_after y actor a e) b idle_actor ≡ of_pass y.actors b idle_actor
@@ -131,29 +113,15 @@ set_none cells r k stage other none s is = ⊎_elim
     (cell_cases cells r s (record { stage = stage; key = k }))
 
 pub none_stays : (y : Yard) (actor : Actor) (e : Event) → is_opening_event e ≡ false → NoneOpening y.vault.cells → NoneOpening (cells_after y actor e)
-none_stays y actor (Invoke c) other none = none
-none_stays y actor Pin other none = none
-none_stays y actor (Hop word) other none = none
-none_stays y actor Reserve other none = none
 none_stays y actor (WriteKey k) other none = set_none y.vault.cells _ k KeyLoose (λ is. absurd cc) none
-none_stays y actor (Claim pred curr) other none = none
-none_stays y actor Check other none = none
 none_stays y actor WriteOpen other none = absurd (false≢true (sym other))
-none_stays y actor Link other none = none
 none_stays y actor WriteClose other none = set_none y.vault.cells _ _ Closing (λ is. absurd cc) none
-none_stays y actor Mark other none = none
-none_stays y actor Release other none = none
 none_stays y actor (Sync s) other none = go (is_sure y s)
   where
     go : (sure : Bool) → NoneOpening (if sure then y.vault.cells else map cell_synced y.vault.cells)
     go true = none
     go false = synced_none y.vault.cells
-none_stays y actor (Settle s) other none = none
-none_stays y actor Unlink other none = none
-none_stays y actor Retire other none = none
-none_stays y actor (SeePin p value) other none = none
-none_stays y actor Answer other none = none
-none_stays y actor Halt other none = none
+none_stays y actor _ other none = none
 
 -- the same by the event's course: a vault that lives after it lived before
 pub none_on : (k : Course) (y : Yard) (a : ℕ) (e : Event) → is_opening_event e ≡ false → (line_on k y (actor_at y a) a e).0.vault.dead ≡ false → (y.vault.dead ≡ false → NoneOpening y.vault.cells) → NoneOpening (line_on k y (actor_at y a) a e).0.vault.cells
@@ -179,6 +147,5 @@ left_plays y actor a b Answer calm left = absurd (false≢true (sym calm))
 left_plays y actor a b _ calm left = left
 
 pub left_on : (k : Course) (y : Yard) (a b : ℕ) (e : Event) → is_use_event e ≡ false → HasLeft y.uses b → HasLeft (line_on k y (actor_at y a) a e).0.uses b
-left_on (Refused outcome) y a b e calm left = left
-left_on Dies y a b e calm left = left
 left_on Plays y a b e calm left = left_plays y (actor_at y a) a b e calm left
+left_on _ y a b e calm left = left

@@ -173,8 +173,7 @@ stands_halt y P shape c (Value v) = go (v == 1)
   where
     of_command : (d : Command) → WalkStands y P (Walking None AtHead) d
     of_command (Add k) = tt
-    of_command (Remove k) = tt
-    of_command (Has k) = tt
+    of_command _ = tt
 
     go : (b : Bool) → WalkStands y P (if b then Answering Halted else Walking None AtHead) c
     go true = tt

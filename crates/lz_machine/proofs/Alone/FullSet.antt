@@ -9,7 +9,7 @@ use Rattle.std.proofs.lemmas.Bool.{cases_Bool, cases_eq, or_left, or_right}
 use Rattle.std.proofs.lemmas.Bool.Decides.{nat_tests}
 use Rattle.std.proofs.lemmas.List.{length-append}
 use Rattle.lz_slot.specs.declared.command.Command.{Command}
-use Rattle.lz_slot.specs.declared.command.Command.TheVariants.{Add, Remove, Has}
+use Rattle.lz_slot.specs.declared.command.Command.TheVariants.{Add}
 use Rattle.lz_slot.specs.Sets.{members, HasMembers}
 use Rattle.lz_slot.specs.Histories.{History, Life, lives}
 use Rattle.lz_disk.specs.Images.{Medium}
@@ -29,8 +29,7 @@ use Rattle.lz_machine.proofs.Frames.ActorTable.{by_actor}
 use Rattle.lz_machine.proofs.Steps.Trip.{point}
 use Rattle.lz_machine.proofs.Frames.OneActor.{caller_range, mine}
 use Rattle.lz_machine.proofs.Crash.ImageSlots.{member_node, one_node_slot}
-use Rattle.lz_machine.proofs.Theorem.Reached.{reached_sound}
-use Rattle.lz_machine.proofs.Theorem.WornPass.{up_at}
+use Rattle.lz_machine.proofs.Theorem.Reached.{reached_sound, up_at}
 use Rattle.lz_machine.proofs.Runs.Shape.{run_keeps_shape}
 use Rattle.lz_machine.proofs.Alone.Full.{AloneFull, LeftBelow, WalkStands, all_nodes}
 use Rattle.lz_machine.proofs.Alone.Room.{FullAt, reached_full}
@@ -172,8 +171,7 @@ module _ (service : Service) (disk : Medium) (P : Trace) (a : ℕ) (caller : Cal
 
       left : (c : Command) → IsAdder c → WalkStands y P (Reserving true) c → LeftBelow y.uses (suc y.shape.passes)
       left (Add k) adder stands = stands.1
-      left (Remove k) adder stands = absurd adder
-      left (Has k) adder stands = absurd adder
+      left _ adder stands = absurd adder
 
   full_here : FullAt 1 (Up service disk) P → HasMembers (λ k. member k P) y.shape.slots
   full_here full =

@@ -1,13 +1,12 @@
 -- The halt word is written only where the vault is dead; so halted is answered only there, and worn only at the last pin.
-use Rattle.std.proofs.Common.{◌≡◌, ◌⊎◌, ⊎_elim, inl, inr, ℕ, ◌&&◌, not, Bool, true, false, List, [], ◌∷◌, Option, Some, None, refl, sym, ap, ◌∙◌, subst, arith, zero, suc}
+use Rattle.std.proofs.Common.{◌≡◌, ◌⊎◌, ⊎_elim, inl, inr, ℕ, Bool, true, false, List, [], ◌∷◌, Option, Some, None, refl, sym, ap, ◌∙◌, subst, arith, zero, suc}
 use Rattle.std.specs.Prelude.{if◌then◌else◌}
 use mathlib.Core.Bool.{false≢true}
 use Rattle.std.proofs.lemmas.Bool.{cases_Bool}
 use Rattle.std.proofs.lemmas.Option.{none-some, same_Some}
 use Rattle.lz_slot.specs.declared.command.Command.{Command}
-use Rattle.lz_slot.specs.declared.command.Command.TheVariants.{Add, Remove, Has}
+use Rattle.lz_slot.specs.declared.command.Command.TheVariants.{Add}
 use Rattle.lz_slot.specs.Bytes.{held}
-use Rattle.lz_slot.specs.Histories.{History, Life, lives}
 use Rattle.lz_disk.specs.Images.{Medium}
 use Rattle.lz_list.specs.declared.place.Place.{Place}
 use Rattle.lz_list.specs.declared.place.Place.TheVariants.{Bucket, Node}
@@ -18,28 +17,24 @@ use Rattle.lz_machine.specs.declared.course.Course.{Course}
 use Rattle.lz_machine.specs.declared.course.Course.TheVariants.{Refused, Dies, Plays}
 use Rattle.lz_machine.specs.declared.actor.Actor.{Actor}
 use Rattle.lz_machine.specs.declared.event.Event.{Event}
-use Rattle.lz_machine.specs.declared.event.Event.TheVariants.{Invoke, Pin, Hop, Reserve, WriteKey, Claim, Check, WriteOpen, Link, WriteClose, Mark, Release, Sync, Settle, Unlink, Retire, SeePin, Answer, Halt}
-use Rattle.lz_machine.specs.declared.event.Outcome.TheVariants.{NotNow, Dead}
+use Rattle.lz_machine.specs.declared.event.Event.TheVariants.{Link, Settle, Unlink, Answer, Halt}
 use Rattle.lz_machine.specs.declared.event.Reply.{Reply}
 use Rattle.lz_machine.specs.declared.event.Reply.TheVariants.{Worn as SaysWorn, OldFile as SaysOldFile, Halted, Device}
 use Rattle.lz_machine.specs.declared.caller.Progress.{Progress}
 use Rattle.lz_machine.specs.declared.caller.Progress.TheVariants.{Playing, Answering}
 use Rattle.lz_machine.specs.Yards.{Shape, Yard, actor_at, cell_at, first_trace}
 use Rattle.lz_machine.specs.Table.{course, line, line_on, pin_of, words_after, is_sure, is_old}
-use Rattle.lz_machine.specs.Runs.{Start, Caller, Service, State, Up, Down, Transition, Calls, Turn, Fails, Looks, Trips, Stops, Crashes, CrashesIn, Opens, OpenFails, Point, MayStep, Reached, IsRun, run, first_point, state_after, caller_at, next_event, reply_at, after_turn, after_fault, start_keys}
+use Rattle.lz_machine.specs.Runs.{Start, Caller, Service, State, Up, Down, Transition, Turn, Fails, Stops, Crashes, CrashesIn, Opens, OpenFails, MayStep, IsRun, run, first_point, state_after, caller_at, next_event, reply_at, after_turn, after_fault}
 use Rattle.lz_machine.specs.CallersSound.{View, Relies, view_of, IsCaller, is_before_pin, side_of}
-use Rattle.lz_machine.specs.Sound.{PointSound}
 use Rattle.lz_machine.specs.Alone.{RefusalsAreRight}
-use Rattle.lz_machine.proofs.Steps.Trip.{point}
-use Rattle.lz_machine.proofs.Steps.Hop.{call_at, own}
-use Rattle.lz_machine.proofs.Theorem.Reached.{reached_sound}
+use Rattle.lz_machine.proofs.Theorem.Reached.{reached_sound, up_at}
 use Rattle.lz_machine.specs.declared.caller.Sequence.TheVariants.{Pinning}
-use Rattle.lz_machine.proofs.Theorem.WornPass.{IsUpAt, up_at}
 use Rattle.lz_machine.proofs.Theorem.Timeliness.{worn_there}
 use Rattle.lz_machine.proofs.Frames.OneActor.{mine}
 use Rattle.lz_machine.proofs.Frames.Outside.{answered_halt}
+use Rattle.lz_machine.proofs.Runs.Course.{plays_needs}
 
--- only one event writes the halt word
+-- only one event writes the halt word, which needs a dead vault
 redirect_halt : (w : Words) (place : Place) (n : ℕ) → (redirect w place n).halt ≡ w.halt
 redirect_halt w (Bucket b) n = refl
 redirect_halt w (Node s) n = refl
@@ -48,39 +43,16 @@ abbrev KeepsHalt : Yard → Actor → ℕ → Event → Type 0
 KeepsHalt y actor a e = (words_after y actor a e).halt ≡ y.words.halt
 
 halt_or_not : (y : Yard) (actor : Actor) (a : ℕ) (e : Event) → (e ≡ Halt) ⊎ KeepsHalt y actor a e
-halt_or_not y actor a (Invoke c) = inr refl
-halt_or_not y actor a Pin = inr refl
-halt_or_not y actor a (Hop word) = inr refl
-halt_or_not y actor a Reserve = inr refl
-halt_or_not y actor a (WriteKey k) = inr refl
-halt_or_not y actor a (Claim pred curr) = inr refl
-halt_or_not y actor a Check = inr refl
-halt_or_not y actor a WriteOpen = inr refl
 halt_or_not y actor a Link = inr (redirect_halt y.words actor.pred _)
-halt_or_not y actor a WriteClose = inr refl
-halt_or_not y actor a Mark = inr refl
-halt_or_not y actor a Release = inr refl
-halt_or_not y actor a (Sync s) = inr refl
 halt_or_not y actor a (Settle s) = inr (go (is_sure y s))
   where
     go : (sure : Bool) → (if sure then change_flags (settle (cell_at y s).stage) y.words s else y.words).halt ≡ y.words.halt
     go true = refl
     go false = refl
 halt_or_not y actor a Unlink = inr (redirect_halt y.words actor.pred _)
-halt_or_not y actor a Retire = inr refl
-halt_or_not y actor a (SeePin p value) = inr refl
 halt_or_not y actor a Answer = inr (answered_halt y actor a)
 halt_or_not y actor a Halt = inl refl
-
--- and only of a dead vault
-halts_dead : (y : Yard) (a : ℕ) → course y a Halt ≡ Plays → y.vault.dead ≡ true
-halts_dead y a plays = elim (cases_Bool y.vault.dead) [
-  | inl dead ↦ dead
-  | inr lives ↦
-      let refused : course y a Halt ≡ Refused NotNow = ap (λ (b : Bool). if b && not true then Refused Dead else if b then Plays else Refused NotNow) lives in
-      let clash : Refused NotNow ≡ Plays = sym refused ∙ plays in
-      absurd cc
-]
+halt_or_not y actor a _ = inr refl
 
 abbrev IsDeadHalt : Yard → Type 0
 IsDeadHalt y = y.words.halt ≡ 1 → y.vault.dead ≡ true
@@ -92,7 +64,7 @@ dead_line y a e h = go (course y a e) refl
     go (Refused outcome) is = h
     go Dies is = λ halt. refl
     go Plays is = λ halt. ⊎_elim
-        (λ same. halts_dead y a (subst (λ (x : Event). course y a x ≡ Plays) same is))
+        (λ same. plays_needs y a Halt (subst (λ (x : Event). course y a x ≡ Plays) same is))
         (λ keeps. h (sym keeps ∙ halt))
         (halt_or_not y (actor_at y a) a e)
 
@@ -116,27 +88,15 @@ opens_dead : (shape : Shape) (t : List ℕ) → halt_word (first_trace shape t) 
 opens_dead shape t halt = absurd (omega (arith, halt, no_halt_opening shape.buckets (held t shape.slots)))
 
 step_dead : (n : ℕ) (w : State) (step : Transition) → MayStep w step → DeadAt w → DeadAt (state_after n w step)
-step_dead n (Up service disk) (Calls a c) may h = h
 step_dead n (Up service disk) (Turn a) may h = turn_dead service disk a (caller_at service.callers a) h
 step_dead n (Up service disk) (Fails a new) may h = fault_dead service new a (caller_at service.callers a) h
-step_dead n (Up service disk) (Looks a) may h = h
-step_dead n (Up service disk) Trips may h = h
 step_dead n (Up service disk) Stops may h = tt
 step_dead n (Up service disk) (Crashes t) may h = tt
 step_dead n (Up service disk) (CrashesIn a t) may h = tt
-step_dead n (Up service disk) Opens may h = absurd may
-step_dead n (Up service disk) (OpenFails why done) may h = absurd may
-step_dead n (Down shape disk) (Calls a c) may h = absurd may
-step_dead n (Down shape disk) (Turn a) may h = absurd may
-step_dead n (Down shape disk) (Fails a new) may h = absurd may
-step_dead n (Down shape disk) (Looks a) may h = absurd may
-step_dead n (Down shape disk) Trips may h = tt
-step_dead n (Down shape disk) Stops may h = tt
-step_dead n (Down shape disk) (Crashes t) may h = tt
-step_dead n (Down shape disk) (CrashesIn a t) may h = absurd may
+step_dead n (Up service disk) _ may h = h
 step_dead n (Down shape disk) Opens may h = opens_dead shape disk.seen
 step_dead n (Down shape disk) (OpenFails why true) may h = tt
-step_dead n (Down shape disk) (OpenFails why false) may h = tt
+step_dead n (Down shape disk) _ may h = tt
 
 reached_dead : (start : Start) (steps : List Transition) → IsRun (first_point start) steps → DeadAt (run (first_point start) steps).state
 reached_dead start [] runs = opens_dead start.shape start.text
@@ -153,13 +113,11 @@ replies _ reply is = absurd (none-some reply is)
 
 pub halted_word : (v : View) (c : Command) (P0 P : Trace) (changed : Option ℕ) → Relies v c (Answering Halted) P0 P changed → halt_word P ≡ 1
 halted_word v (Add k) P0 P changed h = h.0
-halted_word v (Remove k) P0 P changed h = h.0
-halted_word v (Has k) P0 P changed h = h.0
+halted_word v _ P0 P changed h = h.0
 
 pub device_word : (v : View) (c : Command) (P0 P : Trace) (changed : Option ℕ) → Relies v c (Answering Device) P0 P changed → halt_word P ≡ 1
 device_word v (Add k) P0 P changed h = h.0
-device_word v (Remove k) P0 P changed h = h.0
-device_word v (Has k) P0 P changed h = h.0
+device_word v _ P0 P changed h = h.0
 
 -- a call that is told of an old file adds a key that the file can't hold
 pub old_command : (v : View) (c : Command) (P0 P : Trace) (changed : Option ℕ) (at : Progress) → at ≡ Answering SaysOldFile → Relies v c at P0 P changed → is_old v.format c ≡ true
@@ -179,40 +137,19 @@ told_old v pin caller P0 P changed h is = elim (cases_Bool (is_before_pin caller
   | inr inside ↦ absurd (false≢true (sym (h.1 (h.0 ∙ ap side_of inside)) ∙ is))
 ]
 
-module _ (start : Start) (service : Service) (disk : Medium) (M : History) (P : Trace) (calls a i : ℕ) (c : Command) (dead : IsDeadHalt service.yard) where
-  halted_at : caller_at service.callers a ≡ Some (call_at i c (Answering Halted)) → (L : List Life) → PointSound start (point (Up service disk) M P calls) L → service.yard.vault.dead ≡ true
-  halted_at is [] sound = absurd sound
-  halted_at is (life ∷ earlier) sound =
-      dead (sound.2.2.sound.trace.halt ∙ halted_word (view_of service.yard.shape service.yard.vault service.yard.actors a) c (sound.2.1.begun a) P (sound.2.1.changed a) (own sound.2.0 calls service.yard service.callers disk life.history P sound.2.1 a i c (Answering Halted) is sound.2.2.sound).stands.2)
-
-  device_at : caller_at service.callers a ≡ Some (call_at i c (Answering Device)) → (L : List Life) → PointSound start (point (Up service disk) M P calls) L → service.yard.vault.dead ≡ true
-  device_at is [] sound = absurd sound
-  device_at is (life ∷ earlier) sound =
-      dead (sound.2.2.sound.trace.halt ∙ device_word (view_of service.yard.shape service.yard.vault service.yard.actors a) c (sound.2.1.begun a) P (sound.2.1.changed a) (own sound.2.0 calls service.yard service.callers disk life.history P sound.2.1 a i c (Answering Device) is sound.2.2.sound).stands.2)
-
--- where the steps lead
-abbrev at_end : {w : State} {M : History} {P : Trace} (start : Start) → Reached start w M P → Point
-at_end start reached = run (first_point start) reached.steps
-
 -- worn comes only at the last pin, halted and device only of a dead vault, and an old file is told of exactly where a key is
 -- added that the file can't hold
 pub refusals_are_right : RefusalsAreRight
-refusals_are_right start service disk M P a caller reached is may = (
-  (λ worn. worn_there start reached.steps reached.starts reached.runs service disk reached.state a caller is (replies caller.progress SaysWorn worn)),
-  (λ halted. halted_at start service disk (at_end start reached).marks (at_end start reached).trace (at_end start reached).calls a caller.number caller.command dead (is ∙ ap (λ (q : Progress). Some (call_at caller.number caller.command q)) (replies caller.progress Halted halted)) (lives (start_keys start) (at_end start reached).marks) sound),
-  (λ device. device_at start service disk (at_end start reached).marks (at_end start reached).trace (at_end start reached).calls a caller.number caller.command dead (is ∙ ap (λ (q : Progress). Some (call_at caller.number caller.command q)) (replies caller.progress Device device)) (lives (start_keys start) (at_end start reached).marks) sound),
-  (λ old. old_command (view_of service.yard.shape service.yard.vault service.yard.actors a) caller.command (there.notes.begun a) (at_end start reached).trace (there.notes.changed a) caller.progress (replies caller.progress SaysOldFile old) known.2),
-  told_old (view_of service.yard.shape service.yard.vault service.yard.actors a) (pin_of service.yard a) caller (there.notes.begun a) (at_end start reached).trace (there.notes.changed a) known,
-)
-  where
-    dead : IsDeadHalt service.yard
-    dead = subst DeadAt reached.state (reached_dead start reached.steps reached.runs)
-
-    sound : PointSound start (point (Up service disk) (at_end start reached).marks (at_end start reached).trace (at_end start reached).calls) (lives (start_keys start) (at_end start reached).marks)
-    sound = subst (λ (w : State). PointSound start (point w (at_end start reached).marks (at_end start reached).trace (at_end start reached).calls) (lives (start_keys start) (at_end start reached).marks)) reached.state (reached_sound start reached.steps reached.starts reached.runs)
-
-    there : IsUpAt (at_end start reached).calls service disk (at_end start reached).trace
-    there = up_at start (at_end start reached) service disk (reached_sound start reached.steps reached.starts reached.runs) reached.state
-
-    known : IsCaller (view_of service.yard.shape service.yard.vault service.yard.actors a) (pin_of service.yard a) (Some caller) (there.notes.begun a) (at_end start reached).trace (there.notes.changed a)
-    known = (mine service.yard.shape service.yard.vault service.yard.words.pins service.yard.actors service.callers (at_end start reached).trace there.notes a caller is there.up.sound.callers).stands
+refusals_are_right start service disk M P a caller reached is may =
+    let p = run (first_point start) reached.steps in
+    let v = view_of service.yard.shape service.yard.vault service.yard.actors a in
+    let there = up_at start p service disk (reached_sound start reached.steps reached.starts reached.runs) reached.state in
+    let known = (mine service.yard.shape service.yard.vault service.yard.words.pins service.yard.actors service.callers p.trace there.notes a caller is there.up.sound.callers).stands in
+    let relies = λ (reply : Reply) (told : reply_at caller.progress ≡ Some reply). subst (λ (at : Progress). Relies v caller.command at (there.notes.begun a) p.trace (there.notes.changed a)) (replies caller.progress reply told) known.2 in
+    let dead = λ (halt : halt_word p.trace ≡ 1). halted_dead start reached.steps service disk reached.runs reached.state (there.up.sound.trace.halt ∙ halt) in (
+      (λ worn. worn_there start reached.steps reached.starts reached.runs service disk reached.state a caller is (replies caller.progress SaysWorn worn)),
+      (λ halted. dead (halted_word v caller.command (there.notes.begun a) p.trace (there.notes.changed a) (relies Halted halted))),
+      (λ device. dead (device_word v caller.command (there.notes.begun a) p.trace (there.notes.changed a) (relies Device device))),
+      (λ old. old_command v caller.command (there.notes.begun a) p.trace (there.notes.changed a) caller.progress (replies caller.progress SaysOldFile old) known.2),
+      told_old v (pin_of service.yard a) caller (there.notes.begun a) p.trace (there.notes.changed a) known,
+    )

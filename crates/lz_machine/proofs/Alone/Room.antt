@@ -1,7 +1,7 @@
 -- Where one actor is alone, full comes exactly where there is no room.
 use Rattle.std.proofs.Common.{◌≡◌, inl, inr, ℕ, zero, suc, ◌≤◌, ◌<◌, ◌%◌, if◌then◌else◌, Bool, true, false, List, [], ◌∷◌, ◌++◌, length, map, Option, Some, None, refl, sym, ap, ◌∙◌, subst, arith}
 use Rattle.lz_slot.specs.declared.command.Command.{Command}
-use Rattle.lz_slot.specs.declared.command.Command.TheVariants.{Add, Remove, Has}
+use Rattle.lz_slot.specs.declared.command.Command.TheVariants.{Add}
 use Rattle.lz_slot.specs.declared.history.Mark.TheVariants.{Call}
 use Rattle.lz_slot.specs.declared.slot.SlotRead.{SlotRead}
 use Rattle.lz_slot.specs.declared.slot.SlotRead.TheVariants.{Closed as Shut, Member, BadKey}
@@ -22,13 +22,13 @@ use Rattle.lz_allot.specs.Uses.{Limbo, use_of}
 use Rattle.lz_list.specs.Traces.{Trace}
 use Rattle.lz_machine.specs.declared.actor.Actor.{Actor}
 use Rattle.lz_machine.specs.declared.event.Reply.{Reply}
-use Rattle.lz_machine.specs.declared.event.Reply.TheVariants.{Yes, No, Full, Worn, OldFile, Halted, Device}
+use Rattle.lz_machine.specs.declared.event.Reply.TheVariants.{Yes, No, Full, OldFile, Device}
 use Rattle.lz_machine.specs.declared.caller.Progress.{Progress}
-use Rattle.lz_machine.specs.declared.caller.Progress.TheVariants.{Playing, LoadsHalt, Walking, Reserving, SeeingPins, Claiming, Checking, Answering}
+use Rattle.lz_machine.specs.declared.caller.Progress.TheVariants.{Answering}
 use Rattle.lz_machine.specs.Yards.{Shape, Yard, cell_read, use_read, slots_read, opened_yard, first_trace, idle_actor, cell_in, stage_in, pin_in}
 use Rattle.lz_machine.specs.Table.{line, line_failed, is_old}
 use Rattle.lz_machine.specs.Calls.{first_progress, halts, begun}
-use Rattle.lz_machine.specs.Runs.{Start, IsStart, Caller, Service, State, Up, Down, Transition, Calls, Turn, Fails, Looks, Trips, Stops, Crashes, CrashesIn, Opens, OpenFails, Point, MayStep, HasTurn, HasFault, IsRun, run, first_point, point_after, state_after, trace_after, caller_at, next_event, reply_at, moved_on, after_turn, after_fault, opened_service, marks_of_turn, mark_of, turn_publishes, start_keys, looked, invoked}
+use Rattle.lz_machine.specs.Runs.{Start, IsStart, Caller, Service, State, Up, Down, Transition, Calls, Turn, Fails, Looks, Stops, Crashes, CrashesIn, Opens, OpenFails, Point, MayStep, HasTurn, HasFault, IsRun, run, first_point, point_after, state_after, trace_after, caller_at, next_event, reply_at, moved_on, after_turn, after_fault, opened_service, marks_of_turn, mark_of, turn_publishes, start_keys, looked, invoked}
 use Rattle.lz_machine.specs.Notes.{Notes}
 use Rattle.lz_machine.specs.CallersSound.{view_of, CallerSound}
 use Rattle.lz_machine.specs.Sound.{Sound, PointSound, IsSound}
@@ -146,23 +146,13 @@ full_step start a (Up service disk) M P calls (Fails b new) own may (life ∷ ea
 full_step start a (Up service disk) M P calls (Looks b) own may (life ∷ earlier) sound h =
     subst (λ (q : ℕ). MayStep (Up service disk) (Looks q) → FullAt a (state_after (suc calls) (Up service disk) (Looks q)) P) (sym own)
     (λ may. full_look sound.2.0 calls service.yard service.callers disk life.history P sound.2.1 sound.2.2.sound a h (none_of (caller_at service.callers a) may.1)) may
-full_step start a (Up service disk) M P calls Trips own may (life ∷ earlier) sound h = h
 full_step start a (Up service disk) M P calls Stops own may (life ∷ earlier) sound h = tt
 full_step start a (Up service disk) M P calls (Crashes t) own may (life ∷ earlier) sound h = tt
 full_step start a (Up service disk) M P calls (CrashesIn b t) own may (life ∷ earlier) sound h = tt
-full_step start a (Up service disk) M P calls Opens own may (life ∷ earlier) sound h = absurd may
-full_step start a (Up service disk) M P calls (OpenFails why done) own may (life ∷ earlier) sound h = absurd may
-full_step start a (Down shape disk) M P calls (Calls b c) own may (life ∷ earlier) sound h = absurd may
-full_step start a (Down shape disk) M P calls (Turn b) own may (life ∷ earlier) sound h = absurd may
-full_step start a (Down shape disk) M P calls (Fails b new) own may (life ∷ earlier) sound h = absurd may
-full_step start a (Down shape disk) M P calls (Looks b) own may (life ∷ earlier) sound h = absurd may
-full_step start a (Down shape disk) M P calls Trips own may (life ∷ earlier) sound h = tt
-full_step start a (Down shape disk) M P calls Stops own may (life ∷ earlier) sound h = tt
-full_step start a (Down shape disk) M P calls (Crashes t) own may (life ∷ earlier) sound h = tt
-full_step start a (Down shape disk) M P calls (CrashesIn b t) own may (life ∷ earlier) sound h = absurd may
+full_step start a (Up service disk) M P calls _ own may (life ∷ earlier) sound h = h
 full_step start a (Down shape disk) M P calls Opens own may (life ∷ earlier) sound h = opened_full a shape disk.seen (first_trace shape disk.seen) disk
 full_step start a (Down shape disk) M P calls (OpenFails why true) own may (life ∷ earlier) sound h = tt
-full_step start a (Down shape disk) M P calls (OpenFails why false) own may (life ∷ earlier) sound h = tt
+full_step start a (Down shape disk) M P calls _ own may (life ∷ earlier) sound h = tt
 
 -- at each point that is reached
 pub reached_full : (start : Start) (steps : List Transition) (a : ℕ) → IsStart start → IsRun (first_point start) steps → IsAlone a steps → FullAt a (run (first_point start) steps).state (run (first_point start) steps).trace
@@ -174,8 +164,7 @@ reached_full start (step ∷ steps) a is runs alone =
 -- a mark that says nothing of room
 room_no : (N : ℕ) (c : Command) (T : Keys) → HasRoomFor N c false T
 room_no N (Add k) T = tt
-room_no N (Remove k) T = tt
-room_no N (Has k) T = tt
+room_no N _ T = tt
 
 sized_mark : (F : Format) (N i a : ℕ) (c : Command) (L : List Life) → AreSized F N L → AreSized F N (with_mark (Call i a c) L)
 sized_mark F N i a c [] h = h
@@ -197,10 +186,8 @@ module _ (F : Format) (N i a n : ℕ) (c : Command) (M : History) (S : Keys) (en
   sized_reply (Full counts) plain each adds tells told =
       let add = adds counts refl in
       (not_old F c (Full counts) tells (λ same. cc), (λ T was. subst (λ (d : Command). IsFull N d T) (sym add.1) (is_full N i i i a add.0 M S T t new ended holds (subst (λ (d : Command). IsPlain S (mark_of i (Full counts) ∷ Call i a d ∷ M) new) add.1 plain) (each add.0 add.1 counts refl) was)), sized)
-  sized_reply Worn plain each adds tells told = sized
   sized_reply OldFile plain each adds tells told = (told refl, sized)
-  sized_reply Halted plain each adds tells told = sized
-  sized_reply Device plain each adds tells told = sized
+  sized_reply _ plain each adds tells told = sized
 
 module _ (start : Start) (a : ℕ) (service : Service) (disk : Medium) (M : History) (P : Trace) (calls : ℕ) (named : service.yard.vault.format ≡ format_of start.text) where
   abbrev y : Yard
@@ -258,8 +245,7 @@ module _ (start : Start) (a : ℕ) (service : Service) (disk : Medium) (M : Hist
         where
           go : (d : Command) → WalkStands y P (Answering (Full counts)) d → (k : ℕ) × (d ≡ Add k)
           go (Add k) h = (k, refl)
-          go (Remove k) h = absurd h
-          go (Has k) h = absurd h
+          go _ h = absurd h
 
       each : (k : ℕ) → c ≡ Add k → (counts : Counts) → reply ≡ Full counts → (s : ℕ) → s < N → HoldsOther disk.seen k s
       each k add counts same s lt =
@@ -271,16 +257,10 @@ module _ (start : Start) (a : ℕ) (service : Service) (disk : Medium) (M : Hist
 
   sized_point : (i : ℕ) (c : Command) (at : Progress) → caller_at service.callers a ≡ Some (call_at i c at) → IsSound start before → FullAt a (Up service disk) P → AloneAt start a before
       → AloneAt start a (of_turn (Some (call_at i c at))) → AreSized F N (lives (start_keys start) M) → AreSized F N (lives (start_keys start) (marks_of_turn (Some (call_at i c at)) ++ M))
-  sized_point i c (Playing sequence j) is sound full alone after sized = sized
-  sized_point i c LoadsHalt is sound full alone after sized = sized
-  sized_point i c (Walking aim look) is sound full alone after sized = sized
-  sized_point i c (Reserving again) is sound full alone after sized = sized
-  sized_point i c (SeeingPins p) is sound full alone after sized = sized
-  sized_point i c (Claiming aim pred curr) is sound full alone after sized = sized
-  sized_point i c (Checking aim curr) is sound full alone after sized = sized
   sized_point i c (Answering reply) is sound full alone after sized =
       subst (AreSized F N) (sym (reply_lives (start_keys start) i reply M))
       (sized_answer i c reply is (lives (start_keys start) M) sound full alone (subst (AloneLives a N (of_turn (Some (call_at i c (Answering reply))))) (reply_lives (start_keys start) i reply M) after) sized)
+  sized_point i c _ is sound full alone after sized = sized
 
   sized_turn : (who : Option Caller) → caller_at service.callers a ≡ who → HasTurn service a who → IsSound start before → FullAt a (Up service disk) P → AloneAt start a before → AloneAt start a (of_turn who)
       → AreSized F N (lives (start_keys start) M) → AreSized F N (lives (start_keys start) (marks_of_turn who ++ M))
@@ -293,19 +273,8 @@ sized_step start a (Up service disk) M P calls (Calls b c) named own may sound f
 sized_step start a (Up service disk) M P calls (Turn b) named own may sound full alone after sized =
     subst (λ (q : ℕ). MayStep (Up service disk) (Turn q) → AloneAt start a (point_after (point (Up service disk) M P calls) (Turn q)) → AreSized (format_of start.text) start.shape.slots (lives (start_keys start) (point_after (point (Up service disk) M P calls) (Turn q)).marks)) (sym own)
     (λ may after. sized_turn start a service disk M P calls named (caller_at service.callers a) refl may sound full alone after sized) may after
-sized_step start a (Up service disk) M P calls (Fails b new) named own may sound full alone after sized = sized
-sized_step start a (Up service disk) M P calls (Looks b) named own may sound full alone after sized = sized
-sized_step start a (Up service disk) M P calls Trips named own may sound full alone after sized = sized
-sized_step start a (Up service disk) M P calls Stops named own may sound full alone after sized = sized
-sized_step start a (Up service disk) M P calls (Crashes t) named own may sound full alone after sized = sized
-sized_step start a (Up service disk) M P calls (CrashesIn b t) named own may sound full alone after sized = sized
-sized_step start a (Down shape disk) M P calls Trips named own may sound full alone after sized = sized
-sized_step start a (Down shape disk) M P calls Stops named own may sound full alone after sized = sized
-sized_step start a (Down shape disk) M P calls (Crashes t) named own may sound full alone after sized = sized
 sized_step start a (Down shape disk) M P calls Opens named own may sound full alone after sized = (tt, sized)
-sized_step start a (Down shape disk) M P calls (OpenFails why true) named own may sound full alone after sized = sized
-sized_step start a (Down shape disk) M P calls (OpenFails why false) named own may sound full alone after sized = sized
-sized_step start a _ M P calls _ named own may sound full alone after sized = absurd may
+sized_step start a _ M P calls _ named own may sound full alone after sized = sized
 
 -- full comes exactly where there is no room
 pub full_is_right : FullIsRight

@@ -1,6 +1,6 @@
 -- What runs of one actor keep: its calls end one after the other, and once a call was cut off, each later one loads the halt word.
-use Rattle.std.proofs.Common.{◌≡◌, ◌≢◌, ◌⊎◌, ⊎_elim, inl, inr, ℕ, ◌<◌, Bool, true, false, not, ◌&&◌, List, ◌∷◌, Option, Some, None, refl, sym, ap, subst}
-use Rattle.std.specs.Prelude.{if◌then◌else◌, ◌==◌}
+use Rattle.std.proofs.Common.{◌≡◌, ◌≢◌, ◌⊎◌, inl, inr, ℕ, ◌<◌, Bool, true, false, List, ◌∷◌, Option, Some, None, refl, sym, subst}
+use Rattle.std.specs.Prelude.{if◌then◌else◌}
 use Rattle.std.proofs.lemmas.Bool.{cases_eq}
 use Rattle.lz_slot.specs.declared.command.Command.{Command}
 use Rattle.lz_slot.specs.declared.history.Mark.TheVariants.{Call}
@@ -8,19 +8,21 @@ use Rattle.lz_slot.specs.Histories.{History}
 use Rattle.lz_disk.specs.Images.{Medium, IsImage}
 use Rattle.lz_vault.specs.Vaults.{DeviceCall, NoCall, medium_after}
 use Rattle.lz_list.specs.declared.word.Word.TheVariants.{Halt as halt_word}
+use mathlib.Core.Bool.{false≢true}
+use Rattle.lz_machine.proofs.Runs.Course.{course_by, each_course}
 use Rattle.lz_machine.specs.declared.course.Course.{Course}
-use Rattle.lz_machine.specs.declared.course.Course.TheVariants.{Refused, Dies, Plays}
+use Rattle.lz_machine.specs.declared.course.Course.TheVariants.{Plays}
 use Rattle.lz_machine.specs.declared.actor.Actor.{Actor}
 use Rattle.lz_machine.specs.declared.event.Event.{Event}
 use Rattle.lz_machine.specs.declared.event.Event.TheVariants.{Pin, Hop, Answer}
-use Rattle.lz_machine.specs.declared.event.Outcome.TheVariants.{Worn, NotNow, Dead}
+use Rattle.lz_machine.specs.declared.event.Outcome.TheVariants.{NotNow}
 use Rattle.lz_machine.specs.declared.event.Reply.{Reply}
 use Rattle.lz_machine.specs.declared.event.Reply.TheVariants.{Worn as SaysWorn, OldFile as SaysOldFile, Halted}
 use Rattle.lz_machine.specs.declared.caller.Sequence.TheVariants.{Pinning}
 use Rattle.lz_machine.specs.declared.caller.Progress.{Progress}
 use Rattle.lz_machine.specs.declared.caller.Progress.TheVariants.{Playing, LoadsHalt, Answering}
 use Rattle.lz_machine.specs.Yards.{Yard, actor_at}
-use Rattle.lz_machine.specs.Table.{course, line, line_on, line_call, call_on, call_of, needs, pin_of, last_pin}
+use Rattle.lz_machine.specs.Table.{course, line, line_on, line_call, call_on, call_of}
 use Rattle.lz_machine.specs.Calls.{event_at, loaded, progress_after, first_progress}
 use Rattle.lz_machine.specs.Runs.{Caller, Service, Up, caller_at, next_event, MayLeave, LeftInside}
 use Rattle.lz_machine.specs.Alone.{has_cut}
@@ -57,8 +59,7 @@ IsQuietCall service a (Some caller) = line_call service.yard a (next_event servi
 
 calls_nothing : (k : Course) (y : Yard) (actor : Actor) (e : Event) → call_of y actor e ≡ NoCall → call_on k y actor e ≡ NoCall
 calls_nothing Plays y actor e none = none
-calls_nothing Dies y actor e none = refl
-calls_nothing (Refused outcome) y actor e none = refl
+calls_nothing _ y actor e none = refl
 
 pin_is_quiet : (y : Yard) (a : ℕ) → line_call y a Pin ≡ NoCall
 pin_is_quiet y a = calls_nothing (course y a Pin) y (actor_at y a) Pin refl
@@ -96,32 +97,6 @@ StaysHalted y a c at =
     (line y a (loaded y.words (event_at y.shape c at))).1 ≢ NotNow
     → ((line y a (loaded y.words (event_at y.shape c at))).0.words.halt ≡ 1) × IsHalting (progress_after y.shape c at (line y a (loaded y.words (event_at y.shape c at))).1)
 
-abbrev of_tests : Bool → Bool → Bool → Course
-of_tests dead may worn = if dead && not true then Refused Dead else if may then (if worn then Refused Worn else Plays) else Refused NotNow
-
-pin_course : (y : Yard) (a : ℕ) → (course y a Pin ≡ Refused Worn) ⊎ (course y a Pin ≡ Plays) ⊎ (course y a Pin ≡ Refused NotNow)
-pin_course y a = go y.vault.dead (needs y a Pin) (pin_of y a == last_pin)
-  where
-    go : (dead may worn : Bool) → (of_tests dead may worn ≡ Refused Worn) ⊎ (of_tests dead may worn ≡ Plays) ⊎ (of_tests dead may worn ≡ Refused NotNow)
-    go true true true = inl refl
-    go true true false = inr (inl refl)
-    go true false worn = inr (inr refl)
-    go false true true = inl refl
-    go false true false = inr (inl refl)
-    go false false worn = inr (inr refl)
-
-abbrev hop_of_tests : Bool → Bool → Course
-hop_of_tests dead may = if dead && not true then Refused Dead else if may then Plays else Refused NotNow
-
-hop_course : (y : Yard) (a : ℕ) → (course y a (Hop halt_word) ≡ Plays) ⊎ (course y a (Hop halt_word) ≡ Refused NotNow)
-hop_course y a = go y.vault.dead (needs y a (Hop halt_word))
-  where
-    go : (dead may : Bool) → (hop_of_tests dead may ≡ Plays) ⊎ (hop_of_tests dead may ≡ Refused NotNow)
-    go true true = inl refl
-    go true false = inr refl
-    go false true = inl refl
-    go false false = inr refl
-
 module _ (y : Yard) (a : ℕ) (c : Command) (halt : y.words.halt ≡ 1) where
   abbrev AfterPin : Course → Type 0
   AfterPin k = ((line_on k y (actor_at y a) a Pin).0.words.halt ≡ 1) × IsHalting (progress_after y.shape c (Playing Pinning 0) (line_on k y (actor_at y a) a Pin).1)
@@ -130,19 +105,13 @@ module _ (y : Yard) (a : ℕ) (c : Command) (halt : y.words.halt ≡ 1) where
   AfterHop k = ((line_on k y (actor_at y a) a (Hop halt_word)).0.words.halt ≡ 1) × IsHalting (progress_after y.shape c LoadsHalt (line_on k y (actor_at y a) a (Hop halt_word)).1)
 
   pin_halted : StaysHalted y a c (Playing Pinning 0)
-  pin_halted now = ⊎_elim
-      (λ worn. subst AfterPin (sym worn) (halt, inr (inr (inr (inl refl)))))
-      (λ rest. ⊎_elim
-      (λ plays. subst AfterPin (sym plays) (halt, inr (inl refl)))
-      (λ not_now. absurd (now (ap (λ (k : Course). (line_on k y (actor_at y a) a Pin).1) not_now)))
-      rest)
-      (pin_course y a)
+  pin_halted =
+      each_course (λ k. (line_on k y (actor_at y a) a Pin).1 ≢ NotNow → AfterPin k) y a Pin (λ dead stops. absurd (false≢true (sym stops))) (λ lacks now. absurd (now refl)) (λ pin last now. (halt, inr (inr (inr (inl refl))))) (λ s sync. absurd cc)
+      (λ has fresh now. (halt, inr (inl refl)))
 
   hop_halted : StaysHalted y a c LoadsHalt
-  hop_halted now = ⊎_elim
-      (λ plays. subst AfterHop (sym plays) (halt, inr (inr (inl loads))))
-      (λ not_now. absurd (now (ap (λ (k : Course). (line_on k y (actor_at y a) a (Hop halt_word)).1) not_now)))
-      (hop_course y a)
+  hop_halted =
+      course_by (λ k. (line_on k y (actor_at y a) a (Hop halt_word)).1 ≢ NotNow → AfterHop k) y a (Hop halt_word) (λ dead stops. absurd (false≢true (sym stops))) (λ lacks now. absurd (now refl)) (λ has lives now. (halt, inr (inr (inl loads))))
     where
       loads : (progress_after y.shape c LoadsHalt (line_on Plays y (actor_at y a) a (Hop halt_word)).1) ≡ Answering Halted
       loads = rw halt refl
@@ -160,5 +129,4 @@ answer_halt y a = go (course y a Answer)
   where
     go : (k : Course) → (line_on k y (actor_at y a) a Answer).0.words.halt ≡ y.words.halt
     go Plays = answered_halt y (actor_at y a) a
-    go Dies = refl
-    go (Refused outcome) = refl
+    go _ = refl

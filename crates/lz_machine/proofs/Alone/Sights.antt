@@ -37,13 +37,12 @@ left_set uses r b u no_limbo left s seen is = ⊎_elim
     (set_cases uses r s u)
 
 collect_limbo : (u : Use) (seen : List Sight) → collect_at u ≡ Limbo seen → (u ≡ Limbo seen) × (list_all has_left seen ≡ false)
-collect_limbo Free seen is = absurd cc
-collect_limbo Taken seen is = absurd cc
 collect_limbo (Limbo x) seen is = go (list_all has_left x) refl is
   where
     go : (b : Bool) → list_all has_left x ≡ b → (if b then Free else Limbo x) ≡ Limbo seen → (Limbo x ≡ Limbo seen) × (list_all has_left seen ≡ false)
     go true all e = absurd cc
     go false all e = (e, subst (λ (q : List Sight). list_all has_left q ≡ false) (limbo_same e) all)
+collect_limbo _ seen is = absurd cc
 
 pub collected_limbo : (uses : List Use) (s : ℕ) (seen : List Sight) → use_of (collect uses) s ≡ Limbo seen → (use_of uses s ≡ Limbo seen) × (list_all has_left seen ≡ false)
 collected_limbo uses s seen is = collect_limbo (use_of uses s) seen (sym (use_map collect_at uses s refl) ∙ is)
@@ -72,9 +71,8 @@ own_sight seen (suc i) x = elim (cases_lt i (length seen)) [
 ]
 
 seen_limbo : (p v : ℕ) (u : Use) (seen : List Sight) → see_pin_at p v u ≡ Limbo seen → (old : List Sight) × (u ≡ Limbo old) × (seen ≡ set_of_pass old p (sight_after v (of_pass old p Left)))
-seen_limbo p v Free seen is = absurd cc
-seen_limbo p v Taken seen is = absurd cc
 seen_limbo p v (Limbo x) seen is = (x, refl, sym (limbo_same is))
+seen_limbo p v _ seen is = absurd cc
 
 -- a slot in limbo was so before a pin was seen
 pub saw : (uses : List Use) (p v s : ℕ) (seen : List Sight) → use_of (see_pin p v uses) s ≡ Limbo seen → (old : List Sight) × (use_of uses s ≡ Limbo old) × (seen ≡ set_of_pass old p (sight_after v (of_pass old p Left)))

@@ -14,7 +14,7 @@ use Rattle.lz_slot.specs.declared.command.Command.TheVariants.{Add, Remove, Has}
 use Rattle.lz_slot.specs.declared.history.Refusal.TheVariants.{Full, Worn, OldFile}
 use Rattle.lz_slot.specs.declared.history.Mark.TheVariants.{Call, Answer, Refused, Cut, Stop, Crash, Opened, OpenFailed}
 use Rattle.lz_slot.specs.declared.slot.SlotRead.{SlotRead}
-use Rattle.lz_slot.specs.declared.slot.SlotRead.TheVariants.{Closed as Shut, Member, BadKey}
+use Rattle.lz_slot.specs.declared.slot.SlotRead.TheVariants.{Closed as Shut, Member}
 use Rattle.lz_slot.specs.Sets.{Keys, Same, members, HasMembers}
 use Rattle.lz_slot.specs.Bytes.{Holds, slot_at}
 use Rattle.lz_slot.specs.Histories.{History}
@@ -33,9 +33,8 @@ keys_but k t zero = []
 keys_but k t (suc n) = keys_but k t n ++ key_but k (slot_at t n)
 
 one_key : (k : ℕ) (r : SlotRead) → length (key_but k r) ≤ 1
-one_key k Shut = omega arith
-one_key k BadKey = omega arith
 one_key k (Member j) = grind (arith, nat_tests)
+one_key k _ = omega arith
 
 count_all : (k : ℕ) (t : List ℕ) (n : ℕ) → length (keys_but k t n) ≤ n
 count_all k t zero = omega arith
@@ -71,8 +70,7 @@ members_append xs ys q = list_any-append (λ (x : ℕ). x == q) xs ys
 
 key_members : (k q : ℕ) (r : SlotRead) → members (key_but k r) q ≡ (not (k == q) && reads_key q r)
 key_members k q Shut = grind (arith, nat_tests)
-key_members k q BadKey = grind (arith, nat_tests)
-key_members k q (Member j) = grind (arith, nat_tests)
+key_members k q _ = grind (arith, nat_tests)
 
 distribute : (n x y : Bool) → ((n && x) || (n && y)) ≡ (n && (y || x))
 distribute true true true = refl
@@ -105,9 +103,8 @@ next_distinct k t N n S holds le before = go (slot_at t n) refl
     of_key j true is = subst (IsDistinct nat_eq) (sym (append-nil (keys_but k t n))) before
 
     go : (r : SlotRead) → slot_at t n ≡ r → IsDistinct nat_eq (keys_but k t n ++ key_but k r)
-    go Shut is = subst (IsDistinct nat_eq) (sym (append-nil (keys_but k t n))) before
-    go BadKey is = subst (IsDistinct nat_eq) (sym (append-nil (keys_but k t n))) before
     go (Member j) is = of_key j (j == k) is
+    go _ is = subst (IsDistinct nat_eq) (sym (append-nil (keys_but k t n))) before
 
 pub none_distinct : IsDistinct nat_eq []
 unfolding IsDistinct

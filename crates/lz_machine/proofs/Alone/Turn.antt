@@ -153,9 +153,8 @@ module _ (n calls : ℕ) (y : Yard) (callers : List (Option Caller)) (disk : Med
   }
     where
       lived : (k : Course) → (line_on k y actor a e).0.vault.dead ≡ false → y.vault.dead ≡ false
-      lived Plays lives = lives
       lived Dies lives = absurd (false≢true (sym lives))
-      lived (Refused outcome) lives = lives
+      lived _ lives = lives
 
   adding_link : (t : ℕ) → AloneFull a y (Some (call_at i c (Playing (Adding t) 1))) P → (line y a Link).1 ≢ NotNow → After (Playing (Adding t) 1) Link (course y a Link)
   adding_link t h now = by_course (Playing (Adding t) 1) Link h refl now (adding_on Link t 1 (Playing (Adding t) 2) h refl refl Plays (λ lives s opens same. same) (λ lives s opens. opens) tt)
@@ -213,13 +212,12 @@ module _ (n calls : ℕ) (y : Yard) (callers : List (Option Caller)) (disk : Med
 
       stands : (d : Command) (again : Bool) (found : Option ℕ) → y.vault.dead ≡ false → lowest_free (collect y.uses) ≡ found → IsAdder d → WalkStands y P (Reserving again) d
           → WalkStands (line_on Plays y actor a Reserve).0 P (progress_after y.shape d (Reserving again) (slot_found found (collect y.uses))) d
-      stands (Add k) true (Some s) lives is adder old = tt
-      stands (Add k) false (Some s) lives is adder old = tt
       stands (Add k) false None lives is adder old = (old, λ b low below. absurd (omega (arith, low, below)))
       stands (Add k) true None lives is adder old =
           all_other n calls y callers disk M P notes sound holds slots old.1 is k old.0 (λ s opens. absurd (h.opening lives s opens))
       stands (Remove k) again found lives is adder old = absurd adder
       stands (Has k) again found lives is adder old = absurd adder
+      stands (Add k) _ (Some s) lives is adder old = tt
 
       go : y.vault.dead ≡ false → (found : Option ℕ) → lowest_free (collect y.uses) ≡ found → After (Reserving again) Reserve Plays
       go lives found is = subst (λ (q : Option ℕ). AloneFull a (line_on Plays y actor a Reserve).0 (Some (call_at i c (progress_after y.shape c (Reserving again) (slot_found q (collect y.uses))))) P) (sym is) (record {
@@ -286,9 +284,8 @@ module _ (n calls : ℕ) (y : Yard) (callers : List (Option Caller)) (disk : Med
       go false = seen_odd p
 
   answer_left : (k : Course) → HasLeft y.uses a → HasLeft (line_on k y actor a Answer).0.uses a
-  answer_left (Refused outcome) left = left
-  answer_left Dies left = left
   answer_left Plays left = left_seen (given_back y actor.slot) a (pin_answered actor (pin_of y a)) a (given_left actor.slot a left)
+  answer_left _ left = left
 
   -- after a yes too: its pass is outside
   yes_left : (line y a Answer).1 ≢ NotNow → HasLeft (line y a Answer).0.uses a
@@ -318,18 +315,15 @@ module _ (n calls : ℕ) (y : Yard) (callers : List (Option Caller)) (disk : Med
 
   no_adding : (t j : ℕ) (d : Command) → Relies (view_of y.shape y.vault y.actors a) d (Playing (Adding t) j) (notes.begun a) P (notes.changed a) → (k : ℕ) × (d ≡ Add k)
   no_adding t j (Add k) rely = (k, refl)
-  no_adding t j (Remove k) rely = absurd rely
-  no_adding t j (Has k) rely = absurd rely
+  no_adding t j _ rely = absurd rely
 
   past_adding : (t j : ℕ) (d : Command) → Relies (view_of y.shape y.vault y.actors a) d (Playing (Adding t) (suc (suc (suc (suc (suc j)))))) (notes.begun a) P (notes.changed a) → ⊥
   past_adding t j (Add k) rely = rely
-  past_adding t j (Remove k) rely = rely
-  past_adding t j (Has k) rely = rely
+  past_adding t j _ rely = rely
 
   past_removing : (t j : ℕ) (d : Command) → Relies (view_of y.shape y.vault y.actors a) d (Playing (Removing t) (suc (suc (suc (suc (suc (suc (suc j)))))))) (notes.begun a) P (notes.changed a) → ⊥
-  past_removing t j (Add k) rely = rely
   past_removing t j (Remove k) rely = rely.2
-  past_removing t j (Has k) rely = rely
+  past_removing t j _ rely = rely
 
   pub turned : (at : Progress) → Turned at
   turned (Playing Pinning j) is h now = playing Pinning j is h refl

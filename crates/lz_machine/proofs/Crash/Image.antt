@@ -84,9 +84,7 @@ differs false now = now
 -- what differs from the trace and is in no row was dropped
 kept_is : (was now dropped named : Bool) → dropped ≡ (not named && differs was now) → named ≡ false → (if dropped then not was else was) ≡ now
 kept_is true true dropped named is none = grind (arith, is, none)
-kept_is true false dropped named is none = grind (arith, is, none)
-kept_is false true dropped named is none = grind (arith, is, none)
-kept_is false false dropped named is none = grind (arith, is, none)
+kept_is _ _ dropped named is none = grind (arith, is, none)
 
 module _ (n calls : ℕ) (service : Service) (disk : Medium) (life : Life) (P : Trace) (notes : Notes) (up : UpSound n calls service disk life P notes) (t : List ℕ) (image : IsImage disk t) where
   abbrev N : ℕ

@@ -9,7 +9,7 @@ use Rattle.std.proofs.lemmas.Option.{slice_get-get_or, same_Some}
 use Rattle.lz_slot.specs.Sets.{Keys}
 use Rattle.lz_slot.specs.Bytes.{slot_at}
 use Rattle.lz_slot.specs.declared.slot.SlotRead.{SlotRead}
-use Rattle.lz_slot.specs.declared.slot.SlotRead.TheVariants.{Closed as Shut, Member, BadKey}
+use Rattle.lz_slot.specs.declared.slot.SlotRead.TheVariants.{Closed as Shut, Member}
 use Rattle.lz_slot.specs.Histories.{History}
 use Rattle.lz_disk.specs.Images.{Medium, IsImage}
 use Rattle.lz_vault.specs.declared.vault.Stage.{Stage}
@@ -50,8 +50,7 @@ found t (suc n) k = reads_key k (slot_at t n) || found t n k
 
 key_read : (k : ℕ) (r : SlotRead) → reads_key k r ≡ true → r ≡ Member k
 key_read k (Member j) is = ap Member (grind (arith, nat_tests, is))
-key_read k Shut is = absurd (false≢true is)
-key_read k BadKey is = absurd (false≢true is)
+key_read k _ is = absurd (false≢true is)
 
 pub found_in : (t : List ℕ) (n k : ℕ) → found t n k ≡ true → (i : ℕ) × (i < n) × (slot_at t i ≡ Member k)
 found_in t zero k is = absurd (false≢true is)

@@ -13,7 +13,7 @@ use Rattle.lz_slot.specs.declared.slot.SlotRead.TheVariants.{Closed as Shut, Mem
 use Rattle.lz_slot.specs.Histories.{History, IsUnderWay}
 use Rattle.lz_disk.specs.Images.{Medium, IsImage}
 use Rattle.lz_vault.specs.declared.vault.Stage.{Stage}
-use Rattle.lz_vault.specs.declared.vault.Stage.TheVariants.{Closed, KeyLoose, Keyed, Opening, Open, Closing}
+use Rattle.lz_vault.specs.declared.vault.Stage.TheVariants.{Opening, Open}
 use Rattle.lz_vault.specs.Stages.{MayRead}
 use Rattle.lz_list.specs.Traces.{Trace, on, chain_of, bucket_of, key_word, is_marked}
 use Rattle.lz_machine.specs.Yards.{Yard, cell_in, stage_in}
@@ -110,10 +110,7 @@ module _ (n calls : ℕ) (y : Yard) (callers : List (Option Caller)) (disk : Med
       not_opened : (stage : Stage) (key : ℕ) → is_opening stage ≡ false → MayRead stage key (slot_at t s) → IsGateOpened stage → ⊥
       not_opened Opening key closed may opened = false≢true (sym closed)
       not_opened Open key closed may opened = not_both key (slot_at t s) shut may
-      not_opened Closed key closed may opened = grind (arith, opened)
-      not_opened KeyLoose key closed may opened = grind (arith, opened)
-      not_opened Keyed key closed may opened = grind (arith, opened)
-      not_opened Closing key closed may opened = grind (arith, opened)
+      not_opened _ key closed may opened = grind (arith, opened)
 
       written : IsNodeStage y.vault.cells y.vault.dead y.actors P s → IsGateWritten (stage_in y.vault.cells s)
       written (inl opened) = absurd (not_opened (stage_in y.vault.cells s) (cell_in y.vault.cells s).key not_opening (reads n calls y callers disk M P notes sound t image s lt) opened.1)

@@ -26,8 +26,7 @@ within most k is = grind (arith, nat_tests)
 
 pub adds_fitting : (format : Format) (c : Command) → IsAdder c → is_old format c ≡ false → key_of c ≤ largest_of format
 adds_fitting format (Add k) adder fits = within (largest_of format) k fits
-adds_fitting format (Remove k) adder fits = absurd adder
-adds_fitting format (Has k) adder fits = absurd adder
+adds_fitting format _ adder fits = absurd adder
 
 -- the key that an event writes
 abbrev pub key_written : Event → Option ℕ
@@ -40,16 +39,10 @@ module _ (words : Words) (shape : Shape) (v : View) (c : Command) (P0 P : Trace)
 
   writes_in : (sequence : Sequence) (i : ℕ) → Relies v c (Playing sequence i) P0 P changed → Writes (Playing sequence i) → IsAdder c × (key_of c ≡ k) × (is_before_pin (Playing sequence i) ≡ false)
   writes_in (Writing s) zero h is = (h.2, cc, refl)
-  writes_in (Writing s) (suc zero) h is = absurd (none-some _ is)
   writes_in (Writing s) (suc (suc i)) h is = absurd h
-  writes_in Pinning zero h is = absurd (none-some _ is)
   writes_in Pinning (suc i) h is = absurd h
-  writes_in (Resting s reply) zero h is = absurd (none-some _ is)
-  writes_in (Resting s reply) (suc zero) h is = absurd (none-some _ is)
   writes_in (Resting s reply) (suc (suc i)) h is = absurd h
-  writes_in (Releasing aim) zero h is = absurd (none-some _ is)
   writes_in (Releasing aim) (suc i) h is = absurd h
-  writes_in (Halting reply) zero h is = absurd (none-some _ is)
   writes_in (Halting reply) (suc i) h is = absurd h
   writes_in (Adding s) i h is = adding c i h is
     where
@@ -65,6 +58,7 @@ module _ (words : Words) (shape : Shape) (v : View) (c : Command) (P0 P : Trace)
       removing (Add q) j g at = absurd g
       removing (Has q) j g at = absurd g
       removing _ _ g at = absurd (none-some _ at)
+  writes_in _ _ h is = absurd (none-some _ is)
 
   -- only an adder writes a key, and it writes its own
   writes : (at : Progress) → Relies v c at P0 P changed → Writes at → IsAdder c × (key_of c ≡ k) × (is_before_pin at ≡ false)

@@ -209,5 +209,4 @@ locks_published shape locks actors e P leaves h = record { heads = h.heads; node
 pub one_place : (buckets j k : ℕ) (p q : Place) → InBucket buckets j p → InBucket buckets k q → bucket_of buckets j ≡ bucket_of buckets k → place_number p ≡ place_number q → p ≡ q
 one_place buckets j k (Bucket b) (Bucket c) at there same number = ap Bucket (at ∙ same ∙ sym there)
 one_place buckets j k (Node s) (Node t) at there same number = ap Node (omega (arith, number))
-one_place buckets j k (Bucket b) (Node t) at there same number = absurd (omega (arith, number))
-one_place buckets j k (Node s) (Bucket c) at there same number = absurd (omega (arith, number))
+one_place buckets j k _ _ at there same number = absurd (omega (arith, number))

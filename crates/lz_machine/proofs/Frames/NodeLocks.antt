@@ -43,14 +43,12 @@ module _ (a : ℕ) where
   owner_other : (locks : NodeLocks) (place other : Place) → other ≢ place → owner (with_owner locks place a) other ≡ owner locks other
   owner_other locks (Bucket b) (Bucket c) apart = get_or-set_other locks.heads b c a 0 (λ same. apart (ap Bucket same))
   owner_other locks (Node s) (Node t) apart = get_or-set_other locks.nodes s t a 0 (λ same. apart (ap Node same))
-  owner_other locks (Bucket b) (Node t) apart = refl
-  owner_other locks (Node s) (Bucket c) apart = refl
+  owner_other locks _ _ apart = refl
 
   in_still : (locks : NodeLocks) (place other : Place) → IsPlaceIn locks other → IsPlaceIn (with_owner locks place a) other
   in_still locks (Bucket b) (Bucket c) lt = omega (arith, lt, length-set locks.heads b a)
   in_still locks (Node s) (Node t) lt = omega (arith, lt, length-set locks.nodes s a)
-  in_still locks (Bucket b) (Node t) lt = lt
-  in_still locks (Node s) (Bucket c) lt = lt
+  in_still locks _ _ lt = lt
 
   with_lengths : (locks : NodeLocks) (place : Place) → (length (with_owner locks place a).heads ≡ length locks.heads) × (length (with_owner locks place a).nodes ≡ length locks.nodes)
   with_lengths locks (Bucket b) = (length-set locks.heads b a, refl)

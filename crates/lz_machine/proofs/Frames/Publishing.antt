@@ -41,7 +41,6 @@ use Rattle.lz_machine.proofs.Ledger.Growth.{upto_more, yes_stays, no_stays}
 
 pub halt_stays : (e : Publishing) (P : Trace) → halt_word P ≡ 1 → halt_word (e ∷ P) ≡ 1
 halt_stays halted P is = refl
-halt_stays (linked k s p) P is = is
 halt_stays _ _ is = is
 
 -- the node of the actor's pair, on which it relies
@@ -259,13 +258,12 @@ module _ (buckets slots : ℕ) (e : Publishing) (P : Trace) (law : Lawful bucket
     removing_stays : (k s i : ℕ) → actor.curr ≡ Some s → ReliesRemoving v k s i P changed → ReliesRemoving v k s i (e ∷ P) changed
     removing_stays k s zero is h = (h.0, node_word_stays s k is Checked h.0 refl h.1, h.2)
     removing_stays k s (suc zero) is h = (h.0, node_word_stays s k is GateClosed h.0 refl h.1, h.2)
-    removing_stays k s (suc (suc zero)) is h = (h.0, marked_stays k s is h.0 h.1)
-    removing_stays k s (suc (suc (suc zero))) is h = (h.0, marked_stays k s is h.0 h.1)
     removing_stays k s (suc (suc (suc (suc zero)))) is h =
         (h.0, node_word_stays s k is Marked h.0 refl h.1, removed_stays k s is h.0 h.1 h.2, change_stays k changed h.3)
     removing_stays k s (suc (suc (suc (suc (suc zero))))) is h = (h.0, change_stays k changed h.1)
     removing_stays k s (suc (suc (suc (suc (suc (suc zero)))))) is h = (h.0, change_stays k changed h.1)
     removing_stays k s (suc (suc (suc (suc (suc (suc (suc i))))))) is h = absurd h
+    removing_stays k s _ is h = (h.0, marked_stays k s is h.0 h.1)
 
     module _ (inside : IsInside pin) (quiet : IsQuiet buckets P0 P) where
       adding_stays : (k s i : ℕ) → ReliesAdding v k s i P0 P changed → ReliesAdding v k s i P0 (e ∷ P) changed

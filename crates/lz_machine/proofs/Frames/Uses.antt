@@ -58,13 +58,11 @@ module _ (p v : ℕ) where
   -- a slot in limbo was so before
   see_at : (u : Use) (seen : List Sight) → see_pin_at p v u ≡ Limbo seen → (sights : List Sight) × (u ≡ Limbo sights) × (seen ≡ set_of_pass sights p (sight_after v (of_pass sights p Left)))
   see_at (Limbo sights) seen is = (sights, refl, sym (limbo_same is))
-  see_at Free seen is = absurd cc
-  see_at Taken seen is = absurd cc
+  see_at _ seen is = absurd cc
 
   see_free : (u : Use) → see_pin_at p v u ≡ Free → u ≡ Free
   see_free Free is = refl
-  see_free Taken is = absurd cc
-  see_free (Limbo sights) is = absurd cc
+  see_free _ is = absurd cc
 
   pub seen_reuse : (shape : Shape) (pins : List ℕ) (uses : List Use) (actors : List Actor) (P : Trace) (begun : ℕ → Trace) → v ≡ pin_in pins p → 1 ≤ p → p ≤ shape.passes
       → ReuseSound shape pins uses actors P begun → ReuseSound shape pins (see_pin p v uses) actors P begun
@@ -117,11 +115,10 @@ collected_free (Limbo sights) is = inr (
 )
 
 all_left : (sights : List Sight) (i : ℕ) → list_all has_left sights ≡ true → get_or sights i Left ≡ Left
-all_left [] i all = refl
-all_left (Left ∷ sights) zero all = refl
 all_left (Left ∷ sights) (suc i) all = all_left sights i all
 all_left (Unseen ∷ sights) i all = absurd (false≢true all)
 all_left (Inside u ∷ sights) i all = absurd (false≢true all)
+all_left _ _ all = refl
 
 pub left_of : (sights : List Sight) (a : ℕ) → list_all has_left sights ≡ true → of_pass sights a Left ≡ Left
 left_of sights zero all = refl

@@ -8,7 +8,7 @@ use Rattle.lz_slot.specs.declared.command.Command.TheVariants.{Add, Remove}
 use Rattle.lz_slot.specs.Sets.{key_of, Keys, reply, moved}
 use Rattle.lz_slot.proofs.Sets.{after_at}
 use Rattle.lz_list.specs.declared.publishing.Publishing.{Publishing}
-use Rattle.lz_list.specs.declared.publishing.Publishing.TheVariants.{Linked as linked, Marked as marked, Unlinked as unlinked, Settled as settled, KeyPrepared as key_prepared, LinkPrepared as link_prepared, Halted as halted}
+use Rattle.lz_list.specs.declared.publishing.Publishing.TheVariants.{Linked as linked, Marked as marked, Settled as settled, Halted as halted}
 use Rattle.lz_list.specs.Traces.{Trace, Begins, member, linking, is_settled, is_removed, Lawful, SettledYes, SettledNo}
 use Rattle.lz_list.proofs.Traces.Hindsight.{lawful_begins}
 use Rattle.lz_machine.specs.Ledgers.{Row, IsRight, Moves}
@@ -180,11 +180,8 @@ module _ (n : ℕ) (P : Trace) (drop : Keys) (may : MayDrop n P drop) where
     rows_move buckets slots law (marked k s p) is fit =
         let may_mark = (subst (Lawful buckets slots) (next j early late (marked k s p) is) (lawful_begins buckets slots (upto (suc j) P) P (upto_begins (suc j) P) law)).0 in
         move_by (marked k s p) k (Remove k) false is (λ q other. grind (arith, nat_tests)) (grind (arith, nat_tests)) (grind (arith, nat_tests)) may_mark.0 (λ q b other. grind (arith, nat_tests)) (λ b. grind (arith, nat_tests)) (drop k && (last_change k P == suc j)) refl fit
-    rows_move buckets slots law (unlinked k s p) is fit = subst (Moves (kept_keys n P drop j) (kept_keys n P drop (suc j))) (sym fit) (λ q. stays j early late (unlinked k s p) is q refl)
-    rows_move buckets slots law (settled s r) is fit = subst (Moves (kept_keys n P drop j) (kept_keys n P drop (suc j))) (sym fit) (λ q. stays j early late (settled s r) is q refl)
-    rows_move buckets slots law (key_prepared s v) is fit = subst (Moves (kept_keys n P drop j) (kept_keys n P drop (suc j))) (sym fit) (λ q. stays j early late (key_prepared s v) is q refl)
-    rows_move buckets slots law (link_prepared s v) is fit = subst (Moves (kept_keys n P drop j) (kept_keys n P drop (suc j))) (sym fit) (λ q. stays j early late (link_prepared s v) is q refl)
     rows_move buckets slots law halted is fit = subst (Moves (kept_keys n P drop j) (kept_keys n P drop (suc j))) (sym fit) (λ q. stays j early late halted is q refl)
+    rows_move buckets slots law e is fit = subst (Moves (kept_keys n P drop j) (kept_keys n P drop (suc j))) (sym fit) (λ q. stays j early late e is q refl)
 
   -- before the life began nothing moves
   pub begins_still : (j : ℕ) → j < n → (k : ℕ) → kept_keys n P drop (suc j) k ≡ kept_keys n P drop j k

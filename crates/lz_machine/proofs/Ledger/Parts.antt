@@ -6,7 +6,7 @@ use Rattle.std.proofs.lemmas.List.{append-nil}
 use Rattle.lz_slot.specs.Counted.{set_of_pass}
 use Rattle.lz_slot.proofs.Counted.{of_pass_same, of_pass_other}
 use Rattle.lz_list.specs.declared.publishing.Publishing.{Publishing}
-use Rattle.lz_list.specs.declared.publishing.Publishing.TheVariants.{Linked as linked, Marked as marked, Unlinked as unlinked, Settled as settled, KeyPrepared as key_prepared, LinkPrepared as link_prepared, Halted as halted}
+use Rattle.lz_list.specs.declared.publishing.Publishing.TheVariants.{Linked as linked, Marked as marked}
 use Rattle.lz_machine.specs.Runs.{Caller, caller_at}
 use Rattle.lz_machine.specs.Ledgers.{Row, HasRow, Stands, Each, change_at, times}
 use Rattle.lz_machine.specs.Entries.{IsChangeOf}
@@ -196,8 +196,4 @@ is_nil (l ∷ L) e = absurd (omega (arith, e))
 pub short : (f : Publishing) (L : List Row) → IsChangeOf f L → length L ≤ 1
 short (linked k s p) L h = omega (arith, ap length h.1)
 short (marked k s p) L h = omega (arith, ap length h.1)
-short (unlinked k s p) L h = omega (arith, ap length h)
-short (settled s c) L h = omega (arith, ap length h)
-short (key_prepared s v) L h = omega (arith, ap length h)
-short (link_prepared s v) L h = omega (arith, ap length h)
-short halted L h = omega (arith, ap length h)
+short _ L h = omega (arith, ap length h)

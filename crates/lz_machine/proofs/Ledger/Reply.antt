@@ -267,9 +267,6 @@ module _ (n calls passes : ℕ) (callers : List (Option Caller)) (P : Trace) (M 
   ends (Add k) No at (inr h) may = rests_yes n calls passes callers P M notes a i (Add k) No at le sound pins after false refl (moved_yes k) refl h.0 h.1 may.0 may.1
   ends (Remove k) Yes at (inr h) may = changed_row n calls passes callers P M notes a i (Remove k) Yes at le sound pins after refl may
   ends (Remove k) No at (inr h) may = rests_no n calls passes callers P M notes a i (Remove k) No at le sound pins after false refl (moved_no k) refl h.0 h.1 may.0 may.1
-  ends (Has k) (Full counts) at h may = refused_row n calls passes callers P M notes a i (Has k) (Full counts) at le sound pins after refused_full refl may.0
-  ends (Add k) (Full counts) at h may = refused_row n calls passes callers P M notes a i (Add k) (Full counts) at le sound pins after refused_full refl may.0
-  ends (Remove k) (Full counts) at h may = refused_row n calls passes callers P M notes a i (Remove k) (Full counts) at le sound pins after refused_full refl may.0
   ends (Has k) SaysWorn at h may = refused_row n calls passes callers P M notes a i (Has k) SaysWorn at le sound pins after refused_worn refl may
   ends (Has k) SaysOldFile at h may = refused_row n calls passes callers P M notes a i (Has k) SaysOldFile at le sound pins after refused_old_file refl may
   ends (Add k) SaysWorn at h may = refused_row n calls passes callers P M notes a i (Add k) SaysWorn at le sound pins after refused_worn refl may
@@ -279,3 +276,4 @@ module _ (n calls passes : ℕ) (callers : List (Option Caller)) (P : Trace) (M 
   ends c Halted at h may = cut_row n calls passes callers P M notes a i c Halted at le sound pins after cut_halted
   ends c Device at h may = cut_row n calls passes callers P M notes a i c Device at le sound pins after cut_device
   ends _ _ at (inl e) may = absurd (false≢true e)
+  ends c (Full counts) at h may = refused_row n calls passes callers P M notes a i c (Full counts) at le sound pins after refused_full refl may.0

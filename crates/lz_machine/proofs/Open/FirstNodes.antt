@@ -56,8 +56,7 @@ module _ (buckets : ℕ) where
 module _ (t : List ℕ) where
   slot_of_read : (n s : ℕ) → n ≢ s → (r : SlotRead) → has_slot s (held t n) ≡ false → (has_slot s (held t n) || has_slot s (held_key r n)) ≡ false
   slot_of_read n s other (Member k) none = grind (arith, nat_tests)
-  slot_of_read n s other Closed none = grind (arith, nat_tests)
-  slot_of_read n s other BadKey none = grind (arith, nat_tests)
+  slot_of_read n s other _ none = grind (arith, nat_tests)
 
   slot_later : (n s : ℕ) → n ≤ s → has_slot s (held t n) ≡ false
   slot_later zero s le = refl

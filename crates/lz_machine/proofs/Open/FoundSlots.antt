@@ -43,24 +43,20 @@ read_says F read.BadKey bytes is fine long fits = absurd (fine refl)
 
 pub read_reads : (r : SlotRead) (bytes : List ℕ) → Reads (cell_read r).stage (cell_read r).key bytes
 read_reads read.Closed bytes = tt
-read_reads (read.Member k) bytes = tt
-read_reads read.BadKey bytes = tt
+read_reads _ bytes = tt
 
 pub read_key : (F : Format) (r : SlotRead) (bytes : List ℕ) → slot_read F bytes ≡ r → (cell_read r).key ≤ largest_of F
-read_key F read.Closed bytes is = zero_fits F
 read_key F (read.Member k) bytes is = read_fits F bytes k is
-read_key F read.BadKey bytes is = zero_fits F
+read_key F _ bytes is = zero_fits F
 
 -- a slot as an open finds it is steady, and in no limbo
 pub read_steady : (r : SlotRead) → ((cell_read r).stage ≡ Open) ⊎ ((cell_read r).stage ≡ Closed)
-read_steady read.Closed = inr refl
 read_steady (read.Member k) = inl refl
-read_steady read.BadKey = inr refl
+read_steady _ = inr refl
 
 pub read_limbo : (r : SlotRead) (sights : List Sight) → use_read r ≡ Limbo sights → ⊥
 read_limbo read.Closed sights e = absurd cc
-read_limbo (read.Member k) sights e = absurd cc
-read_limbo read.BadKey sights e = absurd cc
+read_limbo _ sights e = absurd cc
 
 pub slot_fits : (t : List ℕ) (i : ℕ) → AreBytes t → AreBytes (slot_bytes t i)
 slot_fits t i bytes = fits_taken (32 + 16 * i - (16 + 16 * i)) (drop (16 + 16 * i) t) (λ k. rw (get_or-drop (16 + 16 * i) t k 0) (bytes (16 + 16 * i + k)))

@@ -11,7 +11,7 @@ use Rattle.std.proofs.lemmas.Grind.{same_number_lists}
 use Rattle.lz_slot.specs.Limits.{largest_key}
 use Rattle.lz_slot.specs.Rooms.{largest_of, number_of}
 use Rattle.lz_slot.specs.declared.format.Format.{Format}
-use Rattle.lz_slot.specs.declared.format.Format.TheVariants.{One, Two, Three}
+use Rattle.lz_slot.specs.declared.format.Format.TheVariants.{One}
 use Rattle.lz_slot.specs.Bytes.{open_byte, magic, format_byte, format_of, header_body, slot_body, slot_bytes, slot_read, slot_at}
 use Rattle.lz_slot.proofs.Files.ExactBytes.{key_of_format, slot_reads_back}
 use Rattle.lz_vault.specs.declared.vault.Stage.{Stage}
@@ -84,8 +84,7 @@ slot_says F _ k fits steady = absurd steady
 -- the text names its format
 pub text_format : (F : Format) (cells : List Cell) → format_of (text_of F cells) ≡ F
 text_format One cells = refl
-text_format Two cells = refl
-text_format Three cells = refl
+text_format _ cells = refl
 
 -- the text says of each slot what its cell does
 pub text_says : (F : Format) (cells : List Cell) → ((i : ℕ) (cell : Cell) → slice_get cells i ≡ Some cell → cell.key ≤ largest_of F) → AreSteady cells
@@ -122,18 +121,11 @@ high_small (suc n) x (suc i) = high_small n x i
 
 letter_small : (F : Format) → format_byte F < 256
 letter_small One = omega arith
-letter_small Two = omega arith
-letter_small Three = omega arith
+letter_small _ = omega arith
 
 magic_small : (F : Format) → AreBytes (magic F)
-magic_small F zero = omega arith
-magic_small F (suc zero) = omega arith
-magic_small F (suc (suc zero)) = omega arith
-magic_small F (suc (suc (suc zero))) = omega arith
-magic_small F (suc (suc (suc (suc zero)))) = omega arith
-magic_small F (suc (suc (suc (suc (suc zero))))) = omega arith
 magic_small F (suc (suc (suc (suc (suc (suc zero)))))) = letter_small F
-magic_small F (suc (suc (suc (suc (suc (suc (suc i))))))) = omega arith
+magic_small F _ = omega arith
 
 gate_small : (xs : List ℕ) → AreBytes xs → AreBytes (open_byte ∷ xs)
 gate_small xs all zero = omega arith

@@ -14,9 +14,8 @@ use Rattle.lz_machine.specs.Calls.{event_at, events_of, loaded}
 use Rattle.lz_machine.specs.Runs.{IsNext, Caller, Service, caller_at, next_event, run, first_point}
 use Rattle.lz_machine.specs.NextEvents.{NextIsKnown}
 use Rattle.lz_machine.proofs.Frames.OneActor.{caller_range}
-use Rattle.lz_machine.proofs.Theorem.Reached.{reached_sound}
+use Rattle.lz_machine.proofs.Theorem.Reached.{reached_sound, up_at}
 use Rattle.lz_machine.proofs.Theorem.Readiness.{is_invoke}
-use Rattle.lz_machine.proofs.Theorem.WornPass.{up_at}
 use Rattle.lz_machine.proofs.Theorem.Timeliness.{is_event_there, may_take_there}
 
 -- the caller whose next event this is

@@ -5,7 +5,7 @@ use Rattle.lz_slot.specs.declared.command.Command.{Command}
 use Rattle.lz_disk.specs.Images.{Medium}
 use Rattle.lz_vault.specs.Vaults.{MayFail}
 use Rattle.lz_machine.specs.declared.course.Course.{Course}
-use Rattle.lz_machine.specs.declared.course.Course.TheVariants.{Refused, Dies, Plays}
+use Rattle.lz_machine.specs.declared.course.Course.TheVariants.{Plays}
 use Rattle.lz_machine.specs.declared.event.Event.TheVariants.{Answer}
 use Rattle.lz_machine.specs.declared.caller.Progress.{Progress}
 use Rattle.lz_machine.specs.declared.caller.Progress.TheVariants.{Answering}
@@ -22,8 +22,7 @@ none_of (Some caller) empty = absurd (false≢true (sym empty))
 -- an answer makes no device call, so that none fails in it
 answer_calls_nothing : (k : Course) (y : Yard) (a : ℕ) (disk new : Medium) → MayFail (call_on k y (actor_at y a) Answer) disk new → ⊥
 answer_calls_nothing Plays y a disk new h = h
-answer_calls_nothing Dies y a disk new h = h
-answer_calls_nothing (Refused outcome) y a disk new h = h
+answer_calls_nothing _ y a disk new h = h
 
 -- a call whose device call fails has no reply yet
 pub fault_no_reply : (y : Yard) (a : ℕ) (c : Command) (at : Progress) (disk new : Medium) → MayFail (line_call y a (loaded y.words (event_at y.shape c at))) disk new → reply_at at ≡ None

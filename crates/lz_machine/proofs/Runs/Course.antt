@@ -1,14 +1,17 @@
 -- What becomes of an event, by whether the vault is dead and what the event needs.
-use Rattle.std.proofs.Common.{◌≡◌, ◌⊎◌, inl, inr, ℕ, Bool, true, false, not, ◌&&◌, refl, ap, ◌∙◌}
+use Rattle.std.proofs.Common.{◌≡◌, ◌≢◌, ◌⊎◌, inl, inr, ℕ, Bool, true, false, not, ◌&&◌, refl, sym, ap, ◌∙◌}
+use mathlib.Core.Bool.{false≢true}
+use Rattle.std.proofs.lemmas.Bool.Decides.{eqb_tells}
 use Rattle.std.specs.Prelude.{if◌then◌else◌}
 use Rattle.lz_slot.specs.declared.command.Command.{Command}
 use Rattle.lz_machine.specs.declared.event.Event.{Event}
-use Rattle.lz_machine.specs.declared.event.Event.TheVariants.{Invoke, Answer}
-use Rattle.lz_machine.specs.declared.event.Outcome.TheVariants.{Dead, NotNow}
+use Rattle.lz_machine.specs.declared.event.Event.TheVariants.{Invoke, Pin, Sync, Answer}
+use Rattle.lz_machine.specs.declared.event.Outcome.{Outcome}
+use Rattle.lz_machine.specs.declared.event.Outcome.TheVariants.{Dead, NotNow, Worn}
 use Rattle.lz_machine.specs.declared.course.Course.{Course}
-use Rattle.lz_machine.specs.declared.course.Course.TheVariants.{Refused, Plays}
+use Rattle.lz_machine.specs.declared.course.Course.TheVariants.{Refused, Dies, Plays}
 use Rattle.lz_machine.specs.Yards.{Yard}
-use Rattle.lz_machine.specs.Table.{needs, pin_of, is_played_dead, course, course_alive}
+use Rattle.lz_machine.specs.Table.{needs, pin_of, last_pin, is_played_dead, is_sure, is_spent, course, course_alive}
 
 -- the course of an event that a dead vault refuses, of one whose needs don't hold, and of any other
 pub dead_course : (y : Yard) (a : ℕ) (e : Event) → (y.vault.dead && not (is_played_dead e)) ≡ true → course y a e ≡ Refused Dead
@@ -34,18 +37,49 @@ invoke_plays y a c = go y.vault.dead
     go true = refl
     go false = refl
 
+-- Each course of an event, with what is known where it is taken: what holds of each holds of the one that it takes.
+pub course_by : (A : Course → Type 0) (y : Yard) (a : ℕ) (e : Event) → (y.vault.dead ≡ true → is_played_dead e ≡ false → A (Refused Dead)) → (needs y a e ≡ false → A (Refused NotNow))
+    → (needs y a e ≡ true → (is_played_dead e ≡ false → y.vault.dead ≡ false) → A (course_alive y a (pin_of y a) e)) → A (course y a e)
+course_by A y a e dead not_yet alive = go y.vault.dead (is_played_dead e) (needs y a e) refl refl refl
+  where
+    go : (d too may : Bool) → y.vault.dead ≡ d → is_played_dead e ≡ too → needs y a e ≡ may → A (if d && not too then Refused Dead else if may then course_alive y a (pin_of y a) e else Refused NotNow)
+    go true false may is stops has = dead is stops
+    go true true true is stops has = alive has (λ other. absurd (false≢true (sym other ∙ stops)))
+    go false too true is stops has = alive has (λ other. is)
+    go _ _ false is stops has = not_yet has
+
+pub alive_by : (A : Course → Type 0) (y : Yard) (a : ℕ) (e : Event) → (e ≡ Pin → pin_of y a ≡ last_pin → A (Refused Worn)) → ((s : ℕ) → e ≡ Sync s → A Dies) → ((e ≡ Pin → pin_of y a ≢ last_pin) → A Plays) → A (course_alive y a (pin_of y a) e)
+alive_by A y a Pin worn dies plays = elim (eqb_tells (pin_of y a) last_pin) [
+  | inl last ↦ rw last.0 (worn refl last.1)
+  | inr fresh ↦ rw fresh.0 (plays (λ same. fresh.1))
+]
+alive_by A y a (Sync s) worn dies plays = elim (not (is_sure y s) && is_spent y) as (λ (spent : Bool). A (if spent then Dies else Plays)) [ true ↦ dies s refl | false ↦ plays (λ same. absurd cc) ]
+alive_by A y a e worn dies plays = plays (λ same. absurd cc)
+
+pub each_course : (A : Course → Type 0) (y : Yard) (a : ℕ) (e : Event) → (y.vault.dead ≡ true → is_played_dead e ≡ false → A (Refused Dead)) → (needs y a e ≡ false → A (Refused NotNow)) → (e ≡ Pin → pin_of y a ≡ last_pin → A (Refused Worn))
+    → ((s : ℕ) → e ≡ Sync s → A Dies) → (needs y a e ≡ true → (e ≡ Pin → pin_of y a ≢ last_pin) → A Plays) → A (course y a e)
+each_course A y a e dead not_yet worn dies plays = course_by A y a e dead not_yet (λ has lives. alive_by A y a e worn dies (plays has))
+
+-- An event that is refused isn't played. What is played has what it needs, the vault is alive where a dead one refuses it, and a pin isn't the last.
+pub refused_plays : {outcome : Outcome} → Refused outcome ≡ Plays → ⊥
+refused_plays e = absurd cc
+
+pub plays_needs : (y : Yard) (a : ℕ) (e : Event) → course y a e ≡ Plays → needs y a e ≡ true
+plays_needs y a e =
+    each_course (λ k. k ≡ Plays → needs y a e ≡ true) y a e (λ dead stops is. absurd (refused_plays is)) (λ lacks is. absurd (refused_plays is)) (λ pin last is. absurd (refused_plays is)) (λ s sync is. absurd cc) (λ has fresh is. has)
+
+pub plays_alive : (y : Yard) (a : ℕ) (e : Event) → is_played_dead e ≡ false → course y a e ≡ Plays → y.vault.dead ≡ false
+plays_alive y a e stops =
+    course_by (λ k. k ≡ Plays → y.vault.dead ≡ false) y a e (λ dead _ is. absurd (refused_plays is)) (λ lacks is. absurd (refused_plays is)) (λ has lives is. lives stops)
+
+pub fresh_pin : (y : Yard) (a : ℕ) → course y a Pin ≡ Plays → pin_of y a ≢ last_pin
+fresh_pin y a =
+    each_course (λ k. k ≡ Plays → pin_of y a ≢ last_pin) y a Pin (λ dead stops is. absurd (refused_plays is)) (λ lacks is. absurd (refused_plays is)) (λ pin last is. absurd (refused_plays is)) (λ s sync is. absurd cc) (λ has fresh is. fresh refl)
+
 -- an Answer is played where it has what it needs
 pub answer_plays : (y : Yard) (a : ℕ) → ((needs y a Answer ≡ true) × (course y a Answer ≡ Plays)) ⊎ (course y a Answer ≡ Refused NotNow)
-answer_plays y a = go y.vault.dead (needs y a Answer)
-  where
-    taken : Bool → Bool → Course
-    taken dead may = if dead && not true then Refused Dead else if may then Plays else Refused NotNow
-
-    go : (dead may : Bool) → ((may ≡ true) × (taken dead may ≡ Plays)) ⊎ (taken dead may ≡ Refused NotNow)
-    go true true = inl (refl, refl)
-    go true false = inr refl
-    go false true = inl (refl, refl)
-    go false false = inr refl
+answer_plays y a =
+    course_by (λ k. ((needs y a Answer ≡ true) × (k ≡ Plays)) ⊎ (k ≡ Refused NotNow)) y a Answer (λ dead stops. absurd (false≢true (sym stops))) (λ lacks. inr refl) (λ has lives. inl (has, refl))
 
 -- a dead vault refuses an event that is not played dead
 pub course_dead : (y : Yard) (a : ℕ) (e : Event) → is_played_dead e ≡ false → y.vault.dead ≡ true → course y a e ≡ Refused Dead

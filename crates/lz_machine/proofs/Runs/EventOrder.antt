@@ -2,7 +2,6 @@
 use Rattle.std.proofs.Common.{◌≡◌, ℕ, refl}
 use Rattle.lz_slot.specs.declared.command.Command.{Command}
 use Rattle.lz_machine.specs.declared.event.Outcome.{Outcome}
-use Rattle.lz_machine.specs.declared.event.Outcome.TheVariants.{Fault}
 use Rattle.lz_machine.specs.declared.caller.Progress.{Progress}
 use Rattle.lz_machine.specs.declared.caller.Progress.TheVariants.{Playing, LoadsHalt}
 use Rattle.lz_machine.specs.Yards.{Shape}
@@ -18,5 +17,4 @@ same_event n m buckets passes c _ = refl
 
 pub same_follows : (n m buckets passes : ℕ) (c : Command) (at : Progress) (o : Outcome) → progress_after (shaped n buckets passes) c at o ≡ progress_after (shaped m buckets passes) c at o
 same_follows n m buckets passes c LoadsHalt o = search
-same_follows n m buckets passes c at Fault = refl
 same_follows n m buckets passes c _ _ = refl

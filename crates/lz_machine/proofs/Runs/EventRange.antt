@@ -40,7 +40,7 @@ use Rattle.lz_machine.proofs.Frames.OtherCallers.{held_node}
 use Rattle.lz_machine.proofs.Frames.LoadedWord.{bucket_range}
 use Rattle.lz_machine.proofs.Steps.Claim.{ended_between, pred_was, node_was}
 use Rattle.lz_machine.proofs.Theorem.ShownChains.{heads_are, links_are, keys_are, is_curr}
-use Rattle.lz_machine.proofs.Theorem.Readiness.{is_invoke, next_of, same_yard, sound_there}
+use Rattle.lz_machine.proofs.Theorem.Readiness.{is_invoke, last, next_of, same_yard, sound_there}
 
 module _ (n calls : ℕ) (y : Yard) (callers : List (Option Caller)) (disk : Medium) (M : History) (P : Trace) (notes : Notes) (sound : Sound n calls y callers disk M P notes)
     (w : Words) (heads : w.heads ≡ y.words.heads) (links : w.links ≡ y.words.links) (keys : w.keys ≡ y.words.keys) (a : ℕ) (c : Command) where
@@ -150,10 +150,11 @@ module _ (y : Yard) (honest : Bool) (disk : Medium) (a : ℕ) (e : Event) (may :
   next_asks : IsEventOf y e
   next_asks =
       let there = sound_there y honest disk a e may in
+      let P = (last y honest disk a e may).trace in
       let caller = next_of may.service a e other may.next in
-      let own = mine may.service.yard.shape may.service.yard.vault may.service.yard.words.pins may.service.yard.actors may.service.callers there.3 there.4 a caller.0 caller.1 there.5.callers in
+      let own = mine may.service.yard.shape may.service.yard.vault may.service.yard.words.pins may.service.yard.actors may.service.callers P there.notes a caller.0 caller.1 there.up.sound.callers in
       let of_caller : IsEventOf (with_words may.service.yard y.words) (next_event may.service.yard caller.0) =
-      asks there.0 there.1 may.service.yard may.service.callers may.medium there.2 there.3 there.4 there.5 y.words may.yard.heads may.yard.links may.yard.keys a caller.0.command caller.0.progress own.stands.2 in
+      asks there.n (last y honest disk a e may).calls may.service.yard may.service.callers may.medium there.life.history P there.notes there.up.sound y.words may.yard.heads may.yard.links may.yard.keys a caller.0.command caller.0.progress own.stands.2 in
       subst (λ (q : Yard). IsEventOf q e) (sym (same_yard y honest disk a e may)) (subst (λ (q : Event). IsEventOf (with_words may.service.yard y.words) q) caller.2 of_caller)
 
 -- what may be played in a reached state is an event of its yard

@@ -1,5 +1,5 @@
 -- What becomes of a caller's next event, and how the service after it is sound where its yard, its callers and the disk are.
-use Rattle.std.proofs.Common.{◌≡◌, ◌≢◌, inl, inr, ℕ, ◌≤◌, length, not, ◌&&◌, if◌then◌else◌, Bool, true, false, List, [], ◌++◌, Option, Some, None, refl, sym, ap, ◌∙◌, subst}
+use Rattle.std.proofs.Common.{◌≡◌, ◌≢◌, inl, inr, ℕ, ◌≤◌, length, not, ◌&&◌, true, false, List, [], ◌++◌, Option, Some, None, refl, sym, ap, ◌∙◌, subst}
 use Rattle.std.proofs.lemmas.Bool.{cases_Bool}
 use Rattle.lz_slot.specs.declared.command.Command.{Command}
 use Rattle.lz_slot.specs.Sets.{Keys}
@@ -29,7 +29,8 @@ use Rattle.lz_machine.proofs.Steps.Death.{dies_keeps}
 use Rattle.lz_machine.proofs.Frames.PinNotes.{IsNoted, noted_same}
 use Rattle.lz_machine.proofs.Frames.ChangeNotes.{IsTold, is_change, told_same, told_quiet}
 use Rattle.lz_machine.proofs.Frames.PinOrder.{turn_after, adds_none, begun_grown}
-use Rattle.lz_machine.proofs.Runs.Course.{course_dead}
+use Rattle.lz_machine.proofs.Runs.Course.{course_by}
+use mathlib.Core.Bool.{false≢true}
 
 -- the service after an event that took this course is sound, with some notes, by which a pass that went in has the trace of then,
 -- and each the change that was published for it
@@ -39,21 +40,6 @@ Goes n calls y callers disk M P start before a caller e taken =
     (record { start = start; history = M }) (published_on taken y (actor_at y a) a e ++ P) notes
     × IsNoted y.words.pins (line_on taken y (actor_at y a) a e).0.words.pins P before.begun notes.begun
     × IsTold (line_on taken y (actor_at y a) a e).0.words.pins P before.changed (published_on taken y (actor_at y a) a e ++ P) notes.changed
-
--- the course, by whether the vault is dead, the event is played then too, and it has what it needs
-abbrev taken_of : Yard → ℕ → Event → Bool → Bool → Bool → Course
-taken_of y a e dead too may = if dead && not too then Refused Dead else if may then course_alive y a (pin_of y a) e else Refused NotNow
-
--- an event that is refused isn't played
-pub refused_plays : {outcome : Outcome} → Refused outcome ≡ Plays → ⊥
-refused_plays e = absurd cc
-
--- an event that is played, and that a dead vault refuses
-pub plays_alive : (y : Yard) (a : ℕ) (e : Event) → is_played_dead e ≡ false → course y a e ≡ Plays → y.vault.dead ≡ false
-plays_alive y a e stops plays = elim (cases_Bool y.vault.dead) [
-  | inl dead ↦ absurd (refused_plays (sym (course_dead y a e stops dead) ∙ plays))
-  | inr lives ↦ lives
-]
 
 module _ (n calls : ℕ) (y : Yard) (callers : List (Option Caller)) (disk : Medium) (M : History) (P : Trace) (start : Keys) (notes : Notes) (up : UpSound n calls (record { yard = y; callers = callers }) disk (record { start = start; history = M }) P notes)
     (a i : ℕ) (c : Command) (at : Progress) (is : caller_at callers a ≡ Some (call_at i c at)) (goes_on : reply_at at ≡ None) where
@@ -100,39 +86,13 @@ module _ (n calls : ℕ) (y : Yard) (callers : List (Option Caller)) (disk : Med
 
   -- an event that a dead vault refuses
   pub by_course : (e : Event) → is_played_dead e ≡ false → is_before_pin at ≡ false → (line y a e).1 ≢ NotNow → (y.vault.dead ≡ false → After e (course_alive y a (pin_of y a) e)) → After e (course y a e)
-  by_course e stops inside now alive = elim (cases_Bool y.vault.dead) [
-    | inl dead ↦ subst (After e) (sym (course_dead y a e stops dead)) (dead_goes e inside dead)
-    | inr lives ↦ elim (cases_Bool (needs y a e)) [
-      | inl may ↦ subst (After e) (sym (plays lives may)) (alive lives)
-      | inr lacks ↦ absurd (needed e (Refused NotNow) (not_yet lives lacks) refl now)
-    ]
-  ]
-    where
-      plays : y.vault.dead ≡ false → needs y a e ≡ true → course y a e ≡ course_alive y a (pin_of y a) e
-      plays lives may = ap (λ (q : Bool). taken_of y a e q (is_played_dead e) (needs y a e)) lives ∙ ap (taken_of y a e false (is_played_dead e)) may
-
-      not_yet : y.vault.dead ≡ false → needs y a e ≡ false → course y a e ≡ Refused NotNow
-      not_yet lives lacks = ap (λ (q : Bool). taken_of y a e q (is_played_dead e) (needs y a e)) lives ∙ ap (taken_of y a e false (is_played_dead e)) lacks
+  by_course e stops inside now alive =
+      course_by (λ k. course y a e ≡ k → After e k) y a e (λ dead _ same. dead_goes e inside dead) (λ lacks same. absurd (needed e (Refused NotNow) same refl now)) (λ has lives same. alive (lives stops)) refl
 
   -- an event that is played on a dead vault too
   pub by_course_too : (e : Event) → is_played_dead e ≡ true → (line y a e).1 ≢ NotNow → After e (course_alive y a (pin_of y a) e) → After e (course y a e)
-  by_course_too e too now after = elim (cases_Bool (needs y a e)) [
-    | inl may ↦ subst (After e) (sym (plays may)) after
-    | inr lacks ↦ absurd (needed e (Refused NotNow) (not_yet lacks) refl now)
-  ]
-    where
-      either : (dead may : Bool) → taken_of y a e dead true may ≡ taken_of y a e false true may
-      either true may = refl
-      either false may = refl
-
-      same : course y a e ≡ taken_of y a e false true (needs y a e)
-      same = ap (λ (q : Bool). taken_of y a e y.vault.dead q (needs y a e)) too ∙ either y.vault.dead (needs y a e)
-
-      plays : needs y a e ≡ true → course y a e ≡ course_alive y a (pin_of y a) e
-      plays may = same ∙ ap (taken_of y a e false true) may
-
-      not_yet : needs y a e ≡ false → course y a e ≡ Refused NotNow
-      not_yet lacks = same ∙ ap (taken_of y a e false true) lacks
+  by_course_too e too now after =
+      course_by (λ k. course y a e ≡ k → After e k) y a e (λ dead stops same. absurd (false≢true (sym stops ∙ too))) (λ lacks same. absurd (needed e (Refused NotNow) same refl now)) (λ has lives same. after) refl
 
   abbrev SoundAfter : Event → Type 0
   SoundAfter e =

@@ -4,7 +4,7 @@ use Rattle.std.specs.Prelude.{Option, Some, None}
 use Rattle.lz_machine.specs.declared.event.Event.{Event}
 use Rattle.lz_machine.specs.declared.actor.Actor.{Actor}
 use Rattle.lz_machine.specs.declared.course.Course.{Course}
-use Rattle.lz_machine.specs.declared.course.Course.TheVariants.{Refused, Dies, Plays}
+use Rattle.lz_machine.specs.declared.course.Course.TheVariants.{Refused}
 use Rattle.lz_machine.specs.Yards.{Yard, actor_at}
 use Rattle.lz_machine.specs.Table.{line_on, course}
 use Rattle.lz_machine.specs.Runs.{State, Up, Down, Transition, Turn, Fails, OpenFails, Service, Caller, Point, run, state_after, shape_of, caller_at, after_turn, after_fault, next_event}
@@ -12,8 +12,7 @@ use Rattle.lz_disk.specs.Images.{Medium}
 
 pub line_keeps_shape : (c : Course) (y : Yard) (actor : Actor) (a : ℕ) (e : Event) → (line_on c y actor a e).0.shape ≡ y.shape
 line_keeps_shape (Refused outcome) y actor a e = refl
-line_keeps_shape Dies y actor a e = refl
-line_keeps_shape Plays y actor a e = refl
+line_keeps_shape _ y actor a e = refl
 
 turn_keeps_shape : (s : Service) (disk : Medium) (a : ℕ) (caller : Option Caller) → shape_of (after_turn s disk a caller) ≡ s.yard.shape
 turn_keeps_shape s disk a None = refl

@@ -150,10 +150,9 @@ module _ (n calls : ℕ) (y : Yard) (callers : List (Option Caller)) (disk : Med
   may_aim = go aim
     where
       go : (to : Option ℕ) (d : Command) → HasEnded d to y.shape.buckets (notes.begun a) P actor.pred curr → MayAim d to
-      go None d h = tt
-      go (Some s) (Add k) h = tt
       go (Some s) (Remove k) h = absurd h
       go (Some s) (Has k) h = absurd h
+      go _ _ h = tt
 
   false_keeps : Sound n calls (in_hands y y.locks a (with_hold actor Locks)) (moving callers a (call_at i c at) (Playing (Releasing aim) 0)) disk M P notes
   false_keeps =

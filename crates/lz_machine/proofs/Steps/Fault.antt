@@ -17,11 +17,11 @@ use Rattle.lz_machine.specs.declared.event.Outcome.TheVariants.{Fault}
 use Rattle.lz_machine.specs.declared.event.Reply.{Reply}
 use Rattle.lz_machine.specs.declared.event.Reply.TheVariants.{Device}
 use Rattle.lz_machine.specs.declared.course.Course.{Course}
-use Rattle.lz_machine.specs.declared.course.Course.TheVariants.{Refused, Dies, Plays}
+use Rattle.lz_machine.specs.declared.course.Course.TheVariants.{Plays}
 use Rattle.lz_machine.specs.declared.caller.Sequence.{Sequence}
 use Rattle.lz_machine.specs.declared.caller.Sequence.TheVariants.{Pinning, Resting, Writing, Adding, Removing, Releasing, Halting}
 use Rattle.lz_machine.specs.declared.caller.Progress.{Progress}
-use Rattle.lz_machine.specs.declared.caller.Progress.TheVariants.{Playing, LoadsHalt, Walking, Reserving, SeeingPins, Claiming, Checking, Answering}
+use Rattle.lz_machine.specs.declared.caller.Progress.TheVariants.{Playing}
 use Rattle.lz_machine.specs.Yards.{Yard, actor_at, cell_in}
 use Rattle.lz_machine.specs.Table.{slot_of, node_of, is_played_dead, is_sure, call_of, call_on, course, line_call, line_failed, vault_failed, with_vault}
 use Rattle.lz_machine.specs.Calls.{halts}
@@ -35,16 +35,16 @@ use Rattle.lz_machine.proofs.Steps.Death.{sync_fails_keeps}
 use Rattle.lz_machine.proofs.Steps.WriteClose.{write_close_fails_keeps}
 use Rattle.lz_machine.proofs.Steps.WriteKey.{write_key_fails_keeps}
 use Rattle.lz_machine.proofs.Frames.OpenedGate.{write_open_fails_keeps}
-use Rattle.lz_machine.proofs.Runs.NextEvent.{plays_alive, turned_same}
+use Rattle.lz_machine.proofs.Runs.Course.{plays_alive}
+use Rattle.lz_machine.proofs.Runs.NextEvent.{turned_same}
 
 -- an event whose device call may fail is played, and makes that call
 played_call : (y : Yard) (a : ℕ) (e : Event) (disk new : Medium) → MayFail (line_call y a e) disk new → (course y a e ≡ Plays) × MayFail (call_of y (actor_at y a) e) disk new
 played_call y a e disk new may = go (course y a e) refl may
   where
     go : (taken : Course) → course y a e ≡ taken → MayFail (call_on taken y (actor_at y a) e) disk new → (course y a e ≡ Plays) × MayFail (call_of y (actor_at y a) e) disk new
-    go (Refused outcome) same h = absurd h
-    go Dies same h = absurd h
     go Plays same h = (same, h)
+    go _ same h = absurd h
 
 -- an event without a device call can't fail
 no_fault : (y : Yard) (a : ℕ) (e : Event) (disk new : Medium) → call_of y (actor_at y a) e ≡ NoCall → MayFail (line_call y a e) disk new → ⊥
@@ -149,10 +149,4 @@ module _ (n calls : ℕ) (y : Yard) (callers : List (Option Caller)) (disk : Med
   -- each turn whose device call fails
   pub fault_up : (c : Command) (at : Progress) → IsAt c at → Faults c at
   fault_up c (Playing sequence j) is = sequence_fault c sequence j is (known c (Playing sequence j) is)
-  fault_up c LoadsHalt is = none_fault c LoadsHalt refl
-  fault_up c (Walking aim look) is = none_fault c (Walking aim look) refl
-  fault_up c (Reserving again) is = none_fault c (Reserving again) refl
-  fault_up c (SeeingPins p) is = none_fault c (SeeingPins p) refl
-  fault_up c (Claiming aim pred curr) is = none_fault c (Claiming aim pred curr) refl
-  fault_up c (Checking aim curr) is = none_fault c (Checking aim curr) refl
-  fault_up c (Answering reply) is = none_fault c (Answering reply) refl
+  fault_up c at is = none_fault c at refl

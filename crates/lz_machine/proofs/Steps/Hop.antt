@@ -2,7 +2,7 @@
 use Rattle.std.proofs.Common.{◌≡◌, ◌≢◌, inl, inr, ℕ, true, false, List, Option, Some, None, refl, sym, ap, ◌∙◌}
 use Rattle.std.proofs.lemmas.Bool.Decides.{eqb_tells}
 use Rattle.lz_slot.specs.declared.command.Command.{Command}
-use Rattle.lz_slot.specs.declared.command.Command.TheVariants.{Add, Remove, Has}
+use Rattle.lz_slot.specs.declared.command.Command.TheVariants.{Add}
 use Rattle.lz_slot.specs.Sets.{key_of}
 use Rattle.lz_slot.specs.Histories.{History}
 use Rattle.lz_disk.specs.Images.{Medium}
@@ -63,8 +63,7 @@ module _ (n calls : ℕ) (y : Yard) (callers : List (Option Caller)) (disk : Med
 
   halts_now : (d : Command) → halt_word P ≡ 1 → MayAnswer d Halted (notes.begun a) P (notes.changed a)
   halts_now (Add k) is = is
-  halts_now (Remove k) is = is
-  halts_now (Has k) is = is
+  halts_now _ is = is
 
   walks_now : halt_word P ≢ 1 → IsEmptyHanded (actor_in y.actors a) P → notes.changed a ≡ None → GoesOn (view_of y.shape y.vault y.actors a) c (Walking None AtHead) (notes.begun a) P (notes.changed a)
   walks_now goes (inl idle) none = record { relies = (record { hold = idle.0; none = none }, idle.1, tt, tt); inside = refl }

@@ -8,17 +8,16 @@ use Rattle.lz_slot.specs.Histories.{History, Life, lives, with_mark}
 use Rattle.lz_disk.specs.Images.{Medium}
 use Rattle.lz_vault.specs.Vaults.{medium_after}
 use Rattle.lz_list.specs.Traces.{Trace}
-use Rattle.lz_machine.specs.declared.event.Event.{Event}
 use Rattle.lz_machine.specs.declared.event.Event.TheVariants.{Answer}
 use Rattle.lz_machine.specs.declared.event.Outcome.TheVariants.{NotNow}
 use Rattle.lz_machine.specs.declared.event.Reply.{Reply}
 use Rattle.lz_machine.specs.declared.event.Reply.TheVariants.{Yes}
 use Rattle.lz_machine.specs.declared.course.Course.{Course}
-use Rattle.lz_machine.specs.declared.course.Course.TheVariants.{Refused, Dies, Plays}
+use Rattle.lz_machine.specs.declared.course.Course.TheVariants.{Refused}
 use Rattle.lz_machine.specs.declared.caller.Progress.{Progress}
-use Rattle.lz_machine.specs.declared.caller.Progress.TheVariants.{Playing, LoadsHalt, Walking, Reserving, SeeingPins, Claiming, Checking, Answering}
+use Rattle.lz_machine.specs.declared.caller.Progress.TheVariants.{Answering}
 use Rattle.lz_machine.specs.Yards.{Yard, actor_at, pin_in}
-use Rattle.lz_machine.specs.Table.{last_pin, course, line_on, published_on, line, line_call, line_publishes}
+use Rattle.lz_machine.specs.Table.{last_pin, course, published_on, line, line_call, line_publishes}
 use Rattle.lz_machine.specs.Runs.{Start, Service, Caller, Up, Turn, Fails, Looks, Point, MayStep, HasTurn, HasFault, shape_of, after_turn, after_fault, turn_publishes, marks_of_turn, mark_of_turn, mark_of, point_after, caller_at, next_event, reply_at, played, looked, start_keys}
 use Rattle.lz_machine.specs.Notes.{Notes, entries}
 use Rattle.lz_machine.specs.Sound.{UpSound, StateSound, PointSound, IsSound}
@@ -31,6 +30,7 @@ use Rattle.lz_machine.proofs.Steps.Turn.{turn_up}
 use Rattle.lz_machine.proofs.Steps.Fault.{fault_up}
 use Rattle.lz_machine.proofs.Steps.Trip.{point}
 use Rattle.lz_machine.proofs.Runs.CallerTable.{none_of}
+use Rattle.lz_machine.proofs.Runs.Shape.{line_keeps_shape}
 
 -- an answer keeps the invariant of an open service
 abbrev pub AnswerUp : Type 0
@@ -42,22 +42,13 @@ AnswerUp =
     (record { start = start; history = mark_of i reply ∷ M }) P notes' × IsNoted y.words.pins (line y a Answer).0.words.pins P notes.begun notes'.begun
     × IsTold (line y a Answer).0.words.pins P notes.changed P notes'.changed
 
--- no event changes the shape, and an answer publishes nothing
-line_shape : (y : Yard) (a : ℕ) (e : Event) → (line y a e).0.shape ≡ y.shape
-line_shape y a e = go (course y a e)
-  where
-    go : (taken : Course) → (line_on taken y (actor_at y a) a e).0.shape ≡ y.shape
-    go (Refused outcome) = refl
-    go Dies = refl
-    go Plays = refl
-
+-- an answer publishes nothing
 pub answer_publishes : (y : Yard) (a : ℕ) → line_publishes y a Answer ≡ []
 answer_publishes y a = go (course y a Answer)
   where
     go : (taken : Course) → published_on taken y (actor_at y a) a Answer ≡ []
     go (Refused outcome) = refl
-    go Dies = refl
-    go Plays = refl
+    go _ = refl
 
 -- from point to point the newest life goes on, by a mark or by none
 life_goes_on : (start : Start) (p q : Point) (L : List Life) → shape_of q.state ≡ shape_of p.state → ((life : Life) → StateSound p p.state life → StateSound q q.state life) → PointSound start p L → PointSound start q L
@@ -89,14 +80,14 @@ module _ (start : Start) (a : ℕ) (service : Service) (disk : Medium) (M : Hist
   going_point : (i : ℕ) (c : Command) (at : Progress) → caller_at service.callers a ≡ Some (call_at i c at) → reply_at at ≡ None → HasTurn service a (Some (call_at i c at)) → IsSound start (turned_to (Some (call_at i c at)))
   going_point i c at is goes_on may =
       subst (λ (q : Option Reply). PointSound start (turned_to (Some (call_at i c at))) (lives (start_keys start) (mark_of_turn i q ++ M))) (sym goes_on)
-      (life_goes_on start before (turned_to (Some (call_at i c at))) (lives (start_keys start) M) (line_shape service.yard a (next_event service.yard (call_at i c at)))
+      (life_goes_on start before (turned_to (Some (call_at i c at))) (lives (start_keys start) M) (line_keeps_shape (course service.yard a (next_event service.yard (call_at i c at))) service.yard (actor_at service.yard a) a (next_event service.yard (call_at i c at)))
       (λ life h. let done = turn_up h.0 calls service.yard service.callers disk life.history P life.start h.1 h.2 a i c at is goes_on may in (h.0, done.0, done.1)) sound)
 
   -- one of a call that answers has the mark of its reply
   answer_point : AnswerUp → (i : ℕ) (c : Command) (reply : Reply) → caller_at service.callers a ≡ Some (call_at i c (Answering reply)) → HasTurn service a (Some (call_at i c (Answering reply))) → IsSound start (turned_to (Some (call_at i c (Answering reply))))
   answer_point answer_up i c reply is may =
       subst (PointSound start (turned_to (Some (call_at i c (Answering reply))))) (sym (reply_lives (start_keys start) i reply M))
-      (life_marked start before (turned_to (Some (call_at i c (Answering reply)))) (mark_of i reply) (lives (start_keys start) M) (line_shape service.yard a Answer)
+      (life_marked start before (turned_to (Some (call_at i c (Answering reply)))) (mark_of i reply) (lives (start_keys start) M) (line_keeps_shape (course service.yard a Answer) service.yard (actor_at service.yard a) a Answer)
       (λ life h.
       let done = answer_up h.0 calls service.yard service.callers disk life.history P life.start h.1 a i c reply is h.2 may in (
         h.0,
@@ -106,14 +97,8 @@ module _ (start : Start) (a : ℕ) (service : Service) (disk : Medium) (M : Hist
       sound)
 
   turn_point : AnswerUp → (i : ℕ) (c : Command) (at : Progress) → caller_at service.callers a ≡ Some (call_at i c at) → HasTurn service a (Some (call_at i c at)) → IsSound start (turned_to (Some (call_at i c at)))
-  turn_point answer_up i c (Playing sequence j) is may = going_point i c (Playing sequence j) is refl may
-  turn_point answer_up i c LoadsHalt is may = going_point i c LoadsHalt is refl may
-  turn_point answer_up i c (Walking aim look) is may = going_point i c (Walking aim look) is refl may
-  turn_point answer_up i c (Reserving again) is may = going_point i c (Reserving again) is refl may
-  turn_point answer_up i c (SeeingPins p) is may = going_point i c (SeeingPins p) is refl may
-  turn_point answer_up i c (Claiming aim pred curr) is may = going_point i c (Claiming aim pred curr) is refl may
-  turn_point answer_up i c (Checking aim curr) is may = going_point i c (Checking aim curr) is refl may
   turn_point answer_up i c (Answering reply) is may = answer_point answer_up i c reply is may
+  turn_point answer_up i c at is may = going_point i c at is refl may
 
   -- by the actor's call
   turn_of : AnswerUp → (caller : Option Caller) → caller_at service.callers a ≡ caller → HasTurn service a caller → IsSound start (turned_to caller)

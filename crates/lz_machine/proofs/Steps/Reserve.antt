@@ -4,7 +4,7 @@ use mathlib.Core.Bool.{false≢true}
 use Rattle.std.proofs.lemmas.Bool.{cases_Bool, cases_eq}
 use Rattle.std.proofs.lemmas.Bool.Decides.{nat_tests}
 use Rattle.lz_slot.specs.declared.command.Command.{Command}
-use Rattle.lz_slot.specs.declared.command.Command.TheVariants.{Add, Remove, Has}
+use Rattle.lz_slot.specs.declared.command.Command.TheVariants.{Add, Remove}
 use Rattle.lz_slot.specs.Counted.{set_of_pass}
 use Rattle.lz_slot.specs.Histories.{History}
 use Rattle.lz_slot.proofs.Counted.{length-set_of_pass}
@@ -204,8 +204,7 @@ module _ (n calls : ℕ) (y : Yard) (callers : List (Option Caller)) (disk : Med
 
   full_relies : (d : Command) → IsAdder d → notes.changed a ≡ None → WasAbsent (key_of d) (notes.begun a) P → MayAnswer d (Full (counts uses)) (notes.begun a) P (notes.changed a)
   full_relies (Add k) adder none absent = (none, absent)
-  full_relies (Remove k) adder none absent = absurd adder
-  full_relies (Has k) adder none absent = absurd adder
+  full_relies _ adder none absent = absurd adder
 
   -- no slot is free
   none_goes : (b : Bool) → GoesOn (record { buckets = y.shape.buckets; passes = y.shape.passes; format = y.vault.format; cells = y.vault.cells; dead = y.vault.dead; actor = with_slot (actor_at y a) None }) c (after_reserve b (NoSlot (counts uses))) (notes.begun a) P (notes.changed a)
@@ -241,8 +240,7 @@ module _ (n calls : ℕ) (y : Yard) (callers : List (Option Caller)) (disk : Med
     where
       is_it : (u : Use) → is_free_use u ≡ true → u ≡ Free
       is_it Free free = refl
-      is_it Taken free = absurd (false≢true free)
-      is_it (Limbo sights) free = absurd (false≢true free)
+      is_it _ free = absurd (false≢true free)
 
   pub reserve_keeps : Sound n calls (yard_done y (actor_at y a) a Reserve) (moving callers a (call_at i c (Reserving again)) (progress_after y.shape c (Reserving again) (outcome_of y (actor_at y a) Reserve))) disk M P notes
   reserve_keeps = go (lowest_free uses) refl

@@ -1,5 +1,5 @@
 -- A sync, and the death of the vault, keep the invariant.
-use Rattle.std.proofs.Common.{◌≡◌, ◌≢◌, inl, inr, ℕ, zero, suc, Bool, true, false, List, [], ◌∷◌, map, Option, Some, refl, sym, ap, ◌∙◌, subst, arith}
+use Rattle.std.proofs.Common.{◌≡◌, ◌≢◌, inl, inr, ℕ, suc, Bool, true, false, List, [], ◌∷◌, map, Option, Some, refl, sym, ap, ◌∙◌, subst, arith}
 use mathlib.Core.Bool.{false≢true}
 use Rattle.std.proofs.lemmas.List.{length-map}
 use Rattle.lz_slot.specs.declared.command.Command.{Command}
@@ -37,9 +37,8 @@ use Rattle.lz_machine.proofs.Steps.Hop.{call_at, own, goes_on_keeps}
 
 -- the cell of a slot after a sync
 pub cell_map : (cells : List Cell) (s : ℕ) → cell_in (map cell_synced cells) s ≡ cell_synced (cell_in cells s)
-cell_map [] s = refl
-cell_map (c ∷ cells) zero = refl
 cell_map (c ∷ cells) (suc s) = cell_map cells s
+cell_map _ _ = refl
 
 -- What a sync does to a stage.
 pub closed_synced : (stage : Stage) → IsGateClosed stage → IsGateClosed (stage_synced stage)

@@ -193,7 +193,6 @@ module _ (n calls : ℕ) (y : Yard) (callers : List (Option Caller)) (disk : Med
   sequence_turn (Remove k) (Removing s) j is relies now = remove_turn k s j is relies.2 now
   sequence_turn c (Releasing aim) zero is relies now = release_turn c aim is now
   sequence_turn c (Halting reply) zero is relies now = halt_turn c reply is now
-  sequence_turn c Pinning (suc j) is relies now = absurd relies
   sequence_turn _ _ _ is relies now = absurd relies
 
   -- a call loads the halt word before its first walk

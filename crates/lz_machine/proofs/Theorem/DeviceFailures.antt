@@ -1,46 +1,36 @@
 -- A vault is dead after the first device call that fails, and makes no other: so in each life one call at most is told of it.
-use Rattle.std.proofs.Common.{◌≡◌, ◌≢◌, inl, inr, ℕ, zero, suc, ◌+◌, ◌-◌, ◌<◌, ◌≤◌, ◌==◌, nat_lt, not, ◌&&◌, Bool, true, false, List, [], ◌∷◌, ◌++◌, length, slice_set, Option, Some, None, refl, sym, ap, ◌∙◌, subst, arith}
+use Rattle.std.proofs.Common.{◌≡◌, ◌≢◌, inl, inr, ℕ, zero, suc, ◌+◌, ◌-◌, ◌<◌, ◌≤◌, Bool, true, false, List, [], ◌∷◌, ◌++◌, length, slice_set, Option, Some, None, refl, sym, ap, ◌∙◌, subst, arith}
 use Rattle.std.specs.Prelude.{if◌then◌else◌, replicate, slice_index_or}
 use mathlib.Core.Bool.{false≢true}
 use Rattle.std.proofs.lemmas.Bool.{cases_Bool}
 use Rattle.lz_slot.specs.declared.command.Command.{Command}
-use Rattle.lz_slot.specs.declared.command.Command.TheVariants.{Add, Remove, Has}
-use Rattle.lz_slot.specs.Sets.{key_of}
 use Rattle.lz_slot.specs.Counted.{set_of_pass}
 use Rattle.lz_slot.specs.Histories.{History}
 use Rattle.lz_disk.specs.Images.{Medium}
 use Rattle.lz_vault.specs.Vaults.{DeviceCall, MayFail, NoCall}
-use Rattle.lz_list.specs.declared.place.Place.{Place}
-use Rattle.lz_list.specs.declared.walk.Look.{Look}
-use Rattle.lz_list.specs.declared.walk.Look.TheVariants.{AtHead}
-use Rattle.lz_list.specs.declared.walk.Met.{Met}
-use Rattle.lz_list.specs.declared.walk.Met.TheVariants.{Absent, Unmarked, Marked}
-use Rattle.lz_list.specs.Walks.{Hopped, More, End, hopped}
-use Rattle.lz_flush.specs.declared.need.Need.{Need}
-use Rattle.lz_flush.specs.declared.need.Need.TheVariants.{Now, Sync as needs_sync}
-use Rattle.lz_flush.specs.Settling.{may_answer}
 use Rattle.lz_machine.specs.declared.actor.Actor.{Actor}
 use Rattle.lz_machine.specs.declared.course.Course.{Course}
 use Rattle.lz_machine.specs.declared.course.Course.TheVariants.{Refused, Dies, Plays}
 use Rattle.lz_machine.specs.declared.event.Event.{Event}
-use Rattle.lz_machine.specs.declared.event.Event.TheVariants.{Invoke, Pin, Hop, Sync, Answer, Halt}
+use Rattle.lz_machine.specs.declared.event.Event.TheVariants.{Invoke, Pin, Hop, Answer, Halt}
 use Rattle.lz_machine.specs.declared.event.Outcome.{Outcome}
-use Rattle.lz_machine.specs.declared.event.Outcome.TheVariants.{Value, Slot, NoSlot, Taken, True, False, Early, Worn, OldFile, Fault, Dead, NotNow}
+use Rattle.lz_machine.specs.declared.event.Outcome.TheVariants.{Fault}
 use Rattle.lz_machine.specs.declared.event.Reply.{Reply}
-use Rattle.lz_machine.specs.declared.event.Reply.TheVariants.{Yes, No, Full, Worn as SaysWorn, OldFile as SaysOldFile, Halted, Device}
+use Rattle.lz_machine.specs.declared.event.Reply.TheVariants.{Yes, OldFile as SaysOldFile, Device}
 use Rattle.lz_machine.specs.declared.caller.Sequence.{Sequence}
-use Rattle.lz_machine.specs.declared.caller.Sequence.TheVariants.{Pinning, Resting, Writing, Adding, Removing, Releasing, Halting}
+use Rattle.lz_machine.specs.declared.caller.Sequence.TheVariants.{Resting, Halting}
 use Rattle.lz_machine.specs.declared.caller.Progress.{Progress}
-use Rattle.lz_machine.specs.declared.caller.Progress.TheVariants.{Playing, LoadsHalt, Walking, Reserving, SeeingPins, Claiming, Checking, Answering}
+use Rattle.lz_machine.specs.declared.caller.Progress.TheVariants.{Playing, Answering}
 use Rattle.lz_machine.specs.Yards.{Shape, Yard, actor_at}
-use Rattle.lz_machine.specs.Table.{call_on, course, course_alive, is_old, is_played_dead, is_spent, is_sure, last_pin, line, line_call, line_failed, line_on, needs, pin_of}
-use Rattle.lz_machine.specs.Calls.{events_of, goes_on, first_progress, begun, progress_after, follows, walked, rests, hops_on, changes, after_playing, after_halt, after_hop, after_reserve, after_claim, after_check}
-use Rattle.lz_machine.specs.Runs.{Caller, Service, State, Up, Down, Start, Point, Transition, Calls, Turn, Fails, Looks, Trips, Stops, Crashes, CrashesIn, Opens, OpenFails, caller_at, next_event, reply_at, moved_on, state_after, HasTurn, HasFault, MayStep, mark_of, mark_of_turn, marks_of_turn, marks_of, after_turn, after_fault, run, IsRun, first_point}
+use Rattle.lz_machine.specs.Table.{call_on, course, is_old, is_played_dead, line, line_call, line_failed, line_on}
+use Rattle.lz_machine.specs.Calls.{goes_on, first_progress, begun, progress_after, changes}
+use Rattle.lz_machine.specs.Runs.{Caller, Service, State, Up, Down, Start, Point, Transition, Calls, Turn, Fails, Looks, Trips, Stops, Crashes, Opens, OpenFails, caller_at, next_event, reply_at, moved_on, state_after, HasTurn, HasFault, MayStep, mark_of, mark_of_turn, marks_of_turn, marks_of, after_turn, after_fault, run, IsRun, first_point}
 use Rattle.lz_machine.specs.Halts.{FailsOnce, calls_due, device_due, device_reply, due_in, failed_in, reply_due, told_device}
 use Rattle.lz_machine.proofs.Alone.Halt.{replies}
 use Rattle.lz_machine.proofs.Frames.OneActor.{caller_range}
 use Rattle.lz_machine.proofs.Runs.CallerTable.{fault_no_reply}
-use Rattle.lz_machine.proofs.Runs.Course.{course_dead}
+use Rattle.lz_machine.proofs.Runs.FlowChart.{Edge, fails, again, back, on, past, next_edge}
+use Rattle.lz_machine.proofs.Runs.Course.{course_dead, each_course}
 use Rattle.lz_machine.proofs.Runs.Outcomes.{no_fault}
 use Rattle.lz_machine.proofs.Theorem.Marks.{Tells, run_tells}
 
@@ -70,124 +60,37 @@ fails_alive y a e disk new may = elim (cases_Bool y.vault.dead) [
 
 -- and a vault that is alive was so before
 was_alive : (y : Yard) (a : ℕ) (e : Event) (k : Course) → (line_on k y (actor_at y a) a e).0.vault.dead ≡ false → y.vault.dead ≡ false
-was_alive y a e (Refused outcome) alive = alive
 was_alive y a e Dies alive = absurd (false≢true (sym alive))
-was_alive y a e Plays alive = alive
+was_alive y a e _ alive = alive
 
 -- a turn is no fault
-alive_turn : (y : Yard) (a pin : ℕ) (e : Event) → (line_on (course_alive y a pin e) y (actor_at y a) a e).1 ≢ Fault
-alive_turn y a pin Pin = go (pin == last_pin)
-  where
-    go : (worn : Bool) → (line_on (if worn then Refused Worn else Plays) y (actor_at y a) a Pin).1 ≢ Fault
-    go true = λ is. cc
-    go false = λ is. cc
-alive_turn y a pin (Sync s) = go (not (is_sure y s) && is_spent y)
-  where
-    go : (spent : Bool) → (line_on (if spent then Dies else Plays) y (actor_at y a) a (Sync s)).1 ≢ Fault
-    go true = λ is. cc
-    go false = λ is. cc
-alive_turn y a pin e = no_fault y (actor_at y a) e
-
 no_turn_fault : (y : Yard) (a : ℕ) (e : Event) → (line y a e).1 ≢ Fault
-no_turn_fault y a e = go (y.vault.dead && not (is_played_dead e)) (needs y a e)
-  where
-    go : (refused ready : Bool) → (line_on (if refused then Refused Dead else if ready then course_alive y a (pin_of y a) e else Refused NotNow) y (actor_at y a) a e).1 ≢ Fault
-    go true ready = λ is. cc
-    go false true = alive_turn y a (pin_of y a) e
-    go false false = λ is. cc
+no_turn_fault y a e = each_course (λ k. (line_on k y (actor_at y a) a e).1 ≢ Fault) y a e (λ dead stops is. cc) (λ lacks is. cc) (λ pin last is. cc) (λ s sync is. cc) (λ has fresh. no_fault y (actor_at y a) e)
 
 -- Where a call isn't to be told of a failure, it isn't after an event that is no fault.
 abbrev NotDue : Progress → Type 0
 NotDue at = device_reply (reply_due at) ≡ 0
 
-rests_due : (s : ℕ) (need : Need) (reply : Reply) → NotDue (Answering reply) → NotDue (rests s need reply)
-rests_due s Now reply is = is
-rests_due s needs_sync reply is = is
-
-walked_due : (c : Command) (aim : Option ℕ) (pred : Place) (curr : Option ℕ) (met : Met) → NotDue (walked c aim pred curr met)
-walked_due (Has k) aim pred curr Absent = refl
-walked_due (Has k) aim pred curr (Unmarked s flags) = rests_due s (may_answer flags) Yes refl
-walked_due (Has k) aim pred curr (Marked s flags) = rests_due s (may_answer flags) No refl
-walked_due (Add k) aim pred curr (Unmarked s flags) = rests_due s (may_answer flags) No refl
-walked_due (Add k) None pred curr Absent = refl
-walked_due (Add k) None pred curr (Marked s flags) = refl
-walked_due (Add k) (Some slot) pred curr Absent = refl
-walked_due (Add k) (Some slot) pred curr (Marked s flags) = refl
-walked_due (Remove k) aim pred curr Absent = refl
-walked_due (Remove k) aim pred curr (Marked s flags) = rests_due s (may_answer flags) No refl
-walked_due (Remove k) aim pred curr (Unmarked s flags) = refl
-
-hops_due : (c : Command) (aim : Option ℕ) (h : Hopped) → NotDue (hops_on c aim h)
-hops_due c aim (More look) = refl
-hops_due c aim (End pred curr met) = walked_due c aim pred curr met
-
-changes_due : (c : Command) (aim curr : Option ℕ) → NotDue (changes c aim curr)
-changes_due (Add k) (Some s) curr = refl
-changes_due (Remove k) aim (Some s) = refl
-changes_due _ _ _ = refl
-
 same_due : (sequence : Sequence) (i j : ℕ) → reply_due (Playing sequence i) ≡ reply_due (Playing sequence j)
 same_due (Resting s reply) i j = refl
-same_due (Halting reply) i j = refl
 same_due _ i j = refl
 
 if_due : (b : Bool) (one other : Progress) → NotDue one → NotDue other → NotDue (if b then one else other)
 if_due true one other is also = is
 if_due false one other is also = also
 
-module _ (shape : Shape) (c : Command) where
-  goes_due : (sequence : Sequence) (i : ℕ) → NotDue (Playing sequence i) → NotDue (goes_on sequence)
-  goes_due (Resting s reply) i is = is
-  goes_due (Halting reply) i is = is
-  goes_due Pinning i is = refl
-  goes_due (Writing s) i is = refl
-  goes_due (Adding s) i is = refl
-  goes_due (Removing s) i is = refl
-  goes_due (Releasing aim) i is = refl
+past_due : (sequence : Sequence) (i : ℕ) → NotDue (Playing sequence i) → NotDue (goes_on sequence)
+past_due (Resting s reply) i is = is
+past_due (Halting reply) i is = is
+past_due _ i is = refl
 
-  playing_due : (sequence : Sequence) (i : ℕ) (outcome : Outcome) → NotDue (Playing sequence i) → NotDue (after_playing c sequence i outcome)
-  playing_due sequence i Early is = ap device_reply (same_due sequence (i - 1) i) ∙ is
-  playing_due sequence i outcome is = if_due (nat_lt (i + 1) (length (events_of c sequence))) (Playing sequence (i + 1)) (goes_on sequence) (ap device_reply (same_due sequence (i + 1) i) ∙ is) (goes_due sequence i is)
-
-  halt_due : (outcome : Outcome) → NotDue (after_halt outcome)
-  halt_due (Value value) = if_due (value == 1) (Answering Halted) (Walking None AtHead) refl refl
-  halt_due outcome = refl
-
-  hop_due : (aim : Option ℕ) (look : Look) (outcome : Outcome) → NotDue (after_hop shape c aim look outcome)
-  hop_due aim look (Value value) = hops_due c aim (hopped shape.buckets (key_of c) look value)
-  hop_due aim look outcome = refl
-
-  reserve_due : (again : Bool) (outcome : Outcome) → NotDue (after_reserve again outcome)
-  reserve_due again (Slot s) = refl
-  reserve_due false (NoSlot counts) = refl
-  reserve_due true (NoSlot counts) = refl
-  reserve_due again outcome = refl
-
-  claim_due : (aim : Option ℕ) (pred : Place) (curr : Option ℕ) (outcome : Outcome) → NotDue (after_claim aim pred curr outcome)
-  claim_due aim pred curr Taken = refl
-  claim_due aim pred curr outcome = refl
-
-  check_due : (aim curr : Option ℕ) (outcome : Outcome) → NotDue (after_check c aim curr outcome)
-  check_due aim curr True = changes_due c aim curr
-  check_due aim curr False = refl
-  check_due aim curr outcome = refl
-
-  follows_due : (at : Progress) (outcome : Outcome) → NotDue at → NotDue (follows shape c at outcome)
-  follows_due (Playing sequence i) outcome is = playing_due sequence i outcome is
-  follows_due LoadsHalt outcome is = halt_due outcome
-  follows_due (Walking aim look) outcome is = hop_due aim look outcome
-  follows_due (Reserving again) outcome is = reserve_due again outcome
-  follows_due (SeeingPins p) outcome is = if_due (nat_lt p shape.passes) (SeeingPins (p + 1)) (Reserving true) refl refl
-  follows_due (Claiming aim pred curr) outcome is = claim_due aim pred curr outcome
-  follows_due (Checking aim curr) outcome is = check_due aim curr outcome
-  follows_due (Answering reply) outcome is = is
-
-  onward_due : (at : Progress) (outcome : Outcome) → outcome ≢ Fault → NotDue at → NotDue (progress_after shape c at outcome)
-  onward_due at Fault other is = absurd (other refl)
-  onward_due at Dead other is = refl
-  onward_due at Worn other is = refl
-  onward_due at OldFile other is = refl
-  onward_due at outcome other is = follows_due at outcome is
+onward_due : {shape : Shape} {c : Command} {at : Progress} {outcome : Outcome} {next : Progress} → Edge shape c at outcome next → outcome ≢ Fault → NotDue at → NotDue next
+onward_due (fails c at) other is = absurd (other refl)
+onward_due (again c at outcome) other is = is
+onward_due (back c sequence i) other is = ap device_reply (same_due sequence (i - 1) i) ∙ is
+onward_due (on c sequence i outcome) other is = ap device_reply (same_due sequence (i + 1) i) ∙ is
+onward_due (past c sequence i outcome) other is = past_due sequence i is
+onward_due _ other is = refl
 
 -- a call counts once at most
 reply_once : (r : Option Reply) → device_reply r ≤ 1
@@ -215,12 +118,7 @@ due_none (suc n) = let rest = due_none n in omega (arith, rest)
 -- a reply ends its call, and shows what it told
 told_reply : (M : History) (i : ℕ) (reply : Reply) → told_device (mark_of i reply ∷ M) ≡ device_reply (Some reply) + told_device M
 told_reply M i Yes = omega arith
-told_reply M i No = omega arith
-told_reply M i (Full counts) = omega arith
-told_reply M i SaysWorn = omega arith
-told_reply M i SaysOldFile = omega arith
-told_reply M i Halted = omega arith
-told_reply M i Device = omega arith
+told_reply M i _ = omega arith
 
 -- so many device calls have failed in this life: none while the vault is alive
 abbrev IsAlive : State → Type 0
@@ -259,7 +157,7 @@ module _ (n : ℕ) (y : Yard) (callers : List (Option Caller)) (disk : Medium) (
       let e = next_event y caller in
       let next = progress_after (line y a e).0.shape caller.command caller.progress (line y a e).1 in
       turn_failures a caller at (line y a e).0 _ next (reply_at caller.progress) refl (was_alive y a e (course y a e))
-      (λ going. no_more (device_reply (reply_due caller.progress)) (device_reply (reply_due next)) (reply_once (reply_due next)) (onward_due (line y a e).0.shape caller.command caller.progress (line y a e).1 (no_turn_fault y a e)))
+      (λ going. no_more (device_reply (reply_due caller.progress)) (device_reply (reply_due next)) (reply_once (reply_due next)) (onward_due (next_edge (line y a e).0.shape caller.command caller.progress (line y a e).1) (no_turn_fault y a e)))
 
   fault_failures : (new : Medium) (a : ℕ) (q : Option Caller) → caller_at callers a ≡ q → HasFault serving disk a q new → Failures (suc n) (after_fault serving new a q) M
   fault_failures new a None at may = absurd may
@@ -299,11 +197,9 @@ module _ (steps : List Transition) (y : Yard) (callers : List (Option Caller)) (
   up_failures i (Fails a new) may = fault_failures (failed_in steps) y callers disk M h new a (caller_at callers a) refl may
   up_failures i (Looks a) may = record { none = h.none; once = h.once; told = h.told }
   up_failures i Trips may = h
-  up_failures i Stops may = record { none = λ alive. absurd alive; once = h.once; told = nothing_told (failed_in steps) }
-  up_failures i (Crashes t) may = record { none = λ alive. absurd alive; once = h.once; told = nothing_told (failed_in steps) }
-  up_failures i (CrashesIn a t) may = record { none = λ alive. absurd alive; once = h.once; told = nothing_told (failed_in steps) }
   up_failures i Opens may = absurd may
   up_failures i (OpenFails why done) may = absurd may
+  up_failures i _ may = record { none = λ alive. absurd alive; once = h.once; told = nothing_told (failed_in steps) }
 
 down_failures : (steps : List Transition) (i : ℕ) (shape : Shape) (disk : Medium) (M : History) → Failures (failed_in steps) (Down shape disk) M → (step : Transition) → MayStep (Down shape disk) step
     → Failures (failed_in (step ∷ steps)) (state_after i (Down shape disk) step) (marks_of i (Down shape disk) step ++ M)

@@ -1,8 +1,7 @@
 -- What an event of a call needs it has, and its caller may take what it gives.
-use Rattle.std.proofs.Common.{◌≡◌, ◌≢◌, inl, inr, ℕ, zero, suc, ◌<◌, ◌≤◌, ◌%◌, ◌==◌, if◌then◌else◌, not, ◌&&◌, ◌||◌, Bool, true, false, List, Option, Some, None, is_some, refl, sym, ap, ◌∙◌, subst, arith}
+use Rattle.std.proofs.Common.{◌≡◌, ◌≢◌, ℕ, zero, suc, ◌<◌, ◌≤◌, ◌%◌, ◌==◌, not, ◌&&◌, ◌||◌, Bool, true, false, List, Option, Some, is_some, refl, sym, ap, ◌∙◌, subst, arith}
 use mathlib.Core.Bool.{false≢true}
 use Rattle.std.specs.Prelude.{unwrap_or}
-use Rattle.std.proofs.lemmas.Bool.Decides.{eqb_tells}
 use Rattle.lz_slot.specs.declared.command.Command.{Command}
 use Rattle.lz_slot.specs.declared.command.Command.TheVariants.{Add, Remove, Has}
 use Rattle.lz_slot.specs.Limits.{most_slots}
@@ -10,31 +9,28 @@ use Rattle.lz_slot.specs.Sets.{key_of}
 use Rattle.lz_slot.specs.Histories.{History}
 use Rattle.lz_disk.specs.Images.{Medium}
 use Rattle.lz_vault.specs.declared.vault.Stage.TheVariants.{Closed, Keyed}
-use Rattle.lz_allot.specs.Uses.{is_outside, collect, lowest_free}
+use Rattle.lz_allot.specs.Uses.{is_outside}
 use Rattle.lz_list.specs.declared.place.Place.TheVariants.{Node}
 use Rattle.lz_list.specs.declared.walk.Look.{Look}
-use Rattle.lz_list.specs.declared.walk.Look.TheVariants.{AtHead, AtKey, AtMet, AtBelow}
+use Rattle.lz_list.specs.declared.walk.Look.TheVariants.{AtHead, AtBelow}
 use Rattle.lz_list.specs.Words.{get, is_marked_at}
 use Rattle.lz_list.specs.Walks.{wants}
 use Rattle.lz_list.specs.Hops.{LeadsOn}
-use Rattle.lz_list.specs.Locks.{is_pair_free}
 use Rattle.lz_list.specs.Traces.{Trace, bucket_of, key_word, on, chain_of, is_marked, is_removed, linking}
 use Rattle.lz_machine.specs.declared.actor.Actor.{Actor}
 use Rattle.lz_machine.specs.declared.actor.Hold.{Hold}
 use Rattle.lz_machine.specs.declared.actor.Hold.TheVariants.{Checked, Marked}
-use Rattle.lz_machine.specs.declared.course.Course.TheVariants.{Refused, Dies, Plays}
 use Rattle.lz_machine.specs.declared.event.Event.{Event}
-use Rattle.lz_machine.specs.declared.event.Event.TheVariants.{Pin, Hop, Reserve, Claim, Check, WriteOpen, WriteClose, Sync, Settle, Unlink, Answer, Invoke}
-use Rattle.lz_machine.specs.declared.event.Outcome.{Outcome}
-use Rattle.lz_machine.specs.declared.event.Outcome.TheVariants.{Done, Taken, Busy, True, False, Early, Worn, NotNow, Fault, Dead, OldFile}
+use Rattle.lz_machine.specs.declared.event.Event.TheVariants.{Hop, WriteOpen, WriteClose, Unlink, Answer}
+use Rattle.lz_machine.specs.declared.event.Outcome.TheVariants.{NotNow, Fault}
 use Rattle.lz_machine.specs.declared.event.Reply.{Reply}
 use Rattle.lz_machine.specs.declared.event.Reply.TheVariants.{Worn as SaysWorn, OldFile as SaysOldFile}
 use Rattle.lz_machine.specs.declared.caller.Sequence.{Sequence}
 use Rattle.lz_machine.specs.declared.caller.Sequence.TheVariants.{Pinning, Resting, Writing, Adding, Removing, Releasing, Halting}
 use Rattle.lz_machine.specs.declared.caller.Progress.{Progress}
-use Rattle.lz_machine.specs.declared.caller.Progress.TheVariants.{Playing, LoadsHalt, Walking, Reserving, SeeingPins, Claiming, Checking, Answering}
+use Rattle.lz_machine.specs.declared.caller.Progress.TheVariants.{Playing, Walking, Reserving, SeeingPins, Claiming, Checking, Answering}
 use Rattle.lz_machine.specs.Yards.{Yard, actor_at, actor_in, stage_in}
-use Rattle.lz_machine.specs.Table.{last_pin, pin_of, needs, is_played_dead, is_sure, is_spent, has_stage, may_claim, may_check, has_checked, has_opened, has_closed, has_marked, may_release, may_retire, slot_found, outcome_of, course_alive, line_on, line, is_old, stays_out}
+use Rattle.lz_machine.specs.Table.{last_pin, pin_of, needs, has_stage, may_claim, may_check, has_checked, has_opened, has_closed, has_marked, may_release, may_retire, line_on, line, stays_out}
 use Rattle.lz_machine.specs.Calls.{event_at, loaded}
 use Rattle.lz_machine.specs.Orders.{MayTake}
 use Rattle.lz_machine.specs.Runs.{Caller}
@@ -46,68 +42,15 @@ use Rattle.lz_machine.proofs.Frames.Ranges.{on_range, stood_range, head_range, f
 use Rattle.lz_machine.proofs.Frames.LoadedWord.{bucket_range, head_next, link_next}
 use Rattle.lz_machine.proofs.Frames.OtherCallers.{held_node}
 use Rattle.lz_machine.proofs.Theorem.ShownChains.{mark_is}
+use Rattle.lz_machine.proofs.Runs.Course.{course_by, each_course}
+use Rattle.lz_machine.proofs.Runs.Outcomes.{not_done}
 use Rattle.lz_machine.proofs.Frames.Outside.{outside_even, worn_out, refused_out, out_needs}
-
--- outcomes
-abbrev is_now : Outcome → Bool
-is_now NotNow = false
-is_now _ = true
-
-abbrev pub is_worn : Outcome → Bool
-is_worn Worn = true
-is_worn _ = false
-
--- an event that was done isn't refused
-pub plain : (y : Yard) (actor : Actor) (e : Event) → (is_now (outcome_of y actor e) ≡ true) × (is_worn (outcome_of y actor e) ≡ false)
-plain y actor (Invoke c) = go (is_old y.vault.format c)
-  where
-    go : (b : Bool) → (is_now (if b then OldFile else Done) ≡ true) × (is_worn (if b then OldFile else Done) ≡ false)
-    go true = (refl, refl)
-    go false = (refl, refl)
-plain y actor Reserve = go (lowest_free (collect y.uses))
-  where
-    go : (slot : Option ℕ) → (is_now (slot_found slot (collect y.uses)) ≡ true) × (is_worn (slot_found slot (collect y.uses)) ≡ false)
-    go None = (refl, refl)
-    go (Some s) = (refl, refl)
-plain y actor (Claim pred curr) = go (is_pair_free y.locks pred curr)
-  where
-    go : (b : Bool) → (is_now (if b then Taken else Busy) ≡ true) × (is_worn (if b then Taken else Busy) ≡ false)
-    go true = (refl, refl)
-    go false = (refl, refl)
-plain y actor Check = go _
-  where
-    go : (b : Bool) → (is_now (if b then True else False) ≡ true) × (is_worn (if b then True else False) ≡ false)
-    go true = (refl, refl)
-    go false = (refl, refl)
-plain y actor (Settle s) = go (is_sure y s)
-  where
-    go : (b : Bool) → (is_now (if b then Done else Early) ≡ true) × (is_worn (if b then Done else Early) ≡ false)
-    go true = (refl, refl)
-    go false = (refl, refl)
-plain y actor e = (refl, refl)
-
--- what an event does that a vault doesn't refuse and that has what it needs
-alive_now : (y : Yard) (a : ℕ) (e : Event) → is_now (line_on (course_alive y a (pin_of y a) e) y (actor_at y a) a e).1 ≡ true
-alive_now y a Pin = go (pin_of y a == last_pin)
-  where
-    go : (b : Bool) → is_now (line_on (if b then Refused Worn else Plays) y (actor_at y a) a Pin).1 ≡ true
-    go true = refl
-    go false = refl
-alive_now y a (Sync s) = go (not (is_sure y s) && is_spent y)
-  where
-    go : (b : Bool) → is_now (line_on (if b then Dies else Plays) y (actor_at y a) a (Sync s)).1 ≡ true
-    go true = refl
-    go false = refl
-alive_now y a e = (plain y (actor_at y a) e).0
 
 -- what has what it needs comes in time
 pub timely : (y : Yard) (a : ℕ) (e : Event) → needs y a e ≡ true → (line y a e).1 ≢ NotNow
-timely y a e has late = false≢true (sym (ap is_now late) ∙ go (y.vault.dead && not (is_played_dead e)) (needs y a e) has)
-  where
-    go : (dies may : Bool) → may ≡ true → is_now (line_on (if dies then Refused Dead else if may then course_alive y a (pin_of y a) e else Refused NotNow) y (actor_at y a) a e).1 ≡ true
-    go true may is = refl
-    go false true is = alive_now y a e
-    go false false is = absurd (false≢true is)
+timely y a e has =
+    each_course (λ k. (line_on k y (actor_at y a) a e).1 ≢ NotNow) y a e (λ dead stops late. cc) (λ lacks. absurd (false≢true (sym lacks ∙ has))) (λ pin last late. cc) (λ s sync late. cc)
+    (λ has fresh. not_done y (actor_at y a) e NotNow refl)
 
 inside_odd : (pin : ℕ) → pin % 2 ≡ 1 → not (is_outside pin) ≡ true
 inside_odd pin odd = ap (λ (q : ℕ). not (q == 0)) odd
@@ -169,14 +112,13 @@ module _ (n calls : ℕ) (y : Yard) (callers : List (Option Caller)) (disk : Med
   remove_has : (c : Command) (s i : ℕ) → HasIn c (Removing s) i
   remove_has (Remove k) s zero pin h = closes_now s h.2.0 h.0
   remove_has (Remove k) s (suc zero) pin h = ap has_closed h.2.0
-  remove_has (Remove k) s (suc (suc zero)) pin h = refl
-  remove_has (Remove k) s (suc (suc (suc zero))) pin h = refl
   remove_has (Remove k) s (suc (suc (suc (suc zero)))) pin h = unlinks_now k s h.2.0 h.0 h.2.1 h.2.2
   remove_has (Remove k) s (suc (suc (suc (suc (suc zero))))) pin h = ap may_release h.2.0
   remove_has (Remove k) s (suc (suc (suc (suc (suc (suc zero)))))) pin h = ap may_retire h.2.0
   remove_has (Remove k) s (suc (suc (suc (suc (suc (suc (suc i))))))) pin h = absurd h.2
   remove_has (Add k) s i pin h = absurd h
   remove_has (Has k) s i pin h = absurd h
+  remove_has (Remove k) s _ pin h = refl
 
   sequence_has : (c : Command) (sequence : Sequence) (i : ℕ) → HasIn c sequence i
   sequence_has c Pinning zero pin h = outside_even (pin_of y a) pin
@@ -205,13 +147,12 @@ module _ (n calls : ℕ) (y : Yard) (callers : List (Option Caller)) (disk : Med
   pub has_needs : (c : Command) (at : Progress) → IsWornAt (pin_of y a) at → pin_of y a % 2 ≡ side_of (is_before_pin at) → Relies v c at (notes.begun a) P (notes.changed a)
       → needs y a (loaded y.words (event_at y.shape c at)) ≡ true
   has_needs c (Playing sequence i) worn pin h = sequence_has c sequence i pin h
-  has_needs c LoadsHalt worn pin h = inside_odd (pin_of y a) pin
-  has_needs c (Walking aim look) worn pin h = inside_odd (pin_of y a) pin
   has_needs c (Reserving again) worn pin h = ap (λ (q : Option ℕ). not (is_some q)) h.1
   has_needs c (SeeingPins p) worn pin h = refl
   has_needs c (Claiming aim pred curr) worn pin h = ap may_claim h.0.hold
   has_needs c (Checking aim curr) worn pin h = ap may_check h.1
   has_needs c (Answering reply) worn pin h = answer_has c reply worn pin h
+  has_needs c _ worn pin h = inside_odd (pin_of y a) pin
 
 -- What a caller takes is in range.
 module _ (n calls : ℕ) (y : Yard) (callers : List (Option Caller)) (disk : Medium) (M : History) (P : Trace) (notes : Notes) (sound : Sound n calls y callers disk M P notes) (a : ℕ) (c : Command) where
@@ -223,17 +164,12 @@ module _ (n calls : ℕ) (y : Yard) (callers : List (Option Caller)) (disk : Med
   looks_on (AtBelow s) h =
       let lt = stood_range y.shape.buckets y.shape.slots (notes.begun a) P (bucket_of y.shape.buckets (key_of c)) s sound.trace.lawful h.stood in
       subst (λ (q : ℕ). q ≤ most_slots) (sym (link_next y.shape y.words P sound.trace (few_slots sound.images) s lt)) (omega (arith, sound.trace.small s, few_slots sound.images))
-  looks_on (AtKey pred s) h = tt
-  looks_on (AtMet pred s) h = tt
+  looks_on _ h = tt
 
   takes_hop : (aim : Option ℕ) (look : Look) → IsLooking y.shape.buckets (key_of c) (notes.begun a) P look → MayTake (Walking aim look) (line y a (Hop (wants y.shape.buckets (key_of c) look))).1
-  takes_hop aim look h = go y.vault.dead (needs y a (Hop (wants y.shape.buckets (key_of c) look)))
-    where
-      go : (dead may : Bool) → MayTake (Walking aim look) (line_on (if dead && not true then Refused Dead else if may then Plays else Refused NotNow) y (actor_at y a) a (Hop (wants y.shape.buckets (key_of c) look))).1
-      go true true = looks_on look h
-      go false true = looks_on look h
-      go true false = tt
-      go false false = tt
+  takes_hop aim look h =
+      let e : Event = Hop (wants y.shape.buckets (key_of c) look) in
+      course_by (λ k. MayTake (Walking aim look) (line_on k y (actor_at y a) a e).1) y a e (λ dead stops. tt) (λ lacks. tt) (λ has lives. looks_on look h)
 
   pub takes : (at : Progress) → Relies (view_of y.shape y.vault y.actors a) c at (notes.begun a) P (notes.changed a) → MayTake at (line y a (loaded y.words (event_at y.shape c at))).1
   takes (Walking aim look) h = takes_hop aim look h.2
@@ -243,9 +179,3 @@ module _ (n calls : ℕ) (y : Yard) (callers : List (Option Caller)) (disk : Med
 pub may_take_fault : (at : Progress) → MayTake at Fault
 may_take_fault (Walking aim look) = tt
 may_take_fault _ = tt
-
-pub last_of : (pin : ℕ) → (pin == last_pin) ≡ true → pin ≡ last_pin
-last_of pin is = elim (eqb_tells pin last_pin) [
-  | inl same ↦ same.1
-  | inr other ↦ absurd (false≢true (sym other.0 ∙ is))
-]

@@ -10,10 +10,10 @@ use Rattle.lz_list.specs.Traces.{Trace}
 use Rattle.lz_machine.specs.declared.event.Event.{Event}
 use Rattle.lz_machine.specs.declared.event.Outcome.TheVariants.{NotNow}
 use Rattle.lz_machine.specs.declared.course.Course.{Course}
-use Rattle.lz_machine.specs.declared.course.Course.TheVariants.{Refused, Dies, Plays}
+use Rattle.lz_machine.specs.declared.course.Course.TheVariants.{Refused}
 use Rattle.lz_machine.specs.Yards.{Shape, Yard, actor_at}
 use Rattle.lz_machine.specs.Table.{course, line, line_call, line_on}
-use Rattle.lz_machine.specs.Runs.{Start, IsStart, Caller, Service, State, Up, Down, Transition, Calls, Turn, Fails, Looks, Trips, Stops, Crashes, CrashesIn, Opens, OpenFails, MayStep, MayLeave, LeftInside, HasTurn, IsRun, point_after, state_after, after_turn, after_fault, played, run, first_point, caller_at, next_event}
+use Rattle.lz_machine.specs.Runs.{Start, IsStart, Caller, Service, State, Up, Down, Transition, Turn, Fails, Trips, Stops, Crashes, CrashesIn, Opens, OpenFails, MayStep, MayLeave, LeftInside, HasTurn, IsRun, point_after, state_after, after_turn, after_fault, played, run, first_point, caller_at, next_event}
 use Rattle.lz_machine.specs.Notes.{Notes}
 use Rattle.lz_machine.specs.Sound.{UpSound, IsSound}
 use Rattle.lz_machine.specs.Formats.{HasFormat, FormatsStay}
@@ -22,15 +22,13 @@ use Rattle.lz_machine.proofs.Steps.Point as at_point
 use Rattle.lz_machine.proofs.Steps.Answer.{answer_up}
 use Rattle.lz_machine.proofs.Crash.Down.{rest_image}
 use Rattle.lz_machine.proofs.Open.FirstPoint.{down_seen}
-use Rattle.lz_machine.proofs.Theorem.Reached.{reached_sound}
-use Rattle.lz_machine.proofs.Theorem.WornPass.{up_at}
+use Rattle.lz_machine.proofs.Theorem.Reached.{reached_sound, up_at}
 use Rattle.lz_machine.proofs.Theorem.Timeliness.{in_time_reached}
 
 -- no event changes the format
 line_format : (taken : Course) (y : Yard) (a : ℕ) (e : Event) → (line_on taken y (actor_at y a) a e).0.vault.format ≡ y.vault.format
 line_format (Refused outcome) y a e = refl
-line_format Dies y a e = refl
-line_format Plays y a e = refl
+line_format _ y a e = refl
 
 turn_format : (format : Format) (service : Service) (disk : Medium) (a : ℕ) (who : Option Caller) → service.yard.vault.format ≡ format → HasFormat format (after_turn service disk a who)
 turn_format format service disk a None h = h
@@ -70,16 +68,14 @@ module _ (start : Start) (service : Service) (disk : Medium) (M : History) (P : 
   may_leave_named t (inr (a, left)) = left_named a (caller_at service.callers a) refl t left
 
   up_format : (format : Format) (i : ℕ) (step : Transition) → MayStep (Up service disk) step → service.yard.vault.format ≡ format → HasFormat format (state_after i (Up service disk) step)
-  up_format format i (Calls a c) may h = h
   up_format format i (Turn a) may h = turn_format format service disk a (caller_at service.callers a) h
   up_format format i (Fails a new) may h = fault_format format service new a (caller_at service.callers a) h
-  up_format format i (Looks a) may h = h
-  up_format format i Trips may h = h
   up_format format i Stops may h = λ t image. image_named t image ∙ h
   up_format format i (Crashes t) may h = λ u image. ap format_of (rest_image t u image) ∙ image_named t may ∙ h
   up_format format i (CrashesIn a t) may h = λ u image. ap format_of (rest_image t u image) ∙ left_named a (caller_at service.callers a) refl t may ∙ h
   up_format format i Opens may h = absurd may
   up_format format i (OpenFails why done) may h = absurd may
+  up_format format i _ may h = h
 
 down_format : (start : Start) (shape : Shape) (disk : Medium) (M : History) (P : Trace) (calls : ℕ) → IsSound start (point (Down shape disk) M P calls) → (format : Format) (i : ℕ) (step : Transition) → MayStep (Down shape disk) step
     → HasFormat format (Down shape disk) → HasFormat format (state_after i (Down shape disk) step)

@@ -9,7 +9,7 @@ use Rattle.lz_slot.specs.Histories.{History, Life, lives}
 use Rattle.lz_slot.proofs.Counted.{of_pass_same, of_pass_other}
 use Rattle.lz_disk.specs.Images.{Medium, at_rest}
 use Rattle.lz_vault.specs.declared.vault.Stage.{Stage}
-use Rattle.lz_vault.specs.declared.vault.Stage.TheVariants.{Open, Closed}
+use Rattle.lz_vault.specs.declared.vault.Stage.TheVariants.{Open}
 use Rattle.lz_allot.specs.declared.sight.Sight.{Sight}
 use Rattle.lz_allot.specs.declared.sight.Sight.TheVariants.{Unseen, Inside, Left}
 use Rattle.lz_allot.specs.Uses.{Use, Free, Taken, Limbo, Moment, Pins, use_of, collect, collect_at, lowest_free, is_outside, sight_after, see_pin, was_outside}
@@ -20,13 +20,13 @@ use Rattle.lz_machine.specs.declared.actor.Actor.{Actor}
 use Rattle.lz_machine.specs.declared.actor.Hold.{Hold}
 use Rattle.lz_machine.specs.declared.actor.Hold.TheVariants.{Marked}
 use Rattle.lz_machine.specs.declared.course.Course.{Course}
-use Rattle.lz_machine.specs.declared.course.Course.TheVariants.{Refused, Dies, Plays}
+use Rattle.lz_machine.specs.declared.course.Course.TheVariants.{Plays}
 use Rattle.lz_machine.specs.declared.event.Event.{Event}
 use Rattle.lz_machine.specs.declared.event.Event.TheVariants.{Pin, Reserve, Link, Settle, Unlink, Retire, SeePin, Answer}
 use Rattle.lz_machine.specs.Yards.{Shape, Yard, actor_at, cell_at, slots_read, pin_in}
 use Rattle.lz_machine.specs.Table.{course, line, line_on, line_publishes, published_on, publishes, settling, words_after, uses_after, node_of, has_marked, is_unused, given_back, reserved, needs, stays_out, pin_answered}
 use Rattle.lz_machine.specs.Calls.{event_at, loaded}
-use Rattle.lz_machine.specs.Runs.{Start, IsStart, Caller, Service, State, Up, Down, Transition, Calls, Turn, Fails, Looks, Trips, Stops, Crashes, CrashesIn, Opens, OpenFails, MayStep, IsRun, run, first_point, caller_at, next_event, start_keys, state_after, after_turn, after_fault, looked, pins_of, unlinkings, moments_of_step, moments, turn_publishes, opened_service}
+use Rattle.lz_machine.specs.Runs.{Start, IsStart, Caller, Service, State, Up, Down, Transition, Turn, Fails, Looks, Stops, Crashes, CrashesIn, Opens, OpenFails, MayStep, IsRun, run, first_point, caller_at, next_event, start_keys, state_after, after_turn, after_fault, looked, pins_of, unlinkings, moments_of_step, moments, turn_publishes, opened_service}
 use Rattle.lz_machine.specs.FreedSlots.{FreedIsAllFree}
 use Rattle.lz_machine.specs.Notes.{Notes}
 use Rattle.lz_machine.specs.LocksSound.{HasClosed, RestsOn}
@@ -45,7 +45,7 @@ use Rattle.lz_machine.proofs.Alone.Room.{no_limbo_read}
 use Rattle.lz_machine.proofs.Crash.ImageSlots.{node_stands}
 use Rattle.lz_machine.proofs.Runs.Shape.{line_keeps_shape}
 use Rattle.lz_machine.proofs.Theorem.Needs.{is_marking}
-use Rattle.lz_machine.proofs.Theorem.Readiness.{plays_needs}
+use Rattle.lz_machine.proofs.Runs.Course.{plays_needs}
 use Rattle.lz_machine.proofs.Theorem.Reached.{reached_sound}
 
 -- What a sight of pass q says of slot s, where the pass's pin word is v.
@@ -151,7 +151,6 @@ module _ (n calls : ℕ) (y : Yard) (callers : List (Option Caller)) (disk : Med
   -- only an unlinking is a moment
   settled_none : (stage : Stage) (s : ℕ) → unlinkings (settling stage s) ≡ []
   settled_none Open s = refl
-  settled_none Closed s = refl
   settled_none _ s = refl
 
   abbrev Shown : Event → ℕ → ℕ → List Moment → Type 0
@@ -270,9 +269,8 @@ module _ (n calls : ℕ) (y : Yard) (callers : List (Option Caller)) (disk : Med
     seen_after = go (course y a e) refl
       where
         go : (k : Course) → course y a e ≡ k → AreSeen y.shape.passes (line_on k y actor a e).0.words.pins (line_on k y actor a e).0.uses (Pins (line_on k y actor a e).0.words.pins ∷ unlinkings (published_on k y actor a e) ++ ms)
-        go (Refused outcome) is = same_seen y.shape.passes y.words.pins y.uses ms h
-        go Dies is = same_seen y.shape.passes y.words.pins y.uses ms h
         go Plays is = played (plays_needs y a e is)
+        go _ is = same_seen y.shape.passes y.words.pins y.uses ms h
 
 -- a turn, a fault
 module _ (n calls : ℕ) (service : Service) (disk : Medium) (M : History) (P : Trace) (notes : Notes) (sound : Sound n calls service.yard service.callers disk M P notes) (a : ℕ) (ms : List Moment)
@@ -302,27 +300,16 @@ opened_seen shape t disk ms s q seen low high is = absurd (no_limbo_read (slots_
 step_seen : (start : Start) (w : State) (M : History) (P : Trace) (calls : ℕ) (step : Transition) (ms : List Moment) → MayStep w step → (L : List Life) → PointSound start (point w M P calls) L → SeenAt w ms
     → SeenAt (state_after (suc calls) w step) (pins_of (state_after (suc calls) w step) ++ moments_of_step w step ++ ms)
 step_seen start w M P calls step ms may [] sound h = absurd sound
-step_seen start (Up service disk) M P calls (Calls a c) ms may (life ∷ earlier) sound h = same_seen service.yard.shape.passes service.yard.words.pins service.yard.uses ms h
 step_seen start (Up service disk) M P calls (Turn a) ms may (life ∷ earlier) sound h = turn_seen sound.2.0 calls service disk life.history P sound.2.1 sound.2.2.sound a ms h (caller_at service.callers a) refl
 step_seen start (Up service disk) M P calls (Fails a new) ms may (life ∷ earlier) sound h = fault_seen sound.2.0 calls service disk life.history P sound.2.1 sound.2.2.sound a ms h new (caller_at service.callers a)
 step_seen start (Up service disk) M P calls (Looks a) ms may (life ∷ earlier) sound h = look_seen sound.2.0 calls service disk life.history P sound.2.1 sound.2.2.sound a ms h may.0.0 may.0.1
-step_seen start (Up service disk) M P calls Trips ms may (life ∷ earlier) sound h = same_seen service.yard.shape.passes service.yard.words.pins service.yard.uses ms h
 step_seen start (Up service disk) M P calls Stops ms may (life ∷ earlier) sound h = tt
 step_seen start (Up service disk) M P calls (Crashes t) ms may (life ∷ earlier) sound h = tt
 step_seen start (Up service disk) M P calls (CrashesIn a t) ms may (life ∷ earlier) sound h = tt
-step_seen start (Up service disk) M P calls Opens ms may (life ∷ earlier) sound h = absurd may
-step_seen start (Up service disk) M P calls (OpenFails why done) ms may (life ∷ earlier) sound h = absurd may
-step_seen start (Down shape disk) M P calls (Calls a c) ms may (life ∷ earlier) sound h = absurd may
-step_seen start (Down shape disk) M P calls (Turn a) ms may (life ∷ earlier) sound h = absurd may
-step_seen start (Down shape disk) M P calls (Fails a new) ms may (life ∷ earlier) sound h = absurd may
-step_seen start (Down shape disk) M P calls (Looks a) ms may (life ∷ earlier) sound h = absurd may
-step_seen start (Down shape disk) M P calls Trips ms may (life ∷ earlier) sound h = tt
-step_seen start (Down shape disk) M P calls Stops ms may (life ∷ earlier) sound h = tt
-step_seen start (Down shape disk) M P calls (Crashes t) ms may (life ∷ earlier) sound h = tt
-step_seen start (Down shape disk) M P calls (CrashesIn a t) ms may (life ∷ earlier) sound h = absurd may
+step_seen start (Up service disk) M P calls _ ms may (life ∷ earlier) sound h = same_seen service.yard.shape.passes service.yard.words.pins service.yard.uses ms h
 step_seen start (Down shape disk) M P calls Opens ms may (life ∷ earlier) sound h = opened_seen shape disk.seen disk (pins_of (Up (opened_service shape disk.seen) disk) ++ ms)
 step_seen start (Down shape disk) M P calls (OpenFails why true) ms may (life ∷ earlier) sound h = tt
-step_seen start (Down shape disk) M P calls (OpenFails why false) ms may (life ∷ earlier) sound h = tt
+step_seen start (Down shape disk) M P calls _ ms may (life ∷ earlier) sound h = tt
 
 reached_seen : (start : Start) (steps : List Transition) → IsStart start → IsRun (first_point start) steps → SeenAt (run (first_point start) steps).state (moments (first_point start) steps)
 reached_seen start [] is runs = opened_seen start.shape start.text (at_rest start.bytewise start.text) (moments (first_point start) [])

@@ -41,8 +41,7 @@ newer life (next ∷ rest) A h = h
 
 marked : (m : Mark) (L : List Life) (A : Keys) → Begins L A → Begins (with_mark m L) A
 marked m [] A h = absurd h
-marked m (life ∷ []) A h = h
-marked m (life ∷ next ∷ rest) A h = h
+marked m _ A h = h
 
 lives_begin : (A : Keys) (M : History) → Begins (lives A M) A
 lives_begin A [] = refl

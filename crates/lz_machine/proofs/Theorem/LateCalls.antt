@@ -1,5 +1,5 @@
 -- A call that is made after another was cut off finds the halt word set, and comes no further than its load.
-use Rattle.std.proofs.Common.{◌≡◌, ◌≢◌, inl, inr, ℕ, zero, suc, ◌≤◌, not, ◌&&◌, ◌==◌, Bool, true, false, List, [], ◌∷◌, ◌++◌, length, Option, Some, None, refl, sym, ap, ◌∙◌, subst, arith}
+use Rattle.std.proofs.Common.{◌≡◌, ◌≢◌, inl, inr, ℕ, zero, suc, ◌≤◌, Bool, true, false, List, [], ◌∷◌, ◌++◌, length, Option, Some, None, refl, sym, ap, ◌∙◌, subst, arith}
 use Rattle.std.specs.Prelude.{if◌then◌else◌}
 use mathlib.Core.Bool.{false≢true}
 use Rattle.std.proofs.lemmas.Bool.{cases_eq}
@@ -13,21 +13,20 @@ use Rattle.lz_disk.specs.Images.{Medium, at_rest, synced}
 use Rattle.lz_vault.specs.Vaults.{MayFail}
 use Rattle.lz_list.specs.declared.word.Word.TheVariants.{Halt as halt_word_at}
 use Rattle.lz_list.specs.Traces.{Trace, halt_word}
-use Rattle.lz_machine.specs.declared.actor.Actor.{Actor}
 use Rattle.lz_machine.specs.declared.course.Course.{Course}
-use Rattle.lz_machine.specs.declared.course.Course.TheVariants.{Refused, Dies, Plays}
+use Rattle.lz_machine.specs.declared.course.Course.TheVariants.{Plays}
 use Rattle.lz_machine.specs.declared.event.Event.{Event}
 use Rattle.lz_machine.specs.declared.event.Event.TheVariants.{Pin, Hop}
-use Rattle.lz_machine.specs.declared.event.Outcome.TheVariants.{NotNow, Dead, Worn, Fault}
+use Rattle.lz_machine.specs.declared.event.Outcome.TheVariants.{NotNow, Fault}
 use Rattle.lz_machine.specs.declared.event.Reply.{Reply}
-use Rattle.lz_machine.specs.declared.event.Reply.TheVariants.{Yes, No, Full, Worn as SaysWorn, OldFile as SaysOldFile, Halted, Device}
+use Rattle.lz_machine.specs.declared.event.Reply.TheVariants.{Yes, Worn as SaysWorn, OldFile as SaysOldFile, Halted, Device}
 use Rattle.lz_machine.specs.declared.caller.Progress.{Progress}
 use Rattle.lz_machine.specs.declared.caller.Progress.TheVariants.{Playing, LoadsHalt, Answering}
 use Rattle.lz_machine.specs.declared.caller.Sequence.TheVariants.{Pinning}
 use Rattle.lz_machine.specs.Yards.{Shape, Yard, actor_at, first_trace}
-use Rattle.lz_machine.specs.Table.{call_on, course, is_old, last_pin, line, line_on, line_call, line_failed, needs, pin_of}
+use Rattle.lz_machine.specs.Table.{call_on, course, is_old, line, line_on, line_call, line_failed, pin_of}
 use Rattle.lz_machine.specs.Calls.{begun, first_progress, halt_loaded, progress_after}
-use Rattle.lz_machine.specs.Runs.{Caller, Service, State, Up, Down, Start, IsStart, Point, Transition, Calls, Turn, Fails, Looks, Trips, Stops, Crashes, CrashesIn, Opens, OpenFails, caller_at, next_event, reply_at, moved_on, opened_service, state_after, trace_after, HasTurn, HasFault, MayStep, mark_of, mark_of_turn, marks_of_turn, marks_of, after_turn, after_fault, turn_publishes, run, IsRun, first_point}
+use Rattle.lz_machine.specs.Runs.{Caller, Service, State, Up, Down, Start, IsStart, Point, Transition, Calls, Turn, Fails, Looks, Trips, Stops, Crashes, Opens, OpenFails, caller_at, next_event, reply_at, moved_on, opened_service, state_after, trace_after, HasTurn, HasFault, MayStep, mark_of, mark_of_turn, marks_of_turn, marks_of, after_turn, after_fault, turn_publishes, run, IsRun, first_point}
 use Rattle.lz_machine.specs.CallersSound.{IsCaller, Relies, View, view_of}
 use Rattle.lz_machine.specs.Halts.{HaltLasts, HaltsLast, IsLate, IsLateReply, IsMadeLate, MayTellLate, was_cut}
 use Rattle.lz_machine.proofs.Alone.Halt.{device_word, halted_word, replies}
@@ -35,9 +34,9 @@ use Rattle.lz_machine.proofs.Frames.OneActor.{caller_range, mine}
 use Rattle.lz_machine.proofs.Frames.Publishing.{halt_stays}
 use Rattle.lz_machine.proofs.Open.FoundSlots.{pass_of}
 use Rattle.lz_machine.proofs.Runs.CallerTable.{fault_no_reply}
+use Rattle.lz_machine.proofs.Runs.Course.{course_by, each_course}
 use Rattle.lz_machine.proofs.Theorem.Marks.{Tells, open_called, run_tells}
-use Rattle.lz_machine.proofs.Theorem.Reached.{reached_sound}
-use Rattle.lz_machine.proofs.Theorem.WornPass.{IsUpAt, up_at}
+use Rattle.lz_machine.proofs.Theorem.Reached.{reached_sound, IsUpAt, up_at}
 
 halt_after : (new P : Trace) → halt_word P ≡ 1 → halt_word (new ++ P) ≡ 1
 halt_after [] P is = is
@@ -57,57 +56,41 @@ before_reply M i j _ h = h
 
 -- and is one of the replies to late calls, where its call is late
 may_tell : (M : History) (i : ℕ) (reply : Reply) → (IsMadeLate M i → IsLateReply reply) → MayTellLate (mark_of i reply) M
-may_tell M i Yes h = h
-may_tell M i No h = h
-may_tell M i (Full counts) h = h
 may_tell M i SaysWorn h = tt
 may_tell M i SaysOldFile h = tt
 may_tell M i Halted h = tt
-may_tell M i Device h = h
+may_tell M i _ h = h
 
 -- where it cuts its call off the halt word is set
 module _ (v : View) (c : Command) (P0 P : Trace) (changed : Option ℕ) (M : History) (i : ℕ) (before : was_cut M ≡ true → halt_word P ≡ 1) where
   cut_word : (reply : Reply) → Relies v c (Answering reply) P0 P changed → was_cut (mark_of i reply ∷ M) ≡ true → halt_word P ≡ 1
   cut_word Halted relies cut = halted_word v c P0 P changed relies
   cut_word Device relies cut = device_word v c P0 P changed relies
-  cut_word Yes relies cut = before cut
-  cut_word No relies cut = before cut
-  cut_word (Full counts) relies cut = before cut
-  cut_word SaysWorn relies cut = before cut
-  cut_word SaysOldFile relies cut = before cut
+  cut_word _ relies cut = before cut
 
 late_reply : (at : Progress) (reply : Reply) → reply_at at ≡ Some reply → IsLate at → IsLateReply reply
 late_reply at reply is late = subst IsLate (replies at reply is) late
 
 -- A late call is played on: a pinning, or the load of the halt word.
-module _ (y : Yard) (actor : Actor) (a : ℕ) (shape : Shape) (c : Command) where
-  abbrev GoesLate : Course → Event → Progress → Type 0
-  GoesLate k e at = (line_on k y actor a e).1 ≢ NotNow → IsLate (progress_after shape c at (line_on k y actor a e).1)
+module _ (y : Yard) (a : ℕ) (shape : Shape) (c : Command) where
+  abbrev GoesLate : Event → Progress → Course → Type 0
+  GoesLate e at k = (line_on k y (actor_at y a) a e).1 ≢ NotNow → IsLate (progress_after shape c at (line_on k y (actor_at y a) a e).1)
 
-  pins_late : (dead ready worn : Bool) → GoesLate (if dead && not true then Refused Dead else if ready then (if worn then Refused Worn else Plays) else Refused NotNow) Pin (Playing Pinning zero)
-  pins_late true true true now = tt
-  pins_late true true false now = tt
-  pins_late true false worn now = absurd (now refl)
-  pins_late false true true now = tt
-  pins_late false true false now = tt
-  pins_late false false worn now = absurd (now refl)
+  pins_late : GoesLate Pin (Playing Pinning zero) (course y a Pin)
+  pins_late = each_course (GoesLate Pin (Playing Pinning zero)) y a Pin (λ dead stops. absurd (false≢true (sym stops))) (λ lacks now. absurd (now refl)) (λ pin last now. tt) (λ s sync now. absurd cc) (λ has fresh now. tt)
 
-  loads_late : y.words.halt ≡ 1 → (dead ready : Bool) → GoesLate (if dead && not true then Refused Dead else if ready then Plays else Refused NotNow) (Hop halt_word_at) LoadsHalt
-  loads_late halted true true now = subst (λ (n : ℕ). IsLate (halt_loaded n)) (sym halted) tt
-  loads_late halted true false now = absurd (now refl)
-  loads_late halted false true now = subst (λ (n : ℕ). IsLate (halt_loaded n)) (sym halted) tt
-  loads_late halted false false now = absurd (now refl)
+  loads_late : y.words.halt ≡ 1 → GoesLate (Hop halt_word_at) LoadsHalt (course y a (Hop halt_word_at))
+  loads_late halted =
+      course_by (GoesLate (Hop halt_word_at) LoadsHalt) y a (Hop halt_word_at) (λ dead stops. absurd (false≢true (sym stops))) (λ lacks now. absurd (now refl)) (λ has lives now. subst (λ (n : ℕ). IsLate (halt_loaded n)) (sym halted) tt)
 
   -- neither calls the device
-  no_fault_late : (k : Course) (disk new : Medium) → MayFail (call_on k y actor Pin) disk new → ⊥
+  no_fault_late : (k : Course) (disk new : Medium) → MayFail (call_on k y (actor_at y a) Pin) disk new → ⊥
   no_fault_late Plays disk new h = h
-  no_fault_late Dies disk new h = h
-  no_fault_late (Refused outcome) disk new h = h
+  no_fault_late _ disk new h = h
 
-  no_fault_load : (k : Course) (disk new : Medium) → MayFail (call_on k y actor (Hop halt_word_at)) disk new → ⊥
+  no_fault_load : (k : Course) (disk new : Medium) → MayFail (call_on k y (actor_at y a) (Hop halt_word_at)) disk new → ⊥
   no_fault_load Plays disk new h = h
-  no_fault_load Dies disk new h = h
-  no_fault_load (Refused outcome) disk new h = h
+  no_fault_load _ disk new h = h
 
 begins_late : (b : Bool) → IsLate (if b then Answering SaysOldFile else first_progress)
 begins_late true = tt
@@ -152,16 +135,16 @@ module _ (calls : ℕ) (y : Yard) (callers : List (Option Caller)) (disk : Mediu
         (line y a e).1 ≢ NotNow → IsLate (progress_after (line y a e).0.shape caller.command place (line y a e).1)
 
     plays_late : (place : Progress) → KnownAt place → halt_word P ≡ 1 → IsLate place → reply_at place ≡ None → Steps place
-    plays_late (Playing Pinning zero) relies halted late going now = pins_late y (actor_at y a) a (line y a Pin).0.shape caller.command y.vault.dead (needs y a Pin) (pin_of y a == last_pin) now
+    plays_late (Playing Pinning zero) relies halted late going now = pins_late y a (line y a Pin).0.shape caller.command now
     plays_late (Playing Pinning (suc i)) relies halted late going now = absurd relies
-    plays_late LoadsHalt relies halted late going now = loads_late y (actor_at y a) a (line y a (Hop halt_word_at)).0.shape caller.command (there.up.sound.trace.halt ∙ halted) y.vault.dead (needs y a (Hop halt_word_at)) now
+    plays_late LoadsHalt relies halted late going now = loads_late y a (line y a (Hop halt_word_at)).0.shape caller.command (there.up.sound.trace.halt ∙ halted) now
     plays_late (Answering reply) relies halted late going now = absurd (none-some _ (sym going))
     plays_late _ relies halted late going now = absurd late
 
     fails_never : (place : Progress) → KnownAt place → IsLate place → reply_at place ≡ None → (new : Medium) → MayFail (line_call y a (next_event y (record caller { progress = place }))) disk new → ⊥
-    fails_never (Playing Pinning zero) relies late going new may = no_fault_late y (actor_at y a) a y.shape caller.command (course y a Pin) disk new may
+    fails_never (Playing Pinning zero) relies late going new may = no_fault_late y a y.shape caller.command (course y a Pin) disk new may
     fails_never (Playing Pinning (suc i)) relies late going new may = absurd relies
-    fails_never LoadsHalt relies late going new may = no_fault_load y (actor_at y a) a y.shape caller.command (course y a (Hop halt_word_at)) disk new may
+    fails_never LoadsHalt relies late going new may = no_fault_load y a y.shape caller.command (course y a (Hop halt_word_at)) disk new may
     fails_never (Answering reply) relies late going new may = absurd (none-some _ (sym going))
     fails_never _ relies late going new may = absurd late
 
@@ -237,11 +220,9 @@ module _ (calls : ℕ) (y : Yard) (callers : List (Option Caller)) (disk : Mediu
   up_halts (Fails a new) may = fault_halts new a (caller_at callers a) refl may
   up_halts (Looks a) may = record { lasts = h.lasts; cut = h.cut; late = h.late }
   up_halts Trips may = h
-  up_halts Stops may = record { lasts = (tt, h.lasts); cut = λ cut. absurd (false≢true cut); late = tt }
-  up_halts (Crashes t) may = record { lasts = (tt, h.lasts); cut = λ cut. absurd (false≢true cut); late = tt }
-  up_halts (CrashesIn a t) may = record { lasts = (tt, h.lasts); cut = λ cut. absurd (false≢true cut); late = tt }
   up_halts Opens may = absurd may
   up_halts (OpenFails why done) may = absurd may
+  up_halts _ may = record { lasts = (tt, h.lasts); cut = λ cut. absurd (false≢true cut); late = tt }
 
 -- an open begins with no calls
 none_late : (shape : Shape) (t : List ℕ) (disk : Medium) (M : History) (P : Trace) → AllLate (Up (opened_service shape t) disk) M P

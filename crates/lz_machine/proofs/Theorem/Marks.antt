@@ -207,8 +207,7 @@ module _ (calls : ℕ) (y : Yard) (callers : List (Option Caller)) (disk : Mediu
   up_tells Stops may = ended calls Stop _ M refl tt h.told h.numbered (λ a i is. is)
   up_tells (Crashes t) may = ended calls Crash _ M refl tt h.told h.numbered (λ a i is. is)
   up_tells (CrashesIn a t) may = ended calls Crash _ M refl tt h.told h.numbered (λ a i is. is)
-  up_tells Opens may = absurd may
-  up_tells (OpenFails why done) may = absurd may
+  up_tells _ may = absurd may
 
 opens_open : (shape : Shape) (t : List ℕ) (M : History) → ((a i : ℕ) → IsOpenCall M i a → ⊥) → AreOpen (opened_service shape t).callers M
 opens_open shape t M none = record {

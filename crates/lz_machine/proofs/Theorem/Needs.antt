@@ -1,5 +1,5 @@
 -- What the needs of an event say of what its actor has in hand.
-use Rattle.std.proofs.Common.{◌≡◌, ◌≢◌, ℕ, ◌≤◌, ◌==◌, if◌then◌else◌, not, ◌&&◌, Bool, true, false, Option, Some, None, is_some, refl, ap}
+use Rattle.std.proofs.Common.{◌≡◌, ◌≢◌, ℕ, ◌≤◌, true, false, Option, Some, None, is_some, refl}
 use mathlib.Core.Bool.{false≢true}
 use Rattle.lz_slot.specs.declared.format.Format.{Format}
 use Rattle.lz_slot.specs.Rooms.{largest_of}
@@ -8,15 +8,11 @@ use Rattle.lz_vault.specs.declared.vault.Stage.TheVariants.{Keyed}
 use Rattle.lz_machine.specs.declared.actor.Actor.{Actor}
 use Rattle.lz_machine.specs.declared.actor.Hold.{Hold}
 use Rattle.lz_machine.specs.declared.actor.Hold.TheVariants.{Nothing, Checked, GateOpened, GateClosed, Marked, Released}
-use Rattle.lz_machine.specs.declared.course.Course.TheVariants.{Refused, Plays}
 use Rattle.lz_machine.specs.declared.event.Event.{Event}
 use Rattle.lz_machine.specs.declared.event.Event.TheVariants.{WriteKey, Retire}
-use Rattle.lz_machine.specs.declared.event.Outcome.{Outcome}
-use Rattle.lz_machine.specs.declared.event.Outcome.TheVariants.{Dead, NotNow}
-use Rattle.lz_machine.specs.Table.{last_pin, has_stage, may_check, has_checked, has_opened, has_closed, has_marked, may_release, may_retire}
+use Rattle.lz_machine.specs.Table.{has_stage, may_check, has_checked, has_opened, has_closed, has_marked, may_release, may_retire}
 use Rattle.lz_machine.specs.SlotsSound.{opens}
 use Rattle.lz_machine.specs.LocksSound.{has_locks}
-use Rattle.lz_machine.proofs.Runs.NextEvent.{refused_plays}
 
 -- what a call knows of its next event: the node that it retires, and that the file can hold the key that it writes
 abbrev pub Knows : Format → Actor → Event → Type 0
@@ -67,16 +63,3 @@ opens_alive _ is = absurd (false≢true is)
 pub is_keyed : (stage : Stage) → has_stage Keyed stage ≡ true → stage ≡ Keyed
 is_keyed Keyed is = refl
 is_keyed _ is = absurd (false≢true is)
-
--- a pin that isn't worn
--- an event that is played isn't refused
-not_refused : (dead may refuses : Bool) (outcome : Outcome) → (if dead && not true then Refused Dead else if may then (if refuses then Refused outcome else Plays) else Refused NotNow) ≡ Plays → refuses ≡ true → ⊥
-not_refused true false refuses outcome plays is = refused_plays plays
-not_refused true true true outcome plays is = refused_plays plays
-not_refused true true false outcome plays is = false≢true is
-not_refused false false refuses outcome plays is = refused_plays plays
-not_refused false true true outcome plays is = refused_plays plays
-not_refused false true false outcome plays is = false≢true is
-
-pub not_last : (dead may : Bool) (pin : ℕ) (outcome : Outcome) → (if dead && not true then Refused Dead else if may then (if pin == last_pin then Refused outcome else Plays) else Refused NotNow) ≡ Plays → pin ≢ last_pin
-not_last dead may pin outcome plays last = not_refused dead may (pin == last_pin) outcome plays (ap (λ (q : ℕ). q == last_pin) last)

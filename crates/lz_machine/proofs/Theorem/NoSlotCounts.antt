@@ -1,19 +1,18 @@
 -- The counts of a call that finds no slot.
-use Rattle.std.proofs.Common.{◌≡◌, ℕ, ◌+◌, not, ◌&&◌, if◌then◌else◌, Bool, true, false, List, [], ◌∷◌, length, Option, Some, None, refl, sym, ap, ◌∙◌, subst, arith}
+use Rattle.std.proofs.Common.{◌≡◌, ℕ, ◌+◌, List, [], ◌∷◌, length, Option, Some, None, refl, sym, ap, ◌∙◌, subst, arith}
 use Rattle.std.proofs.lemmas.Bool.Decides.{nat_tests}
 use Rattle.std.proofs.lemmas.List.{length-map}
 use Rattle.lz_allot.specs.declared.counts.Counts.{Counts}
 use Rattle.lz_allot.specs.Uses.{Use, Free, Taken, Limbo, collect, collect_at, counts, lowest_free}
 use Rattle.lz_allot.proofs.UseCounts.{counts_sum}
-use Rattle.lz_machine.specs.declared.course.Course.TheVariants.{Refused, Plays}
 use Rattle.lz_machine.specs.declared.event.Event.TheVariants.{Reserve}
-use Rattle.lz_machine.specs.declared.event.Outcome.TheVariants.{NoSlot, Dead, NotNow}
+use Rattle.lz_machine.specs.declared.event.Outcome.TheVariants.{NoSlot}
 use Rattle.lz_machine.specs.NoSlotCounts.{CountsAreRight}
 use Rattle.lz_machine.specs.Runs.{run, first_point}
-use Rattle.lz_machine.specs.Table.{line, line_on, needs, slot_found}
+use Rattle.lz_machine.specs.Table.{line, line_on, slot_found}
 use Rattle.lz_machine.specs.Yards.{Yard, actor_at}
-use Rattle.lz_machine.proofs.Theorem.Reached.{reached_sound}
-use Rattle.lz_machine.proofs.Theorem.WornPass.{up_at}
+use Rattle.lz_machine.proofs.Runs.Course.{course_by}
+use Rattle.lz_machine.proofs.Theorem.Reached.{reached_sound, up_at}
 
 none_counted : (uses : List Use) → lowest_free uses ≡ None → (counts uses).free ≡ 0
 none_counted [] none = refl
@@ -27,13 +26,9 @@ found_none c (Some s) uses is = absurd cc
 
 -- no other course of the event tells counts
 told_by : (y : Yard) (a : ℕ) (c : Counts) → (line y a Reserve).1 ≡ NoSlot c → (lowest_free (collect y.uses) ≡ None) × (counts (collect y.uses) ≡ c)
-told_by y a c is = go y.vault.dead (needs y a Reserve) is
-  where
-    go : (dead may : Bool) → (line_on (if dead && not false then Refused Dead else if may then Plays else Refused NotNow) y (actor_at y a) a Reserve).1 ≡ NoSlot c
-        → (lowest_free (collect y.uses) ≡ None) × (counts (collect y.uses) ≡ c)
-    go true may is = absurd cc
-    go false false is = absurd cc
-    go false true is = found_none c (lowest_free (collect y.uses)) (collect y.uses) is
+told_by y a c =
+    course_by (λ k. (line_on k y (actor_at y a) a Reserve).1 ≡ NoSlot c → (lowest_free (collect y.uses) ≡ None) × (counts (collect y.uses) ≡ c)) y a Reserve (λ dead stops is. absurd cc) (λ lacks is. absurd cc)
+    (λ has lives is. found_none c (lowest_free (collect y.uses)) (collect y.uses) is)
 
 pub counts_are_right : CountsAreRight
 counts_are_right start service disk M P a c reached is =

@@ -1,10 +1,12 @@
--- Every point that a run reaches is sound.
-use Rattle.std.proofs.Common.{ℕ, List, [], ◌∷◌}
-use Rattle.lz_slot.specs.Histories.{History}
+-- Every point that a run reaches is sound, and what that says of an open service.
+use Rattle.std.proofs.Common.{◌≡◌, ℕ, List, [], ◌∷◌, subst}
+use Rattle.lz_slot.specs.Histories.{History, Life, lives}
+use Rattle.lz_disk.specs.Images.{Medium}
 use Rattle.lz_list.specs.Traces.{Trace}
-use Rattle.lz_machine.specs.Runs.{Start, IsStart, State, Up, Down, Transition, Calls, Turn, Fails, Looks, Trips, Stops, Crashes, CrashesIn, Opens, OpenFails, MayStep, point_after, first_point, run, IsRun}
+use Rattle.lz_machine.specs.Runs.{Start, IsStart, Point, Service, start_keys, State, Up, Down, Transition, Calls, Turn, Fails, Looks, Trips, Stops, Crashes, CrashesIn, Opens, OpenFails, MayStep, point_after, first_point, run, IsRun}
 use Rattle.lz_machine.specs.Laws.{EveryHistory, WhatLasts, WalksMove}
-use Rattle.lz_machine.specs.Sound.{IsSound}
+use Rattle.lz_machine.specs.Notes.{Notes}
+use Rattle.lz_machine.specs.Sound.{IsSound, UpSound, StateSound, PointSound}
 use Rattle.lz_machine.proofs.Steps.Trip.{point, trips_up, trips_down}
 use Rattle.lz_machine.proofs.Steps.Invoke.{call_keeps}
 use Rattle.lz_machine.proofs.Steps.Point as at_point
@@ -36,6 +38,22 @@ reached_sound start [] is runs = first_sound start is is.bytes
 reached_sound start (step ∷ steps) is runs =
     let before = run (first_point start) steps in
     step_keeps start is before.state before.marks before.trace before.calls step (reached_sound start steps is runs.1) runs.0
+
+-- what the invariant says of an open service at a point
+pub record IsUpAt (calls : ℕ) (service : Service) (disk : Medium) (P : Trace) : Type 0 where
+  pub n : ℕ
+  pub life : Life
+  pub notes : Notes
+  pub up : UpSound n calls service disk life P notes
+
+pub up_at : (start : Start) (p : Point) (service : Service) (disk : Medium) → IsSound start p → p.state ≡ Up service disk → IsUpAt p.calls service disk p.trace
+up_at start p service disk sound is = go (lives (start_keys start) p.marks) sound
+  where
+    go : (L : List Life) → PointSound start p L → IsUpAt p.calls service disk p.trace
+    go [] h = absurd h
+    go (life ∷ earlier) h =
+        let there : StateSound p (Up service disk) life = subst (λ (q : State). StateSound p q life) is h.2 in
+        record { n = there.0; life = life; notes = there.1; up = there.2 }
 
 pub every_history : EveryHistory
 every_history = leaving.every_history (at_point.turn_keeps answer_up) reached_sound

@@ -1,5 +1,5 @@
 -- What an event rests on where it is played follows from the invariant.
-use Rattle.std.proofs.Common.{◌≡◌, inl, inr, ℕ, zero, suc, ◌<◌, ◌≤◌, if◌then◌else◌, not, ◌&&◌, Bool, true, false, List, [], ◌∷◌, length, Option, Some, None, is_some, refl, sym, ap, ◌∙◌, subst, arith}
+use Rattle.std.proofs.Common.{◌≡◌, inl, inr, ℕ, suc, ◌<◌, ◌≤◌, not, ◌&&◌, Bool, true, false, List, [], length, Option, Some, None, is_some, refl, sym, ap, ◌∙◌, subst, arith}
 use mathlib.Core.Bool.{false≢true}
 use Rattle.std.specs.Prelude.{unwrap_or, IsSomeAnd, IfSome}
 use Rattle.std.proofs.lemmas.Bool.{cases_Bool, not-true, and_parts}
@@ -8,7 +8,7 @@ use Rattle.std.proofs.lemmas.Option.{slice_get-get_or}
 use Rattle.lz_slot.specs.Limits.{largest_key}
 use Rattle.lz_slot.specs.declared.command.Command.{Command}
 use Rattle.lz_slot.specs.declared.command.Command.TheVariants.{Add, Remove, Has}
-use Rattle.lz_slot.specs.Histories.{History, Life, lives}
+use Rattle.lz_slot.specs.Histories.{History}
 use Rattle.lz_disk.specs.Images.{Medium}
 use Rattle.lz_vault.specs.declared.vault.Stage.TheVariants.{Keyed}
 use Rattle.lz_vault.specs.Vaults.{Vaulted}
@@ -28,35 +28,33 @@ use Rattle.lz_machine.specs.declared.caller.Sequence.{Sequence}
 use Rattle.lz_machine.specs.declared.caller.Sequence.TheVariants.{Pinning, Resting, Writing, Adding, Removing, Releasing, Halting}
 use Rattle.lz_machine.specs.declared.caller.Progress.{Progress}
 use Rattle.lz_machine.specs.declared.caller.Progress.TheVariants.{Playing}
-use Rattle.lz_machine.specs.declared.course.Course.{Course}
-use Rattle.lz_machine.specs.declared.course.Course.TheVariants.{Refused, Plays}
+use Rattle.lz_machine.specs.declared.course.Course.TheVariants.{Plays}
 use Rattle.lz_machine.specs.declared.event.Event.{Event}
 use Rattle.lz_machine.specs.declared.event.Event.TheVariants.{Invoke, Pin, WriteKey, Check, WriteOpen, Link, WriteClose, Mark, Release, Unlink, Retire, Answer}
-use Rattle.lz_machine.specs.declared.event.Outcome.TheVariants.{Dead, NotNow, Worn}
 use Rattle.lz_slot.proofs.Files.ExactBytes.{key_of_format}
 use Rattle.lz_vault.specs.Members.{no_cell}
 use Rattle.lz_machine.specs.Yards.{Shape, Yard, actor_at, cell_at, actor_in, stage_in, cell_in}
-use Rattle.lz_machine.specs.Table.{pin_of, needs, is_played_dead, course_alive, course, is_unused, has_stage, has_checked, has_opened, has_marked, is_old}
+use Rattle.lz_machine.specs.Table.{needs, course, is_unused, has_stage, has_checked, has_opened, has_marked, is_old}
 use Rattle.lz_machine.specs.Calls.{event_at, loaded}
-use Rattle.lz_machine.specs.Runs.{Start, State, Up, Point, Service, Caller, caller_at, next_event, with_words, first_point, run, start_keys, IsNext, MayPlay}
+use Rattle.lz_machine.specs.Runs.{Point, Service, Caller, caller_at, next_event, with_words, first_point, run, IsNext, MayPlay}
 use Rattle.lz_machine.specs.Notes.{Notes}
 use Rattle.lz_machine.specs.CallersSound.{View, view_of, Relies, is_before_pin, side_of}
 use Rattle.lz_machine.specs.SlotsSound.{opens, has_removed_node, IsHandStage, unlocks}
 use Rattle.lz_machine.specs.LocksSound.{has_locks, HasPlace, RestsOn, HasOpened, HasClosed}
-use Rattle.lz_machine.specs.Sound.{Sound, StateSound, PointSound}
+use Rattle.lz_machine.specs.Sound.{Sound}
 use Rattle.lz_machine.specs.Ready.{IsEventOf, IsReadyFor, IsReady}
 use Rattle.lz_machine.proofs.Frames.OneActor.{caller_range, mine}
 use Rattle.lz_machine.proofs.Frames.FittingKeys.{key_written, writes_fitting}
 use Rattle.lz_machine.proofs.Frames.OtherCallers.{held_node}
 use Rattle.lz_machine.proofs.Frames.BesideKey.{opened_shut}
 use Rattle.lz_machine.proofs.Steps.Unlink.{first_place, node_place}
-use Rattle.lz_machine.proofs.Runs.NextEvent.{plays_alive, refused_plays}
+use Rattle.lz_machine.proofs.Runs.Course.{fresh_pin, plays_alive, plays_needs}
 use Rattle.lz_machine.proofs.Theorem.ShownChains.{links_are, key_is, keeps_key, keeps_link, may_link_at, may_unlink_at, owned_place, is_curr}
-use Rattle.lz_machine.proofs.Theorem.Reached.{reached_sound}
+use Rattle.lz_machine.proofs.Theorem.Reached.{reached_sound, IsUpAt, up_at}
 use Rattle.lz_machine.proofs.Steps.ReturnedSlot.{closed_unused}
 use Rattle.lz_machine.proofs.Crash.ImageSlots.{node_stands}
 use Rattle.lz_machine.proofs.Steps.WriteClose.{checked_node}
-use Rattle.lz_machine.proofs.Theorem.Needs.{Knows, check_locks, is_checked, is_closed, is_keyed, is_marking, is_opened, is_released, not_last, opens_alive, release_locks, some_of}
+use Rattle.lz_machine.proofs.Theorem.Needs.{Knows, check_locks, is_checked, is_closed, is_keyed, is_marking, is_opened, is_released, opens_alive, release_locks, some_of}
 use Rattle.lz_machine.proofs.Frames.Ranges.{few_slots}
 
 -- the yard of a sound service, with words of which only pins differ, and not the actor's own
@@ -105,7 +103,7 @@ module _ (n calls : ℕ) (y : Yard) (callers : List (Option Caller)) (disk : Med
   Follows e = needs z a e ≡ true → course z a e ≡ Plays → IsReadyFor z actor a e
 
   ready_pin : Follows Pin
-  ready_pin has plays = omega (arith, pin, sound.reuse.worn a, not_last y.vault.dead (needs z a Pin) (pin_of z a) Worn plays)
+  ready_pin has plays = omega (arith, pin, sound.reuse.worn a, fresh_pin z a plays)
 
   ready_key : (k : ℕ) → k ≤ largest_of y.vault.format → Follows (WriteKey k)
   ready_key k fits has plays =
@@ -215,17 +213,10 @@ module _ (words : Words) (shape : Shape) (v : View) (c : Command) (P0 P : Trace)
   Retires at = is_retire (loaded words (event_at shape c at)) ≡ true
 
   retires_in : (sequence : Sequence) (i : ℕ) → Relies v c (Playing sequence i) P0 P changed → Retires (Playing sequence i) → (s : ℕ) × (v.actor.curr ≡ Some s)
-  retires_in Pinning zero h is = absurd (false≢true is)
   retires_in Pinning (suc i) h is = absurd h
-  retires_in (Resting s reply) zero h is = absurd (false≢true is)
-  retires_in (Resting s reply) (suc zero) h is = absurd (false≢true is)
   retires_in (Resting s reply) (suc (suc i)) h is = absurd h
-  retires_in (Writing s) zero h is = absurd (false≢true is)
-  retires_in (Writing s) (suc zero) h is = absurd (false≢true is)
   retires_in (Writing s) (suc (suc i)) h is = absurd h
-  retires_in (Releasing aim) zero h is = absurd (false≢true is)
   retires_in (Releasing aim) (suc i) h is = absurd h
-  retires_in (Halting reply) zero h is = absurd (false≢true is)
   retires_in (Halting reply) (suc i) h is = absurd h
   retires_in (Adding s) i h is = adding c i h is
     where
@@ -240,6 +231,7 @@ module _ (words : Words) (shape : Shape) (v : View) (c : Command) (P0 P : Trace)
       removing (Remove k) g = (s, g.0)
       removing (Add k) g = absurd g
       removing (Has k) g = absurd g
+  retires_in _ _ h is = absurd (false≢true is)
 
   retires_node : (at : Progress) → Relies v c at P0 P changed → Retires at → (s : ℕ) × (v.actor.curr ≡ Some s)
   retires_node (Playing sequence i) h is = retires_in sequence i h is
@@ -267,16 +259,6 @@ pub next_of : (service : Service) (a : ℕ) (e : Event) → is_invoke e ≡ fals
 next_of service a (Invoke c) other next = absurd (false≢true (sym other))
 next_of service a e other next = called (caller_at service.callers a) (λ x. next_event service.yard x ≡ e) next
 
--- The point that was reached is sound.
-abbrev pub HasSound : Service → Medium → Type 0
-HasSound service disk = (n : ℕ) × (calls : ℕ) × (M : History) × (P : Trace) × (notes : Notes) × Sound n calls service.yard service.callers disk M P notes
-
-point_sound : (start : Start) (p : Point) (service : Service) (disk : Medium) (L : List Life) → p.state ≡ Up service disk → PointSound start p L → HasSound service disk
-point_sound start p service disk [] is h = absurd h
-point_sound start p service disk (life ∷ earlier) is h =
-    let up : StateSound p (Up service disk) life = subst (λ (q : State). StateSound p q life) is h.2 in
-    (up.0, p.calls, life.history, p.trace, up.1, up.2.sound)
-
 -- a yard, by its parts
 by_parts : (y other : Yard) → y.shape ≡ other.shape → y.locks ≡ other.locks → y.vault ≡ other.vault → y.uses ≡ other.uses → y.actors ≡ other.actors → y ≡ with_words other y.words
 by_parts y other shape locks vault uses actors =
@@ -287,33 +269,35 @@ by_parts y other shape locks vault uses actors =
     ∙ ap (λ (q : List Actor). record { shape = other.shape; words = y.words; locks = other.locks; vault = other.vault; uses = other.uses; actors = q }) actors
 
 module _ (y : Yard) (honest : Bool) (disk : Medium) (a : ℕ) (e : Event) (may : MayPlay y honest disk a e) where
-  pub sound_there : HasSound may.service may.medium
-  sound_there =
-      let last : Point = run (first_point may.start) may.reached.steps in
-      point_sound may.start last may.service may.medium (lives (start_keys may.start) last.marks) may.reached.state (reached_sound may.start may.reached.steps may.reached.starts may.reached.runs)
+  -- the point that was reached
+  abbrev pub last : Point
+  last = run (first_point may.start) may.reached.steps
+
+  pub sound_there : IsUpAt last.calls may.service may.medium last.trace
+  sound_there = up_at may.start last may.service may.medium (reached_sound may.start may.reached.steps may.reached.starts may.reached.runs) may.reached.state
 
   -- the yard is that of the service, with its own pin words
   pub same_yard : y ≡ with_words may.service.yard y.words
   same_yard = by_parts y may.service.yard may.yard.shape may.yard.locks may.yard.vault may.yard.uses may.yard.actors
 
   actors_are : length y.actors ≡ may.service.yard.shape.passes
-  actors_are = ap (λ (l : List Actor). length l) may.yard.actors ∙ sound_there.5.callers.hands
+  actors_are = ap (λ (l : List Actor). length l) may.yard.actors ∙ sound_there.up.sound.callers.hands
 
   -- a caller is one of the yard's actors
   pub next_in_range : is_invoke e ≡ false → (1 ≤ a) × (a ≤ length y.actors)
   next_in_range other =
       let caller = next_of may.service a e other may.next in
       let range = caller_range may.service.callers a caller.0 caller.1 in
-      (range.0, omega (arith, range.1, actors_are, sound_there.5.callers.count))
+      (range.0, omega (arith, range.1, actors_are, sound_there.up.sound.callers.count))
 
   knows : Knows may.service.yard.vault.format (actor_in may.service.yard.actors a) e
   knows = elim (cases_Bool (is_invoke e)) [
     | inl invokes ↦ begins_knowing e invokes
     | inr other ↦
         let caller = next_of may.service a e other may.next in
-        let sound = sound_there.5 in
-        let own = mine may.service.yard.shape may.service.yard.vault may.service.yard.words.pins may.service.yard.actors may.service.callers sound_there.3 sound_there.4 a caller.0 caller.1 sound.callers in
-        caller_knows may.service.yard.words may.service.yard.shape (view_of may.service.yard.shape may.service.yard.vault may.service.yard.actors a) caller.0.command (sound_there.4.begun a) sound_there.3 (sound_there.4.changed a) caller.0.progress (λ after. own.stands.1 (own.stands.0 ∙ ap side_of after)) own.stands.2 e caller.2
+        let sound = sound_there.up.sound in
+        let own = mine may.service.yard.shape may.service.yard.vault may.service.yard.words.pins may.service.yard.actors may.service.callers last.trace sound_there.notes a caller.0 caller.1 sound.callers in
+        caller_knows may.service.yard.words may.service.yard.shape (view_of may.service.yard.shape may.service.yard.vault may.service.yard.actors a) caller.0.command (sound_there.notes.begun a) last.trace (sound_there.notes.changed a) caller.0.progress (λ after. own.stands.1 (own.stands.0 ∙ ap side_of after)) own.stands.2 e caller.2
   ]
     where
       begins_knowing : (e' : Event) → is_invoke e' ≡ true → Knows may.service.yard.vault.format (actor_in may.service.yard.actors a) e'
@@ -328,7 +312,7 @@ module _ (y : Yard) (honest : Bool) (disk : Medium) (a : ℕ) (e : Event) (may :
         actor = range;
         event = event;
         calls = subst (λ (q : Yard). IsReadyFor q (actor_at q a) a e) (sym same_yard)
-            (ready_for there.0 there.1 may.service.yard may.service.callers may.medium there.2 there.3 there.4 there.5 y.words may.yard.heads may.yard.links may.yard.keys a range.0 may.yard.pin e knows
+            (ready_for there.n last.calls may.service.yard may.service.callers may.medium there.life.history last.trace there.notes there.up.sound y.words may.yard.heads may.yard.links may.yard.keys a range.0 may.yard.pin e knows
             (subst (λ (q : Yard). needs q a e ≡ true) same_yard has) (subst (λ (q : Yard). course q a e ≡ Plays) same_yard plays));
       }
 
@@ -340,15 +324,6 @@ ready y honest disk a e may invoker = ready_in_range y honest disk a e may (in_r
     in_range : (b : Bool) → is_invoke e ≡ b → (1 ≤ a) × (a ≤ length y.actors)
     in_range true is = invoker is
     in_range false is = next_in_range y honest disk a e may is
-
--- what is played has what it needs
-only_needed : (dies may : Bool) (taken : Course) → (if dies then Refused Dead else if may then taken else Refused NotNow) ≡ Plays → may ≡ true
-only_needed true may taken plays = absurd (refused_plays plays)
-only_needed false true taken plays = refl
-only_needed false false taken plays = absurd (refused_plays plays)
-
-pub plays_needs : (y : Yard) (a : ℕ) (e : Event) → course y a e ≡ Plays → needs y a e ≡ true
-plays_needs y a e plays = only_needed (y.vault.dead && not (is_played_dead e)) (needs y a e) (course_alive y a (pin_of y a) e) plays
 
 -- The same of an actor in range, from the course alone.
 pub ready_to_play : (y : Yard) (honest : Bool) (disk : Medium) (a : ℕ) (e : Event) → MayPlay y honest disk a e → 1 ≤ a → a ≤ length y.actors → IsEventOf y e → course y a e ≡ Plays → IsReady y a e

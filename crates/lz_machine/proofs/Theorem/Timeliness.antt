@@ -17,9 +17,9 @@ use Rattle.lz_machine.specs.Sound.{UpSound, IsSound}
 use Rattle.lz_machine.specs.Ready.{IsEventOf}
 use Rattle.lz_machine.proofs.Frames.OneActor.{mine}
 use Rattle.lz_machine.proofs.Runs.EventRange.{asks}
-use Rattle.lz_machine.proofs.Theorem.Reached.{reached_sound}
+use Rattle.lz_machine.proofs.Theorem.Reached.{reached_sound, IsUpAt, up_at}
 use Rattle.lz_machine.proofs.Theorem.EventNeeds.{IsWornAt, has_needs, takes, timely}
-use Rattle.lz_machine.proofs.Theorem.WornPass.{AllFit, Fits, IsUpAt, is_look, run_fits, up_at}
+use Rattle.lz_machine.proofs.Theorem.WornPass.{AllFit, Fits, is_look, run_fits}
 
 -- In a sound open service: what a caller's next event is, has and gives.
 module _ (n calls : ℕ) (service : Service) (disk : Medium) (life : Life) (P : Trace) (notes : Notes) (up : UpSound n calls service disk life P notes) where

@@ -15,10 +15,10 @@ use Rattle.lz_list.specs.Pinned.{Stood}
 use Rattle.lz_list.specs.Traces.{Trace, is_marked}
 use Rattle.lz_machine.specs.declared.event.Reply.{Reply}
 use Rattle.lz_machine.specs.declared.caller.Progress.{Progress}
-use Rattle.lz_machine.specs.declared.caller.Progress.TheVariants.{Playing, LoadsHalt, Walking, Reserving, SeeingPins, Claiming, Checking, Answering}
+use Rattle.lz_machine.specs.declared.caller.Progress.TheVariants.{Answering}
 use Rattle.lz_machine.specs.Yards.{Shape, IsInside, pin_in, stage_in}
 use Rattle.lz_machine.specs.CallsStand.{is_out, trace_outside, own_change, CallsStand, MarkedIsClosed}
-use Rattle.lz_machine.specs.Runs.{Start, IsStart, Caller, Service, State, Up, Down, Transition, Calls, Turn, Fails, Looks, Trips, Stops, Crashes, CrashesIn, Opens, OpenFails, Point, MayStep, HasTurn, HasFault, IsRun, run, first_point, point_after, caller_at, state_after, trace_after, calls_made_after, after_turn, after_fault, turn_publishes, reply_at, opened_service, marks_of, mark_of}
+use Rattle.lz_machine.specs.Runs.{Start, IsStart, Caller, Service, State, Up, Down, Transition, Calls, Turn, Fails, Looks, Trips, Stops, Crashes, Opens, OpenFails, Point, MayStep, HasTurn, HasFault, IsRun, run, first_point, point_after, caller_at, state_after, trace_after, calls_made_after, after_turn, after_fault, turn_publishes, reply_at, opened_service, marks_of, mark_of}
 use Rattle.lz_machine.specs.Notes.{Notes}
 use Rattle.lz_machine.specs.CallersSound.{CallerSound, view_of}
 use Rattle.lz_machine.specs.SlotsSound.{SlotStands, is_node, is_held, is_out as is_gone, is_free, is_limbo, IsNodeStage}
@@ -37,8 +37,7 @@ use Rattle.lz_machine.proofs.Frames.Limbo.{shorter}
 use Rattle.lz_machine.proofs.Frames.Ranges.{stood_range}
 use Rattle.lz_machine.proofs.Open.FoundSlots.{pass_of}
 use Rattle.lz_machine.proofs.Runs.CallerTable.{none_of}
-use Rattle.lz_machine.proofs.Theorem.Reached.{reached_sound}
-use Rattle.lz_machine.proofs.Theorem.WornPass.{up_at}
+use Rattle.lz_machine.proofs.Theorem.Reached.{reached_sound, up_at}
 
 -- an open service is sound, with notes that are tied to these traces
 record IsTied (calls : ℕ) (service : Service) (disk : Medium) (P : Trace) (B : ℕ → Trace) : Type 0 where
@@ -95,14 +94,8 @@ module _ (calls : ℕ) (service : Service) (disk : Medium) (P : Trace) (B : ℕ 
       (record { n = h.n; life = record { start = h.life.start; history = mark_of i reply ∷ h.life.history }; notes = done.0; up = done.1; noted = done.2; told = done.3 })
 
   caller_next : (i : ℕ) (c : Command) (at : Progress) → caller_at service.callers a ≡ Some (call_at i c at) → HasTurn service a (Some (call_at i c at)) → TurnNext (Some (call_at i c at))
-  caller_next i c (Playing sequence j) is may = going_next i c (Playing sequence j) is refl may
-  caller_next i c LoadsHalt is may = going_next i c LoadsHalt is refl may
-  caller_next i c (Walking aim look) is may = going_next i c (Walking aim look) is refl may
-  caller_next i c (Reserving again) is may = going_next i c (Reserving again) is refl may
-  caller_next i c (SeeingPins p) is may = going_next i c (SeeingPins p) is refl may
-  caller_next i c (Claiming aim pred curr) is may = going_next i c (Claiming aim pred curr) is refl may
-  caller_next i c (Checking aim curr) is may = going_next i c (Checking aim curr) is refl may
   caller_next i c (Answering reply) is may = answer_next i c reply is may
+  caller_next i c at is may = going_next i c at is refl may
 
   turn_next : (who : Option Caller) → caller_at service.callers a ≡ who → HasTurn service a who → TurnNext who
   turn_next None is may = absurd may
@@ -132,11 +125,9 @@ up_next calls service disk P B h (Turn a) may = turn_next calls service disk P B
 up_next calls service disk P B h (Fails a new) may = fault_next calls service disk P B h a new (caller_at service.callers a) refl may
 up_next calls service disk P B h (Looks a) may = look_next calls service disk P B h a may
 up_next calls service disk P B h Trips may = record { n = h.n; life = h.life; notes = h.notes; up = h.up; noted = noted_same service.yard.words.pins service.yard.words.pins P h.notes.begun refl; told = told_same service.yard.words.pins P h.notes.changed }
-up_next calls service disk P B h Stops may = tt
-up_next calls service disk P B h (Crashes t) may = tt
-up_next calls service disk P B h (CrashesIn a t) may = tt
 up_next calls service disk P B h Opens may = absurd may
 up_next calls service disk P B h (OpenFails why done) may = absurd may
+up_next calls service disk P B h _ may = tt
 
 module _ (calls : ℕ) (service : Service) (disk : Medium) (P Q : Trace) (B : ℕ → Trace) (h : IsTied calls service disk P B) (out : (b : ℕ) → is_outside (pin_in service.yard.words.pins b) ≡ true → B b ≡ P) where
   went_in : (b : ℕ) → pin_in service.yard.words.pins b % 2 ≡ 0 → B b ≡ P

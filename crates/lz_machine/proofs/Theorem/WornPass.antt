@@ -1,56 +1,47 @@
 -- A pass that is worn: its pin word is the last one, and its call answers worn.
-use Rattle.std.proofs.Common.{◌≡◌, ◌≢◌, ⊎_elim, inl, inr, ℕ, zero, suc, ◌≤◌, ◌+◌, ◌%◌, ◌==◌, if◌then◌else◌, not, ◌&&◌, ◌||◌, nat_lt, Bool, true, false, List, [], ◌∷◌, length, Option, Some, None, refl, sym, ap, ◌∙◌, subst, arith}
+use Rattle.std.proofs.Common.{◌≡◌, ◌≢◌, ◌⊎◌, ⊎_elim, inl, inr, ℕ, zero, suc, ◌≤◌, ◌+◌, ◌%◌, if◌then◌else◌, ◌||◌, Bool, true, false, List, [], ◌∷◌, length, Option, Some, None, refl, sym, ap, ◌∙◌, subst, arith}
 use mathlib.Core.Bool.{false≢true}
 use Rattle.std.specs.List.{list_any}
-use Rattle.std.proofs.lemmas.Bool.{cases_Bool}
 use Rattle.std.proofs.lemmas.Option.{none-some}
 use Rattle.lz_slot.specs.declared.command.Command.{Command}
 use Rattle.lz_slot.specs.declared.command.Command.TheVariants.{Add, Remove, Has}
-use Rattle.lz_slot.specs.Sets.{key_of}
 use Rattle.lz_slot.specs.Counted.{set_of_pass}
-use Rattle.lz_slot.specs.Histories.{History, Life, lives}
+use Rattle.lz_slot.specs.Histories.{History}
 use Rattle.lz_slot.proofs.Counted.{of_pass_same, of_pass_other}
 use Rattle.lz_disk.specs.Images.{Medium, at_rest, synced}
-use Rattle.lz_list.specs.declared.place.Place.{Place}
-use Rattle.lz_list.specs.declared.walk.Look.{Look}
-use Rattle.lz_list.specs.declared.walk.Look.TheVariants.{AtHead}
-use Rattle.lz_list.specs.declared.walk.Met.{Met}
-use Rattle.lz_list.specs.declared.walk.Met.TheVariants.{Absent, Unmarked as met_unmarked, Marked as met_marked}
-use Rattle.lz_list.specs.Walks.{Hopped, More, End, hopped}
 use Rattle.lz_list.specs.Traces.{Trace}
-use Rattle.lz_flush.specs.declared.need.Need.{Need}
-use Rattle.lz_flush.specs.declared.need.Need.TheVariants.{Now, Sync as needs_sync}
-use Rattle.lz_flush.specs.Settling.{may_answer}
 use Rattle.lz_machine.specs.declared.course.Course.{Course}
-use Rattle.lz_machine.specs.declared.course.Course.TheVariants.{Refused, Dies, Plays}
+use Rattle.lz_machine.specs.declared.course.Course.TheVariants.{Plays}
 use Rattle.lz_machine.specs.declared.event.Event.{Event}
-use Rattle.lz_machine.specs.declared.event.Event.TheVariants.{Pin, Sync, Answer}
+use Rattle.lz_machine.specs.declared.event.Event.TheVariants.{Answer}
 use Rattle.lz_machine.specs.declared.event.Outcome.{Outcome}
-use Rattle.lz_machine.specs.declared.event.Outcome.TheVariants.{Value, Slot, NoSlot, Taken, True, False, Early, Worn, NotNow, Fault, Dead, OldFile}
+use Rattle.lz_machine.specs.declared.event.Outcome.TheVariants.{Worn, NotNow, Fault}
 use Rattle.lz_machine.specs.declared.event.Reply.{Reply}
-use Rattle.lz_machine.specs.declared.event.Reply.TheVariants.{Yes, No, Worn as SaysWorn, OldFile as SaysOldFile, Halted}
+use Rattle.lz_machine.specs.declared.event.Reply.TheVariants.{Worn as SaysWorn, OldFile as SaysOldFile}
 use Rattle.lz_machine.specs.declared.caller.Sequence.{Sequence}
 use Rattle.lz_machine.specs.declared.caller.Sequence.TheVariants.{Resting, Halting}
 use Rattle.lz_machine.specs.declared.caller.Progress.{Progress}
-use Rattle.lz_machine.specs.declared.caller.Progress.TheVariants.{Playing, LoadsHalt, Walking, Reserving, SeeingPins, Claiming, Checking, Answering}
+use Rattle.lz_machine.specs.declared.caller.Progress.TheVariants.{Playing, Answering}
 use Rattle.lz_machine.specs.Yards.{Shape, Yard, actor_at, opened_yard}
-use Rattle.lz_machine.specs.Table.{last_pin, pin_of, needs, is_played_dead, is_sure, is_spent, course_alive, course, line_on, line, line_failed, is_old}
-use Rattle.lz_machine.specs.Calls.{goes_on, events_of, after_event, first_progress, progress_after, follows, walked, rests, hops_on, changes, after_playing, after_halt, after_hop, after_reserve, after_see_pin, after_claim, after_check, begun}
-use Rattle.lz_machine.specs.Runs.{Start, State, Up, Down, Transition, Calls, Turn, Fails, Looks, Trips, Stops, Crashes, CrashesIn, Opens, OpenFails, Point, Service, Caller, caller_at, next_event, reply_at, moved_on, looked, state_after, after_turn, after_fault, HasTurn, HasFault, MayStep, first_point, run, IsRun, IsStart, opened_service, start_keys, invoked}
+use Rattle.lz_machine.specs.Table.{last_pin, pin_of, course, line_on, line, line_failed, is_old}
+use Rattle.lz_machine.specs.Calls.{goes_on, first_progress, progress_after, changes, begun}
+use Rattle.lz_machine.specs.Runs.{Start, State, Up, Down, Transition, Calls, Turn, Fails, Looks, Trips, Stops, Crashes, Opens, OpenFails, Service, Caller, caller_at, next_event, reply_at, moved_on, looked, state_after, after_turn, after_fault, HasTurn, HasFault, MayStep, first_point, run, IsRun, IsStart, opened_service, invoked}
 use Rattle.lz_machine.specs.Notes.{Notes}
 use Rattle.lz_machine.specs.CallersSound.{View, view_of, MayRest, IsCut, Relies, CallerSound}
-use Rattle.lz_machine.specs.Sound.{Sound, UpSound, StateSound, PointSound, IsSound}
+use Rattle.lz_machine.specs.Sound.{Sound, IsSound}
 use Rattle.lz_machine.proofs.Steps.Trip.{point}
 use Rattle.lz_machine.proofs.Frames.ActorTable.{by_actor}
 use Rattle.lz_machine.proofs.Frames.OneActor.{caller_range, mine}
 use Rattle.lz_machine.proofs.Steps.Hop.{call_at}
 use Rattle.lz_machine.proofs.Open.FoundSlots.{pass_of}
-use Rattle.lz_machine.proofs.Theorem.Reached.{reached_sound}
+use Rattle.lz_machine.proofs.Theorem.Reached.{reached_sound, up_at}
 use Rattle.lz_machine.proofs.Runs.CallerTable.{none_of, fault_no_reply}
 use Rattle.lz_machine.proofs.Frames.Outside.{answered_pin, answered_even}
-use Rattle.lz_machine.proofs.Runs.Course.{answer_plays}
+use Rattle.lz_machine.proofs.Runs.Course.{answer_plays, each_course}
+use Rattle.lz_machine.proofs.Runs.FlowChart.{Edge, wears, again, past, next_edge}
 use Rattle.lz_machine.proofs.Alone.Frame.{pins_other}
-use Rattle.lz_machine.proofs.Theorem.EventNeeds.{IsWornAt, is_worn, last_of, plain}
+use Rattle.lz_machine.proofs.Runs.Outcomes.{not_done}
+use Rattle.lz_machine.proofs.Theorem.EventNeeds.{IsWornAt}
 
 -- After its Answer an actor's pin word is even.
 module _ (y : Yard) (a : ℕ) (low : 1 ≤ a) (high : a ≤ length y.words.pins) where
@@ -66,38 +57,17 @@ module _ (y : Yard) (a : ℕ) (low : 1 ≤ a) (high : a ≤ length y.words.pins)
 -- An event changes no other actor's pin word.
 module _ (y : Yard) (a b : ℕ) (other : b ≢ a) where
   on_other : (e : Event) (taken : Course) → pin_of (line_on taken y (actor_at y a) a e).0 b ≡ pin_of y b
-  on_other e (Refused outcome) = refl
-  on_other e Dies = refl
   on_other e Plays = pins_other y (actor_at y a) a b e other
+  on_other e _ = refl
 
   pub pin_other : (e : Event) → pin_of (line y a e).0 b ≡ pin_of y b
   pin_other e = on_other e (course y a e)
 
 -- an event that is refused as worn leaves the last pin
-alive_worn : (y : Yard) (a : ℕ) (e : Event) → is_worn (line_on (course_alive y a (pin_of y a) e) y (actor_at y a) a e).1 ≡ true → pin_of (line_on (course_alive y a (pin_of y a) e) y (actor_at y a) a e).0 a ≡ last_pin
-alive_worn y a Pin = go (pin_of y a == last_pin) refl
-  where
-    go : (last : Bool) → (pin_of y a == last_pin) ≡ last → is_worn (line_on (if last then Refused Worn else Plays) y (actor_at y a) a Pin).1 ≡ true → pin_of (line_on (if last then Refused Worn else Plays) y (actor_at y a) a Pin).0 a ≡ last_pin
-    go true same is = last_of (pin_of y a) same
-    go false same is = absurd (false≢true is)
-alive_worn y a (Sync s) = go (not (is_sure y s) && is_spent y)
-  where
-    go : (spent : Bool) → is_worn (line_on (if spent then Dies else Plays) y (actor_at y a) a (Sync s)).1 ≡ true → pin_of (line_on (if spent then Dies else Plays) y (actor_at y a) a (Sync s)).0 a ≡ last_pin
-    go true is = absurd (false≢true is)
-    go false is = absurd (false≢true is)
-alive_worn y a e = λ is. absurd (false≢true (sym (plain y (actor_at y a) e).1 ∙ is))
-
--- so does each event
-worn_last : (y : Yard) (a : ℕ) (e : Event) → is_worn (line y a e).1 ≡ true → pin_of (line y a e).0 a ≡ last_pin
-worn_last y a e = go (y.vault.dead && not (is_played_dead e)) (needs y a e)
-  where
-    taken : Bool → Bool → Course
-    taken dies may = if dies then Refused Dead else if may then course_alive y a (pin_of y a) e else Refused NotNow
-
-    go : (dies may : Bool) → is_worn (line_on (taken dies may) y (actor_at y a) a e).1 ≡ true → pin_of (line_on (taken dies may) y (actor_at y a) a e).0 a ≡ last_pin
-    go true may is = absurd (false≢true is)
-    go false true is = alive_worn y a e is
-    go false false is = absurd (false≢true is)
+worn_or_not : (y : Yard) (a : ℕ) (e : Event) → ((line y a e).1 ≢ Worn) ⊎ (pin_of (line y a e).0 a ≡ last_pin)
+worn_or_not y a e =
+    each_course (λ k. ((line_on k y (actor_at y a) a e).1 ≢ Worn) ⊎ (pin_of (line_on k y (actor_at y a) a e).0 a ≡ last_pin)) y a e (λ dead stops. inl (λ is. cc)) (λ lacks. inl (λ is. cc)) (λ pin last. inr last)
+    (λ s sync. inl (λ is. cc)) (λ has fresh. inl (not_done y (actor_at y a) e Worn refl))
 
 -- A call comes to the answer that its pass is worn only by such an outcome.
 abbrev ends_worn : Progress → Bool
@@ -111,32 +81,6 @@ begins_not : (b : Bool) → ends_worn (if b then Answering SaysOldFile else firs
 begins_not true = refl
 begins_not false = refl
 
-rests_not : (s : ℕ) (need : Need) (reply : Reply) → ends_worn (Answering reply) ≡ false → ends_worn (rests s need reply) ≡ false
-rests_not s Now reply is = is
-rests_not s needs_sync reply is = refl
-
-walked_not : (c : Command) (aim : Option ℕ) (pred : Place) (curr : Option ℕ) (met : Met) → ends_worn (walked c aim pred curr met) ≡ false
-walked_not (Has k) aim pred curr Absent = refl
-walked_not (Has k) aim pred curr (met_unmarked s flags) = rests_not s (may_answer flags) Yes refl
-walked_not (Has k) aim pred curr (met_marked s flags) = rests_not s (may_answer flags) No refl
-walked_not (Add k) aim pred curr (met_unmarked s flags) = rests_not s (may_answer flags) No refl
-walked_not (Add k) None pred curr Absent = refl
-walked_not (Add k) None pred curr (met_marked s flags) = refl
-walked_not (Add k) (Some slot) pred curr Absent = refl
-walked_not (Add k) (Some slot) pred curr (met_marked s flags) = refl
-walked_not (Remove k) aim pred curr Absent = refl
-walked_not (Remove k) aim pred curr (met_marked s flags) = rests_not s (may_answer flags) No refl
-walked_not (Remove k) aim pred curr (met_unmarked s flags) = refl
-
-hops_not : (c : Command) (aim : Option ℕ) (h : Hopped) → ends_worn (hops_on c aim h) ≡ false
-hops_not c aim (More look) = refl
-hops_not c aim (End pred curr met) = walked_not c aim pred curr met
-
-changes_not : (c : Command) (aim curr : Option ℕ) → ends_worn (changes c aim curr) ≡ false
-changes_not (Add k) (Some s) curr = refl
-changes_not (Remove k) aim (Some s) = refl
-changes_not _ _ _ = refl
-
 met_not : (buckets : ℕ) (c : Command) (reply : Reply) (s : ℕ) (P0 P : Trace) → MayRest buckets c reply s P0 P → ends_worn (Answering reply) ≡ false
 met_not buckets (Has k) SaysWorn s P0 P h = absurd h
 met_not buckets (Add k) SaysWorn s P0 P h = absurd h
@@ -147,79 +91,24 @@ cut_not : (reply : Reply) → IsCut reply → ends_worn (Answering reply) ≡ fa
 cut_not SaysWorn h = absurd h
 cut_not _ h = refl
 
-module _ (shape : Shape) (v : View) (c : Command) (P0 P : Trace) (changed : Option ℕ) where
-  goes_not : (sequence : Sequence) (i : ℕ) → Relies v c (Playing sequence i) P0 P changed → ends_worn (goes_on sequence) ≡ false
-  goes_not (Resting s reply) zero h = met_not v.buckets c reply s P0 P h.1
-  goes_not (Resting s reply) (suc zero) h = met_not v.buckets c reply s P0 P h.1
-  goes_not (Resting s reply) (suc (suc i)) h = absurd h
-  goes_not (Halting reply) zero h = cut_not reply h.0
-  goes_not (Halting reply) (suc i) h = absurd h
-  goes_not _ i h = refl
+past_not : (v : View) (c : Command) (P0 P : Trace) (changed : Option ℕ) (sequence : Sequence) (i : ℕ) → Relies v c (Playing sequence i) P0 P changed → ends_worn (goes_on sequence) ≡ false
+past_not v c P0 P changed (Resting s reply) zero h = met_not v.buckets c reply s P0 P h.1
+past_not v c P0 P changed (Resting s reply) (suc zero) h = met_not v.buckets c reply s P0 P h.1
+past_not v c P0 P changed (Resting s reply) (suc (suc i)) h = absurd h
+past_not v c P0 P changed (Halting reply) zero h = cut_not reply h.0
+past_not v c P0 P changed (Halting reply) (suc i) h = absurd h
+past_not v c P0 P changed _ i h = refl
 
-  event_not : (sequence : Sequence) (i : ℕ) → Relies v c (Playing sequence i) P0 P changed → ends_worn (after_event c sequence i) ≡ false
-  event_not sequence i h = go (nat_lt (i + 1) (length (events_of c sequence)))
-    where
-      go : (more : Bool) → ends_worn (if more then Playing sequence (i + 1) else goes_on sequence) ≡ false
-      go true = refl
-      go false = goes_not sequence i h
+going_not : (at : Progress) → reply_at at ≡ None → ends_worn at ≡ false
+going_not (Answering reply) on_its_way = absurd (none-some _ (sym on_its_way))
+going_not _ on_its_way = refl
 
-  playing_not : (sequence : Sequence) (i : ℕ) (outcome : Outcome) → Relies v c (Playing sequence i) P0 P changed → ends_worn (after_playing c sequence i outcome) ≡ false
-  playing_not sequence i Early h = refl
-  playing_not sequence i outcome h = event_not sequence i h
-
-  halt_not : (outcome : Outcome) → ends_worn (after_halt outcome) ≡ false
-  halt_not (Value value) = go (value == 1)
-    where
-      go : (halted : Bool) → ends_worn (if halted then Answering Halted else Walking None AtHead) ≡ false
-      go true = refl
-      go false = refl
-  halt_not outcome = refl
-
-  hop_not : (aim : Option ℕ) (look : Look) (outcome : Outcome) → ends_worn (after_hop shape c aim look outcome) ≡ false
-  hop_not aim look (Value value) = hops_not c aim (hopped shape.buckets (key_of c) look value)
-  hop_not aim look outcome = refl
-
-  reserve_not : (again : Bool) (outcome : Outcome) → ends_worn (after_reserve again outcome) ≡ false
-  reserve_not again (Slot s) = refl
-  reserve_not false (NoSlot counts) = refl
-  reserve_not true (NoSlot counts) = refl
-  reserve_not again outcome = refl
-
-  see_not : (p : ℕ) → ends_worn (after_see_pin shape p) ≡ false
-  see_not p = go (nat_lt p shape.passes)
-    where
-      go : (more : Bool) → ends_worn (if more then SeeingPins (p + 1) else Reserving true) ≡ false
-      go true = refl
-      go false = refl
-
-  claim_not : (aim : Option ℕ) (pred : Place) (curr : Option ℕ) (outcome : Outcome) → ends_worn (after_claim aim pred curr outcome) ≡ false
-  claim_not aim pred curr Taken = refl
-  claim_not aim pred curr outcome = refl
-
-  check_not : (aim curr : Option ℕ) (outcome : Outcome) → ends_worn (after_check c aim curr outcome) ≡ false
-  check_not aim curr True = changes_not c aim curr
-  check_not aim curr False = refl
-  check_not aim curr outcome = refl
-
-  abbrev FollowsNot : Progress → Outcome → Type 0
-  FollowsNot at outcome = Relies v c at P0 P changed → reply_at at ≡ None → ends_worn (follows shape c at outcome) ≡ false
-
-  follows_not : (at : Progress) (outcome : Outcome) → FollowsNot at outcome
-  follows_not (Playing sequence i) outcome h on_its_way = playing_not sequence i outcome h
-  follows_not LoadsHalt outcome h on_its_way = halt_not outcome
-  follows_not (Walking aim look) outcome h on_its_way = hop_not aim look outcome
-  follows_not (Reserving again) outcome h on_its_way = reserve_not again outcome
-  follows_not (SeeingPins p) outcome h on_its_way = see_not p
-  follows_not (Claiming aim pred curr) outcome h on_its_way = claim_not aim pred curr outcome
-  follows_not (Checking aim curr) outcome h on_its_way = check_not aim curr outcome
-  follows_not (Answering reply) outcome h on_its_way = absurd (none-some _ (sym on_its_way))
-
-  progress_not : (at : Progress) (outcome : Outcome) → Relies v c at P0 P changed → reply_at at ≡ None → is_worn outcome ≡ false → ends_worn (progress_after shape c at outcome) ≡ false
-  progress_not at Fault h on_its_way is = refl
-  progress_not at Dead h on_its_way is = refl
-  progress_not at OldFile h on_its_way is = refl
-  progress_not at Worn h on_its_way is = absurd (false≢true (sym is))
-  progress_not at outcome h on_its_way is = follows_not at outcome h on_its_way
+next_not : {shape : Shape} {c : Command} {at : Progress} {outcome : Outcome} {next : Progress} → Edge shape c at outcome next
+    → (v : View) (P0 P : Trace) (changed : Option ℕ) → Relies v c at P0 P changed → reply_at at ≡ None → outcome ≢ Worn → ends_worn next ≡ false
+next_not (wears c at) v P0 P changed h on_its_way other = absurd (other refl)
+next_not (again c at outcome) v P0 P changed h on_its_way other = going_not at on_its_way
+next_not (past c sequence i outcome) v P0 P changed h on_its_way other = past_not v c P0 P changed sequence i h
+next_not _ v P0 P changed h on_its_way other = refl
 
 -- Between its calls an actor's pin word is even, in a run without looks; and a call that is refused as worn has the last pin.
 abbrev pub Fits : Bool → Option Caller → ℕ → Type 0
@@ -247,9 +136,9 @@ module _ (looks : Bool) (n calls : ℕ) (y : Yard) (callers : List (Option Calle
     GoesTo at after = Fits looks (moved_on (reply_at at) (call_at i c at) (progress_after after.0.shape c at after.1)) (pin_of after.0 a)
 
     goes_to : (at : Progress) → caller_at callers a ≡ Some (call_at i c at) → reply_at at ≡ None → GoesTo at (line y a (next_event y (call_at i c at)))
-    goes_to at is on_its_way = subst (λ (q : Option Reply). Fits looks (moved_on q (call_at i c at) (progress_after after.0.shape c at after.1)) (pin_of after.0 a)) (sym on_its_way) (elim (cases_Bool (is_worn after.1)) [
-      | inl worn ↦ λ same. worn_last y a (next_event y (call_at i c at)) worn
-      | inr other ↦ not_worn (pin_of after.0 a) (progress_after after.0.shape c at after.1) (progress_not after.0.shape (view_of y.shape y.vault y.actors a) c (notes.begun a) P (notes.changed a) at after.1 own.stands.2 on_its_way other)
+    goes_to at is on_its_way = subst (λ (q : Option Reply). Fits looks (moved_on q (call_at i c at) (progress_after after.0.shape c at after.1)) (pin_of after.0 a)) (sym on_its_way) (elim (worn_or_not y a (next_event y (call_at i c at))) [
+      | inr last ↦ λ same. last
+      | inl other ↦ not_worn (pin_of after.0 a) (progress_after after.0.shape c at after.1) (next_not (next_edge after.0.shape c at after.1) (view_of y.shape y.vault y.actors a) (notes.begun a) P (notes.changed a) own.stands.2 on_its_way other)
     ])
       where
         after : Yard × Outcome
@@ -302,11 +191,9 @@ module _ (looks : Bool) (n calls : ℕ) (y : Yard) (callers : List (Option Calle
   up_fits i (Fails a new) may = fault_fits looks n calls y callers disk M P notes sound fits new a (caller_at callers a) refl may
   up_fits i (Looks a) may = look_fits looks n calls y callers disk M P notes sound fits a (none_of (caller_at callers a) may.1)
   up_fits i Trips may = fits
-  up_fits i Stops may = tt
-  up_fits i (Crashes t) may = tt
-  up_fits i (CrashesIn a t) may = tt
   up_fits i Opens may = absurd may
   up_fits i (OpenFails why done) may = absurd may
+  up_fits i _ may = tt
 
 -- an open begins with no callers, and pins that are 0
 opened_fits : (looks : Bool) (shape : Shape) (t : List ℕ) (disk : Medium) → AllFit looks (Up (opened_service shape t) disk)
@@ -320,22 +207,6 @@ down_fits looks i shape disk (Crashes t) may = tt
 down_fits looks i shape disk (OpenFails why true) may = tt
 down_fits looks i shape disk (OpenFails why false) may = tt
 down_fits looks i shape disk _ may = absurd may
-
--- what the invariant says of an open service at a point
-pub record IsUpAt (calls : ℕ) (service : Service) (disk : Medium) (P : Trace) : Type 0 where
-  pub n : ℕ
-  pub life : Life
-  pub notes : Notes
-  pub up : UpSound n calls service disk life P notes
-
-pub up_at : (start : Start) (p : Point) (service : Service) (disk : Medium) → IsSound start p → p.state ≡ Up service disk → IsUpAt p.calls service disk p.trace
-up_at start p service disk sound is = go (lives (start_keys start) p.marks) sound
-  where
-    go : (L : List Life) → PointSound start p L → IsUpAt p.calls service disk p.trace
-    go [] h = absurd h
-    go (life ∷ earlier) h =
-        let there : StateSound p (Up service disk) life = subst (λ (q : State). StateSound p q life) is h.2 in
-        record { n = there.0; life = life; notes = there.1; up = there.2 }
 
 pub step_fits : (looks : Bool) (start : Start) (w : State) (M : History) (P : Trace) (calls i : ℕ) (step : Transition) → IsSound start (point w M P calls) → MayStep w step → AllFit looks w → AllFit (is_look step || looks) (state_after i w step)
 step_fits looks start (Up service disk) M P calls i step sound may fits =

@@ -31,9 +31,8 @@ use Rattle.lz_machine.specs.Halts.{IsLate}
 use Rattle.lz_machine.proofs.Alone.FullSet.{full_of_one_pass}
 use Rattle.lz_machine.proofs.Frames.OneActor.{caller_range}
 use Rattle.lz_machine.proofs.Theorem.NoSlotCounts.{counts_are_right}
-use Rattle.lz_machine.proofs.Theorem.Reached.{reached_sound}
+use Rattle.lz_machine.proofs.Theorem.Reached.{reached_sound, IsUpAt, up_at}
 use Rattle.lz_machine.proofs.Theorem.Timeliness.{never_late}
-use Rattle.lz_machine.proofs.Theorem.WornPass.{IsUpAt, up_at}
 use Rattle.lz_board.specs.declared.view.Sizes.{Sizes}
 use Rattle.lz_board.specs.declared.view.What.TheVariants.{Played}
 use Rattle.lz_board.specs.declared.view.Note.{Note}

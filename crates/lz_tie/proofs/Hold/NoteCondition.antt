@@ -22,8 +22,7 @@ use Rattle.lz_machine.specs.Yards.{Shape, Yard, idle_actor}
 use Rattle.lz_machine.specs.Runs.{run, first_point}
 use Rattle.lz_machine.specs.Sound.{TraceSound}
 use Rattle.lz_machine.specs.SlotsSound.{SlotStands, is_node, is_held, is_free, is_limbo, SlotsSound, is_out}
-use Rattle.lz_machine.proofs.Theorem.Reached.{reached_sound}
-use Rattle.lz_machine.proofs.Theorem.WornPass.{up_at}
+use Rattle.lz_machine.proofs.Theorem.Reached.{reached_sound, up_at}
 use Rattle.lz_board.specs.declared.view.Sizes.{Sizes}
 use Rattle.lz_board.specs.declared.view.Note.{Note}
 use Rattle.lz_board.specs.declared.view.Load.{Load}

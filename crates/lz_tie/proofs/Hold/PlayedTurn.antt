@@ -25,7 +25,8 @@ use Rattle.lz_machine.specs.Ready.{IsEventOf, IsReadyFor}
 use Rattle.lz_machine.specs.Runs.{MayPlay, with_words}
 use Rattle.lz_machine.proofs.Frames.Outside.{answered_pin, worn_out}
 use Rattle.lz_machine.proofs.Runs.EventRange.{is_event}
-use Rattle.lz_machine.proofs.Theorem.Readiness.{is_invoke, ready, plays_needs}
+use Rattle.lz_machine.proofs.Runs.Course.{plays_needs}
+use Rattle.lz_machine.proofs.Theorem.Readiness.{is_invoke, ready}
 use Rattle.lz_yard.specs.declared.told.Told.{Told}
 use Rattle.lz_yard.specs.Steps.{Played as PlayedOver, value_of}
 use Rattle.lz_yard.proofs.Events.KeptFit.{fault_or_not}

@@ -13,7 +13,7 @@ use Rattle.lz_machine.specs.declared.event.Event.{Event}
 use Rattle.lz_machine.specs.declared.event.Event.TheVariants.{WriteKey, WriteOpen, Settle}
 use Rattle.lz_machine.specs.Yards.{Yard, actor_at, cell_at}
 use Rattle.lz_machine.specs.Table.{course, needs, published_on, publishes, settling, line_publishes}
-use Rattle.lz_machine.proofs.Theorem.Readiness.{plays_needs}
+use Rattle.lz_machine.proofs.Runs.Course.{plays_needs}
 use Rattle.lz_board.specs.declared.view.Sizes.{Sizes}
 use Rattle.lz_board.specs.declared.view.Note.{Note}
 use Rattle.lz_board.specs.Notes.{as_list}

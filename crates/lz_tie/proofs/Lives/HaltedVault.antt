@@ -7,8 +7,7 @@ use Rattle.lz_list.specs.Traces.{halt_word}
 use Rattle.lz_machine.specs.Yards.{Yard}
 use Rattle.lz_machine.specs.Runs.{run, first_point}
 use Rattle.lz_machine.proofs.Alone.Halt.{halted_dead}
-use Rattle.lz_machine.proofs.Theorem.Reached.{reached_sound}
-use Rattle.lz_machine.proofs.Theorem.WornPass.{up_at}
+use Rattle.lz_machine.proofs.Theorem.Reached.{reached_sound, up_at}
 use Rattle.lz_board.specs.declared.view.Note.{Note}
 use Rattle.lz_board.specs.Notes.{trace_of}
 use Rattle.lz_board.specs.Seats.{BoardId}

@@ -22,8 +22,7 @@ use Rattle.lz_machine.specs.Yards.{Shape, Yard, actor_at}
 use Rattle.lz_machine.specs.Table.{course, line, line_on, words_after, pin_of, last_pin, is_sure, stays_out, needs, pin_answered}
 use Rattle.lz_machine.specs.Runs.{Start, IsStart, State, Up, Down, Service, Caller, Transition, Calls, Turn, Fails, Looks, Point, run, IsRun, MayStep, first_point, caller_at, next_event, state_after, after_turn, after_fault, looked}
 use Rattle.lz_machine.proofs.Runs.Course.{answer_plays}
-use Rattle.lz_machine.proofs.Theorem.Reached.{reached_sound}
-use Rattle.lz_machine.proofs.Theorem.WornPass.{up_at}
+use Rattle.lz_machine.proofs.Theorem.Reached.{reached_sound, up_at}
 use Rattle.lz_machine.proofs.Frames.OneActor.{caller_range}
 use Rattle.lz_machine.proofs.Frames.Outside.{out_even, answered_pin, answered_other, outside_even}
 use Rattle.lz_board.specs.declared.view.What.{What}

@@ -22,8 +22,7 @@ use Rattle.lz_machine.specs.Calls.{event_at, loaded}
 use Rattle.lz_machine.specs.Runs.{Start, IsStart, State, Up, Down, Service, Caller, Transition, Calls, Turn, Fails, Looks, CrashesIn, Point, run, IsRun, MayStep, first_point, caller_at, next_event, HasTurn}
 use Rattle.lz_machine.specs.Laws.{is_of, SameBut, KeepsRun, next_hop, hop_of, hop_of_caller}
 use Rattle.lz_machine.specs.Sound.{TraceSound}
-use Rattle.lz_machine.proofs.Theorem.Reached.{reached_sound, walks_move}
-use Rattle.lz_machine.proofs.Theorem.WornPass.{up_at}
+use Rattle.lz_machine.proofs.Theorem.Reached.{reached_sound, walks_move, up_at}
 use Rattle.lz_board.specs.declared.view.Sizes.{Sizes}
 use Rattle.lz_board.specs.declared.view.What.{What}
 use Rattle.lz_board.specs.declared.view.What.TheVariants.{Called, Played, Found}
