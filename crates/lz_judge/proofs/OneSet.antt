@@ -1,5 +1,5 @@
 -- Two files hold one set exactly where no flaw of a renewal is true of them.
-use Rattle.std.proofs.Common.{◌≡◌, ◌↔◌, ⊎_elim, ℕ, ◌+◌, ◌*◌, ◌<◌, true, false, List, length, refl, sym, ◌∙◌, ap, subst, arith, IsTrue, Ok, Err}
+use Rattle.std.proofs.Common.{◌≡◌, ◌↔◌, ⊎_elim, ℕ, ◌+◌, ◌*◌, ◌<◌, true, false, List, length, refl, sym, ◌∙◌, ap, subst, arith, IsTrue, Ok, Err, All}
 use Rattle.std.specs.Cmp.{both_ways}
 use Rattle.std.proofs.lemmas.Bool.{cases_lt}
 use Rattle.lz_slot.specs.Bytes.{Holds, header_read, slot_at}
@@ -8,7 +8,6 @@ use Rattle.lz_slot.specs.declared.slot.SlotRead.TheVariants.{Member}
 use Rattle.lz_slot.proofs.Files.HeldSets.{holds_same_set}
 use Rattle.lz_judge.specs.declared.renewing.RenewFlaw.{RenewFlaw}
 use Rattle.lz_judge.specs.declared.renewing.RenewFlaw.TheVariants.{NotHeld, Missing, Extra}
-use Rattle.std.specs.Prelude.{All}
 use Rattle.lz_judge.specs.declared.finding.Finding.{Finding}
 use Rattle.lz_judge.specs.Surveys.{AreFindings, found_keys}
 use Rattle.lz_judge.specs.Renewals.{AreHeld, HoldOneSet, IsFirstOutside, IsLowestOutside, IsRenewFlaw, IsWithin, OneVerdict}

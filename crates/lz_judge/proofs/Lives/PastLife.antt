@@ -1,16 +1,18 @@
 -- The lives that have ended, and the life that goes on after them.
-use Rattle.std.proofs.Common.{◌≢◌, ◌⊎◌, inl, inr, ⊎_elim, ℕ, List, [], ◌∷◌, ◌++◌, sym, refl, ◌∙◌}
+use Rattle.std.proofs.Common.{◌≢◌, ◌⊎◌, inl, inr, ⊎_elim, ℕ, ◌<◌, List, [], ◌∷◌, ◌++◌, sym, refl, ◌∙◌}
 use Rattle.lz_slot.specs.Sets.{Keys, Same, after}
 use Rattle.lz_slot.specs.declared.command.Command.{Command}
 use Rattle.lz_slot.specs.declared.history.Mark.{Mark}
 use Rattle.lz_slot.specs.declared.history.Mark.TheVariants.{Call, Answer, Refused, Cut, Stop, Crash, Opened, OpenFailed}
-use Rattle.lz_slot.specs.Histories.{HasMark, IsCalled}
+use Rattle.lz_slot.specs.Histories.{HasMark, IsCalled, IsListed}
 use Rattle.lz_judge.specs.Records.{IsMade}
-use Rattle.lz_judge.specs.Flaws.{IsLifeBefore, IsPast, Leads}
+use Rattle.lz_judge.specs.Flaws.{IsInOrder, IsLifeBefore, IsPast, Leads}
 use Rattle.lz_judge.specs.Plays.{Follows, past_of, this_life}
 use Rattle.lz_judge.specs.declared.playing.Listed.{Listed}
 use Rattle.lz_judge.proofs.Lives.LawfulHistory.{made_less, made_more}
+use Rattle.lz_slot.proofs.Listings.{earlier_append, listed_append, listed_left, listed_right}
 use Rattle.lz_slot.proofs.Sets.{after_same}
+use Rattle.lz_judge.proofs.Lives.CurrentLife.{life_made}
 use Rattle.lz_judge.proofs.Lives.PlaceOrder.{Among, calls_of}
 
 -- what was seen in the past was seen
@@ -71,3 +73,29 @@ leads_then M (i ∷ L) R S T U (c, called, rest) second = (c, called, leads_then
 pub follows_leads : (M : List Mark) (calls : List Listed) (S T : Keys) → ((l : Listed) → Among l calls → IsCalled M l.call l.command) → Follows calls S T → Leads M S (calls_of calls) T
 follows_leads M [] S T called follows = follows
 follows_leads M (l ∷ calls) S T called follows = (l.command, called l (inl refl), follows_leads M calls (after l.command S) T (λ m at. called m (inr at)) follows)
+
+-- the list of the past, and that of the life after it
+module _ (at : ℕ → ℕ → Type 0) (M : List Mark) (below : (i j p q : ℕ) → IsMade (past_of M) i → IsMade (this_life M) j → at i p → at j q → p < q) (L R : List ℕ) (past : IsInOrder at (past_of M) L) (life : IsInOrder at (this_life M) R) where
+  join_to : (j : ℕ) → IsListed j (L ++ R) → IsMade M j × ((p : ℕ) × at j p)
+  join_to j is = ⊎_elim
+      (λ left. let (made, place) = (past.each j).0 left in (past_made_all M j made, place))
+      (λ right. let (made, place) = (life.each j).0 right in (life_made M j made, place))
+      (listed_append j L R is)
+
+  join_from : (j : ℕ) → IsMade M j × ((p : ℕ) × at j p) → IsListed j (L ++ R)
+  join_from j (made, place) = ⊎_elim
+      (λ before. listed_left j L R ((past.each j).1 (before, place)))
+      (λ here. listed_right j L R ((life.each j).1 (here, place)))
+      (made_split M j made)
+
+  pub join_order : IsInOrder at M (L ++ R)
+  join_order = record {
+    each = λ j. (join_to j, join_from j);
+    ascending = λ i j p q is here there. ⊎_elim
+        (λ left. past.ascending i j p q left here there)
+        (λ rest. ⊎_elim
+        (λ (left, right). below i j p q ((past.each i).0 left).0 ((life.each j).0 right).0 here there)
+        (λ right. life.ascending i j p q right here there)
+        rest)
+        (earlier_append i j L R is);
+  }

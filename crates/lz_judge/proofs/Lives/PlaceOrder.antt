@@ -1,13 +1,10 @@
 -- A life's calls in the order of their places fit it.
-use Rattle.std.proofs.Common.{◌≡◌, ◌≢◌, ◌⊎◌, inl, inr, ⊎_elim, ℕ, ◌<◌, ◌≤◌, Bool, true, false, List, [], ◌∷◌, sym, refl, ◌∙◌, ap, subst, arith, Some}
-use Rattle.std.specs.Prelude.{map}
+use Rattle.std.proofs.Common.{◌≡◌, ◌≢◌, ◌⊎◌, inl, inr, ⊎_elim, ℕ, ◌<◌, ◌≤◌, Bool, true, false, List, [], ◌∷◌, sym, refl, ◌∙◌, ap, subst, arith, Some, map, nat_cmp, Less}
 use Rattle.std.specs.Map.{values_of, keys_of, lookup}
 use Rattle.std.specs.BTreeMap as tree
 use Rattle.std.specs.BTreeMap.{BTreeMap, is_at}
 use Rattle.std.specs.List.{AllByRecursion}
 use Rattle.std.specs.List.Sorted.{IsStrictlySortedBy}
-use Rattle.std.specs.Ordering.{nat_cmp}
-use Rattle.std.specs.declared.cmp.Ordering.TheVariants.{Less}
 use Rattle.std.proofs.lemmas.Map.Keys.{sorted_head, sorted_tail}
 use Rattle.std.proofs.lemmas.Option.{same_Some}
 use Rattle.std.proofs.lemmas.Bool.{cases_eq}
@@ -17,6 +14,7 @@ use Rattle.lz_slot.specs.declared.history.Mark.{Mark}
 use Rattle.lz_slot.specs.Histories.{IsAnswered, IsCalled, IsEarlier, IsListed, Runs, count_of}
 use Rattle.lz_slot.proofs.Sets.{after_same}
 use Rattle.lz_judge.specs.Records.{IsMade}
+use Rattle.lz_judge.specs.Flaws.{IsInOrder}
 use Rattle.lz_judge.specs.Readings.{IsAt}
 use Rattle.lz_judge.specs.Plays.{IsLife, Plays}
 use Rattle.lz_judge.specs.declared.playing.Listed.{Listed}
@@ -187,3 +185,13 @@ of_life places H life ordered is_life = record {
   where
     entry : (p : ℕ) (l : Listed) → Among (p, l) life.entries → IsCalled H l.call l.command × IsAt places l.call p
     entry p l among = is_life.listed p l (among_lookup life.entries p l ordered among)
+
+-- they stand in the order of their places
+pub in_order : (places : BTreeMap ℕ ℕ) (H : List Mark) (calls : List Listed) → OfLife places H calls → IsInOrder (IsAt places) H (calls_of calls)
+in_order places H calls listed = record {
+  each = λ i. (
+    λ is. let (l, at, same) = listed_among calls i is in subst (λ (n : ℕ). IsMade H n × ((p : ℕ) × IsAt places n p)) same ((l.command, listed.called l at), listed.have l at),
+    λ (made, (p, at)). let (l, among, same) = listed.among i p made at in subst (λ (n : ℕ). IsListed n (calls_of calls)) same (among_listed calls l among),
+  );
+  ascending = λ i j p q is at at'. ascending places calls i j p q listed.rise is at at';
+}

@@ -4,14 +4,13 @@ use Rattle.lz_slot.specs.Sets.{Keys, Same, after, key_of, members, reply}
 use Rattle.lz_slot.specs.declared.command.Command.{Command}
 use Rattle.lz_slot.specs.declared.history.Mark.{Mark}
 use Rattle.lz_slot.specs.declared.history.Mark.TheVariants.{Call, Answer, Refused, Cut, Opened}
-use Rattle.lz_slot.specs.Histories.{IsAnswered, IsCalled, IsListed, Runs, lives}
+use Rattle.lz_slot.specs.Histories.{HasMark, IsAnswered, IsCalled, IsListed, Runs, lives}
 use Rattle.lz_judge.specs.Records.{IsLawful, IsMade, MayFollow}
 use Rattle.lz_judge.specs.Flaws.{IsInOrder, IsLifeBefore, Leads, OrderedChain}
 use Rattle.lz_judge.specs.Plays.{lives_before, past_of, this_life, this_start}
-use Rattle.lz_judge.proofs.Lives.CurrentLife.{answered_life, life_made, life_mark, lives_parts, now}
+use Rattle.lz_judge.proofs.Lives.CurrentLife.{answered_life, life_mark, lives_parts, now}
 use Rattle.lz_slot.proofs.Sets.{after_same}
-use Rattle.lz_slot.proofs.Listings.{earlier_append, listed_append, listed_left, listed_right}
-use Rattle.lz_judge.proofs.Lives.PastLife.{made_split, past_before, past_made_all, past_mark}
+use Rattle.lz_judge.proofs.Lives.PastLife.{join_order, past_before, past_mark}
 use Rattle.lz_judge.proofs.Readings.ReadingTable.{told_made}
 
 -- a call has one command
@@ -96,42 +95,13 @@ module _ (at : ℕ → ℕ → Type 0) where
         (λ here. here)
         (answer_split M i b told)
 
-    past_runs : (L : List ℕ) (S T : Keys) → ((i : ℕ) → IsListed i L → IsMade (past_of M) i × ((p : ℕ) × at i p)) → Runs (past_of M) S L T → Runs M S L T
-    past_runs [] S T made runs = runs
-    past_runs (i ∷ L) S T made (c, (actor, has), right, rest) =
-        let (past, (p, is)) = made i (inl refl) in
-        (c, (actor, past_mark M (Call i actor c) has), λ b told. right b (answer_past i p b past is told), past_runs L (after c S) T (λ j there. made j (inr there)) rest)
-
-    now_runs : (L : List ℕ) (S T : Keys) → ((i : ℕ) → IsListed i L → IsMade (this_life M) i × ((p : ℕ) × at i p)) → Runs (this_life M) S L T → Runs M S L T
-    now_runs [] S T made runs = runs
-    now_runs (i ∷ L) S T made (c, (actor, has), right, rest) =
+    -- a run of the past, or of the life that goes on, is one of all
+    part_runs : (H : List Mark) → ((m : Mark) → HasMark m H → HasMark m M) → ((i p : ℕ) (b : Bool) → IsMade H i → at i p → IsAnswered M i b → IsAnswered H i b)
+        → (L : List ℕ) (S T : Keys) → ((i : ℕ) → IsListed i L → IsMade H i × ((p : ℕ) × at i p)) → Runs H S L T → Runs M S L T
+    part_runs H marks answers [] S T made runs = runs
+    part_runs H marks answers (i ∷ L) S T made (c, (actor, has), right, rest) =
         let (here, (p, is)) = made i (inl refl) in
-        (c, (actor, life_mark M (Call i actor c) has), λ b told. right b (answer_now i p b here is told), now_runs L (after c S) T (λ j there. made j (inr there)) rest)
-
-    module _ (L R : List ℕ) (past : IsInOrder at (past_of M) L) (life : IsInOrder at (this_life M) R) where
-      join_to : (j : ℕ) → IsListed j (L ++ R) → IsMade M j × ((p : ℕ) × at j p)
-      join_to j is = ⊎_elim
-          (λ left. let (made, place) = (past.each j).0 left in (past_made_all M j made, place))
-          (λ right. let (made, place) = (life.each j).0 right in (life_made M j made, place))
-          (listed_append j L R is)
-
-      join_from : (j : ℕ) → IsMade M j × ((p : ℕ) × at j p) → IsListed j (L ++ R)
-      join_from j (made, place) = ⊎_elim
-          (λ before. listed_left j L R ((past.each j).1 (before, place)))
-          (λ here. listed_right j L R ((life.each j).1 (here, place)))
-          (made_split M j made)
-
-      join_order : IsInOrder at M (L ++ R)
-      join_order = record {
-        each = λ j. (join_to j, join_from j);
-        ascending = λ i j p q is here there. ⊎_elim
-            (λ left. past.ascending i j p q left here there)
-            (λ rest. ⊎_elim
-            (λ (left, right). past_below i j p q ((past.each i).0 left).0 ((life.each j).0 right).0 here there)
-            (λ right. life.ascending i j p q right here there)
-            rest)
-            (earlier_append i j L R is);
-      }
+        (c, (actor, marks (Call i actor c) has), λ b told. right b (answers i p b here is told), part_runs H marks answers L (after c S) T (λ j there. made j (inr there)) rest)
 
     -- the past, and the life that goes on
     run_of : (T : Keys) → OrderedChain at (lives (members []) M) T → RunIs at (past_of M) (this_start M) → RunIs at M T
@@ -139,10 +109,10 @@ module _ (at : ℕ → ℕ → Type 0) where
         let parts : OrderedChain at (now M ∷ lives_before M) T = subst (λ ls. OrderedChain at ls T) (lives_parts M) chain in
         let (R, life, fits, rest) = parts in record {
           list = past.list ++ R;
-          in_order = join_order past.list R past.in_order life;
+          in_order = join_order at M past_below past.list R past.in_order life;
           runs = runs_then M past.list R (members []) (this_start M) T
-              (past_runs past.list (members []) (this_start M) (λ i is. (past.in_order.each i).0 is) past.runs)
-              (now_runs R (this_start M) T (λ i is. (life.each i).0 is) fits.runs);
+              (part_runs (past_of M) (past_mark M) answer_past past.list (members []) (this_start M) (λ i is. (past.in_order.each i).0 is) past.runs)
+              (part_runs (this_life M) (life_mark M) answer_now R (this_start M) T (λ i is. (life.each i).0 is) fits.runs);
         }
 
   pub chain_before : (M : List Mark) (T : Keys) → OrderedChain at (lives (members []) M) T → OrderedChain at (lives_before M) (this_start M)

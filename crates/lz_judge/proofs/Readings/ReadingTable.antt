@@ -1,9 +1,6 @@
 -- What the tables of the passes say of the history.
-use Rattle.std.proofs.Common.{◌≡◌, inl, inr, ⊎_elim, ◌↔◌, ℕ, ◌≤◌, Bool, true, List, [], ◌∷◌, sym, refl, ◌∙◌, ap, subst, arith, Some, None}
-use Rattle.std.specs.Prelude.{map}
+use Rattle.std.proofs.Common.{◌≡◌, inl, inr, ⊎_elim, ◌↔◌, ℕ, ◌≤◌, Bool, true, List, [], ◌∷◌, sym, refl, ◌∙◌, ap, subst, arith, Some, None, map, BTreeMap, nat_cmp}
 use Rattle.std.specs.BTreeMap as tree
-use Rattle.std.specs.BTreeMap.{BTreeMap}
-use Rattle.std.specs.Ordering.{nat_cmp}
 use Rattle.std.proofs.lemmas.Option.{same_Some}
 use Rattle.std.proofs.lemmas.Bool.Decides.{eqb_tells}
 use Rattle.lz_slot.specs.Sets.{Keys}
@@ -77,6 +74,9 @@ place_point (point ∷ points) i p is = elim (eqb_tells point.call i) [
   | inl t ↦ inl (t.1, same_Some _ _ (rw t.0 at is))
   | inr f ↦ inr (place_point points i p (rw f.0 at is))
 ]
+
+pub at_point : (M : List Mark) (points : List Point) (places : BTreeMap ℕ ℕ) → HasPlaces points places → AreListed M points places → (i p : ℕ) → IsAt places i p ↔ IsPoint points i p
+at_point M points places has listed i p = (λ at. place_point points i p (sym (has i) ∙ at), listed.placed i p)
 
 pub point_place : (points : List Point) (i p : ℕ) → IsPoint points i p → (q : ℕ) × (place_of points i ≡ Some q)
 point_place [] i p is = absurd is
