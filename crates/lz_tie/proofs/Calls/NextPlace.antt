@@ -1,6 +1,5 @@
 -- Where a call comes to by its next event, with what is published for its pass then.
-use Rattle.std.proofs.Common.{◌≡◌, ℕ, zero, suc, ◌+◌, ◌≤◌, nat_lt, Bool, true, false, List, [], ◌∷◌, ◌++◌, refl, sym, ap, ◌∙◌, subst, arith}
-use Rattle.std.specs.Prelude.{if◌then◌else◌, ◌==◌, unwrap_or, Option, Some, None}
+use Rattle.std.proofs.Common.{◌≡◌, ℕ, zero, suc, ◌+◌, ◌≤◌, nat_lt, Bool, true, false, List, [], ◌∷◌, ◌++◌, refl, sym, ap, ◌∙◌, subst, arith, if◌then◌else◌, ◌==◌, unwrap_or, Option, Some, None}
 use Rattle.std.proofs.lemmas.Bool.Decides.{nat_tests}
 use Rattle.lz_slot.specs.declared.command.Command.{Command}
 use Rattle.lz_slot.specs.declared.command.Command.TheVariants.{Add, Remove, Has}
@@ -44,7 +43,8 @@ use Rattle.lz_machine.proofs.Frames.Ranges.{on_range, few_slots}
 use Rattle.lz_machine.proofs.Frames.OtherCallers.{held_node}
 use Rattle.lz_board.specs.Notes.{own}
 use Rattle.lz_tie.specs.UnderWay.{OwnAt}
-use Rattle.lz_tie.proofs.Calls.OwnChanges.{is_calm, calm, calm_none, none_cut, own_cut, cut_halting, cut_halted, cut_device, settling_none, own_linked, own_marked, own_unlinked}
+use Rattle.lz_tie.proofs.Hold.OneWord.{settling_own}
+use Rattle.lz_tie.proofs.Calls.OwnChanges.{is_calm, calm, calm_none, none_cut, own_cut, cut_halting, cut_halted, cut_device, own_linked, own_marked, own_unlinked}
 
 abbrev pub is_full : Progress → Bool
 is_full (Answering (Full counts)) = true
@@ -164,7 +164,7 @@ module _ (n calls : ℕ) (y : Yard) (callers : List (Option Caller)) (disk : Med
   -- a settling, or a sync played again
   settles : (c : Command) (at : Progress) (s : ℕ) → Onward y.shape a c (progress_after y.shape c at Done) Q → Onward y.shape a c (progress_after y.shape c at Early) Q
       → Goes c at (if is_sure y s then Done else Early) (settling (cell_at y s).stage s)
-  settles c at s done early = subst (λ (l : Trace). Onward y.shape a c (progress_after y.shape c at (if is_sure y s then Done else Early)) (l ++ Q)) (sym (settling_none a (cell_at y s).stage s)) (go (is_sure y s))
+  settles c at s done early = subst (λ (l : Trace). Onward y.shape a c (progress_after y.shape c at (if is_sure y s then Done else Early)) (l ++ Q)) (sym (settling_own a (cell_at y s).stage s)) (go (is_sure y s))
     where
       go : (sure : Bool) → Onward y.shape a c (progress_after y.shape c at (if sure then Done else Early)) Q
       go true = done

@@ -4,8 +4,6 @@ use mathlib.Core.Bool.{false≢true}
 use Rattle.lz_slot.specs.declared.command.Command.{Command}
 use Rattle.lz_slot.specs.declared.command.Command.TheVariants.{Add, Remove, Has}
 use Rattle.lz_allot.specs.declared.counts.Counts.{Counts}
-use Rattle.lz_vault.specs.declared.vault.Stage.{Stage}
-use Rattle.lz_vault.specs.declared.vault.Stage.TheVariants.{Closed, Open}
 use Rattle.lz_list.specs.declared.publishing.Publishing.TheVariants.{Linked as linked, Marked as marked, Unlinked as unlinked}
 use Rattle.lz_list.specs.Traces.{Trace}
 use Rattle.lz_machine.specs.declared.event.Reply.{Reply}
@@ -13,7 +11,6 @@ use Rattle.lz_machine.specs.declared.event.Reply.TheVariants.{Yes, Full, Worn, O
 use Rattle.lz_machine.specs.declared.caller.Sequence.TheVariants.{Adding, Removing, Halting}
 use Rattle.lz_machine.specs.declared.caller.Progress.{Progress}
 use Rattle.lz_machine.specs.declared.caller.Progress.TheVariants.{Playing, Answering}
-use Rattle.lz_machine.specs.Table.{settling}
 use Rattle.lz_board.specs.Notes.{own}
 use Rattle.lz_tie.specs.Answers.{MayHaveChanged}
 use Rattle.lz_tie.specs.UnderWay.{OwnAt}
@@ -98,13 +95,7 @@ pub old_none : (p : ℕ) (c : Command) (P : Trace) → P ≡ [] → OwnAt p c (A
 old_none p (Has k) P h = h
 old_none p _ P h = h
 
--- a settling is made for no pass
-pub settling_none : (p : ℕ) (stage : Stage) (s : ℕ) → own p (settling stage s) ≡ []
-settling_none p Open s = refl
-settling_none p Closed s = refl
-settling_none p stage s = refl
-
--- a linking, a marking and an unlinking are
+-- a linking, a marking and an unlinking are made for a pass
 pub own_linked : (p k s : ℕ) → own p (linked k s p ∷ []) ≡ linked k s p ∷ []
 own_linked p k s = rw (eq-eqb p p refl) refl
 

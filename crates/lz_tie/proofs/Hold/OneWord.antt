@@ -1,7 +1,6 @@
 -- What a hold stores on the board is what its event publishes.
-use Rattle.std.proofs.Common.{◌≡◌, ◌≢◌, ℕ, Bool, true, false, [], ◌∷◌, refl, sym, ap, subst, get_or-set_other, ne_eqb, ◌+◌}
+use Rattle.std.proofs.Common.{◌≡◌, ◌≢◌, ℕ, Bool, true, false, [], ◌∷◌, refl, sym, ap, subst, get_or-set_other, ne_eqb, ◌+◌, if◌then◌else◌, Some, None, IfSome, is_some, not}
 use mathlib.Core.Bool.{false≢true}
-use Rattle.std.specs.Prelude.{if◌then◌else◌, Some, None, IfSome, is_some, not}
 use Rattle.lz_slot.proofs.Counted.{of_pass_other}
 use Rattle.lz_vault.specs.declared.vault.Stage.{Stage}
 use Rattle.lz_vault.specs.declared.vault.Stage.TheVariants.{Closed}
@@ -69,11 +68,7 @@ others_stay y actor a _ v away = refl
 changed_walked : (y : Yard) (a : ℕ) (e : Event) → is_counting y a e ≡ false → IfSome (word_changed y (actor_at y a) a e) IsWalked
 changed_walked y a Pin not_one = absurd (false≢true (sym not_one))
 changed_walked y a Link not_one = place_walked (actor_at y a).pred
-changed_walked y a (Settle s) not_one = go (is_sure y s)
-  where
-    go : (b : Bool) → IfSome (if b then Some (link_at s) else None) IsWalked
-    go true = tt
-    go false = tt
+changed_walked y a (Settle s) not_one = elim (is_sure y s) as (λ (b : Bool). IfSome (if b then Some (link_at s) else None) IsWalked) [ true ↦ tt | false ↦ tt ]
 changed_walked y a Unlink not_one = place_walked (actor_at y a).pred
 changed_walked y a Answer not_one = go (stays_out (actor_at y a) (pin_of y a)) not_one
   where
@@ -90,7 +85,7 @@ pub line_others : (y : Yard) (a : ℕ) (e : Event) (v : Word) → line_changes y
 line_others y a e v away = on_others y a e v (course y a e) away
 
 -- what an event publishes is published for its actor, or for no pass
-settling_own : (q : ℕ) (stage : Stage) (s : ℕ) → own q (settling stage s) ≡ []
+pub settling_own : (q : ℕ) (stage : Stage) (s : ℕ) → own q (settling stage s) ≡ []
 settling_own q Closed s = refl
 settling_own q _ s = refl
 
@@ -123,15 +118,19 @@ pin_changed y a q e is = let h = on_pin y a q e (course y a e) is in (go (is_cou
     go true one is = one
     go false not_one is = absurd (subst (λ o. IfSome o IsWalked) is (changed_walked y a e not_one))
 
--- and publishes nothing
+-- an event whose row publishes nothing publishes nothing
+pub line_silent : (y : Yard) (a : ℕ) (e : Event) → publishes y (actor_at y a) a e ≡ [] → line_publishes y a e ≡ []
+line_silent y a e none = on (course y a e)
+  where
+    on : (c : Course) → published_on c y (actor_at y a) a e ≡ []
+    on Plays = none
+    on _ = refl
+
+-- as one that counts a pin word up
 pub counting_silent : (y : Yard) (a : ℕ) (e : Event) → is_counting y a e ≡ true → line_publishes y a e ≡ []
-counting_silent y a e is = on (course y a e)
+counting_silent y a e is = line_silent y a e (none e is)
   where
     none : (e : Event) → is_counting y a e ≡ true → publishes y (actor_at y a) a e ≡ []
     none Pin is = refl
     none Answer is = refl
     none e is = absurd (false≢true is)
-
-    on : (c : Course) → published_on c y (actor_at y a) a e ≡ []
-    on Plays = none e is
-    on _ = refl
