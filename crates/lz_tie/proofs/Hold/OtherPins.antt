@@ -1,6 +1,5 @@
 -- Of a yard's copies of pin words an event reads its own actor's alone, but for a load.
-use Rattle.std.proofs.Common.{◌≡◌, ℕ, ◌+◌, Bool, true, false, List, refl, sym, ap, ◌∙◌, subst}
-use Rattle.std.specs.Prelude.{not, ◌&&◌, if◌then◌else◌, Option, Some, None}
+use Rattle.std.proofs.Common.{◌≡◌, ℕ, ◌+◌, Bool, true, false, List, refl, sym, ap, ◌∙◌, subst, not, ◌&&◌, if◌then◌else◌, Option, Some, None}
 use Rattle.lz_slot.specs.Counted.{of_pass}
 use Rattle.lz_allot.specs.Uses.{see_pin}
 use Rattle.lz_list.specs.declared.place.Place.{Place}

@@ -1,7 +1,6 @@
 -- One turn of a pass that has joined the pen: what it asks of the yard, what its note tells, and what it leaves.
-use Rattle.std.proofs.Common.{◌≡◌, ◌≢◌, ⊎_elim, ℕ, suc, ◌≤◌, ◌<◌, Bool, true, false, List, [], ◌++◌, map, length, refl, sym, ap, ◌∙◌, subst, arith, eq-eqb}
+use Rattle.std.proofs.Common.{◌≡◌, ◌≢◌, ⊎_elim, ℕ, suc, ◌≤◌, ◌<◌, Bool, true, false, List, [], ◌++◌, map, length, refl, sym, ap, ◌∙◌, subst, arith, eq-eqb, is_some, if◌then◌else◌, Option, Some, None, IfSome}
 use mathlib.Core.Bool.{false≢true}
-use Rattle.std.specs.Prelude.{is_some, if◌then◌else◌, Option, Some, None, IfSome}
 use Rattle.std.proofs.lemmas.Bool.{not-true}
 use Rattle.lz_slot.proofs.Counted.{of_pass_same, length-set_of_pass}
 use Rattle.lz_disk.specs.Devices.{Device}

@@ -1,9 +1,8 @@
 -- The slot that an event prepares is the one in its actor's hand.
-use Rattle.std.proofs.Common.{◌≡◌, ℕ, Bool, true, false, List, ◌∷◌, refl, ap}
+use Rattle.std.proofs.Common.{◌≡◌, ℕ, Bool, true, false, List, ◌∷◌, refl, ap, ◌&&◌, Option, Some, None, is_some, unwrap_or}
 use mathlib.Core.Bool.{false≢true}
-use Rattle.std.specs.Prelude.{◌&&◌, Option, Some, None, is_some, unwrap_or}
 use Rattle.lz_vault.specs.declared.vault.Stage.{Stage}
-use Rattle.lz_vault.specs.declared.vault.Stage.TheVariants.{Closed, KeyLoose, Keyed, Opening, Open, Closing}
+use Rattle.lz_vault.specs.declared.vault.Stage.TheVariants.{Open}
 use Rattle.lz_list.specs.declared.publishing.Publishing.{Publishing}
 use Rattle.lz_list.specs.declared.publishing.Publishing.TheVariants.{KeyPrepared as key_prepared, LinkPrepared as link_prepared}
 use Rattle.lz_list.specs.Traces.{Trace}
@@ -34,11 +33,7 @@ prepared_hand y a e s is = on (course y a e) refl is
   where
     settles : (stage : Stage) (t : ℕ) → prepared (settling stage t) ≡ Some s → ⊥
     settles Open t is = none_some s is
-    settles Closed t is = none_some s is
-    settles KeyLoose t is = none_some s is
-    settles Keyed t is = none_some s is
-    settles Opening t is = none_some s is
-    settles Closing t is = none_some s is
+    settles _ t is = none_some s is
 
     keyed : (slot : Option ℕ) (c : Bool) → (is_some slot && c) ≡ true → Some (unwrap_or slot 0) ≡ Some s → slot ≡ Some s
     keyed None c needs is = absurd (false≢true needs)
