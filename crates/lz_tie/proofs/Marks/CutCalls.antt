@@ -1,8 +1,5 @@
 -- Where a history shows that a call was cut off, it is one of its pass's own calls that was.
-use Rattle.std.proofs.Common.{◌≡◌, ◌≢◌, ◌⊎◌, inl, inr, ⊎_elim, ℕ, ◌≤◌, Bool, true, false, List, [], ◌∷◌, Some, None, refl, sym, ◌∙◌, subst, eq-eqb}
-use Rattle.std.specs.Prelude.{◌==◌, if◌then◌else◌, Option}
-use Rattle.std.proofs.lemmas.Bool.{eqb-true}
-use mathlib.Core.Bool.{true≢false}
+use Rattle.std.proofs.Common.{◌≡◌, ◌≢◌, ◌⊎◌, inl, inr, ⊎_elim, ℕ, ◌≤◌, Bool, true, false, List, [], ◌∷◌, Some, None, refl, sym, ◌∙◌, subst, eq-eqb, ◌==◌, if◌then◌else◌, Option, eqb-true, true≢false}
 use Rattle.lz_slot.specs.declared.command.Command.{Command}
 use Rattle.lz_slot.specs.declared.history.Cut.{Cut as WhyCut}
 use Rattle.lz_slot.specs.declared.history.Mark.{Mark}

@@ -1,6 +1,5 @@
 -- What notes show is one life: no stop, crash or open stands in it.
-use Rattle.std.proofs.Common.{◌≡◌, ℕ, suc, List, [], ◌∷◌, ◌++◌, refl, ap}
-use Rattle.std.specs.Prelude.{Option, Some, None}
+use Rattle.std.proofs.Common.{◌≡◌, ℕ, suc, List, [], ◌∷◌, ◌++◌, refl, ap, Option, Some, None}
 use Rattle.lz_slot.specs.declared.history.Mark.TheVariants.{Call}
 use Rattle.lz_slot.specs.Histories.{History, Life, lives, with_mark}
 use Rattle.lz_slot.specs.Sets.{Keys}

@@ -1,6 +1,5 @@
 -- The marks of a run are those that its notes show.
-use Rattle.std.proofs.Common.{◌≡◌, ◌≢◌, ⊎_elim, ℕ, zero, suc, ◌≤◌, List, [], ◌∷◌, ◌++◌, length, refl, sym, ap, ◌∙◌, subst, arith, eq-eqb, ne_eqb}
-use Rattle.std.specs.Prelude.{if◌then◌else◌, replicate, Option, Some, None}
+use Rattle.std.proofs.Common.{◌≡◌, ◌≢◌, ⊎_elim, ℕ, zero, suc, ◌≤◌, List, [], ◌∷◌, ◌++◌, length, refl, sym, ap, ◌∙◌, subst, arith, eq-eqb, ne_eqb, if◌then◌else◌, replicate, Option, Some, None}
 use Rattle.std.proofs.lemmas.Bool.{cases_eq}
 use Rattle.std.proofs.lemmas.Option.{same_Some, none-some}
 use Rattle.lz_slot.specs.declared.command.Command.{Command}
@@ -32,8 +31,7 @@ other_number p n ns away = go n.what
   where
     go : (what : What) → number_with p n.by what (calls_in ns) (last_call_number p ns) ≡ last_call_number p ns
     go (Called c format) = ap (λ b. if b then suc (calls_in ns) else last_call_number p ns) (ne_eqb n.by p away)
-    go (Played e o) = refl
-    go (Found q v) = refl
+    go _ = refl
 
 -- the open calls have the numbers that the notes give them
 abbrev HasNumbers : State → List Note → Type 0

@@ -28,13 +28,11 @@ row_leaves N (Has k) Yes S T whole row = row.1
 row_leaves N (Add k) (Full counts) S T whole row = row.2
 row_leaves N (Remove k) (Full counts) S T whole row = absurd row
 row_leaves N (Has k) (Full counts) S T whole row = absurd row
-row_leaves N (Add k) OldFile S T whole row = row
-row_leaves N (Remove k) OldFile S T whole row = row
-row_leaves N (Has k) OldFile S T whole row = row
 row_leaves N c Halted S T whole row = absurd (true≢false whole)
 row_leaves N c Device S T whole row = absurd (true≢false whole)
 row_leaves N _ No S T whole row = row.1
 row_leaves N _ Worn S T whole row = row
+row_leaves N _ OldFile S T whole row = row
 
 -- and so does any set with the same keys
 pub row_same : (N : ℕ) (c : Command) (told : Reply) (S T U : Keys) → cuts_off told ≡ false → PlainRow N c told S T → Same U (after_told c told S) → PlainRow N c told S U
@@ -44,13 +42,11 @@ row_same N (Has k) Yes S T U whole row same = (row.0, same)
 row_same N (Add k) (Full counts) S T U whole row same = (row.0, row.1, same)
 row_same N (Remove k) (Full counts) S T U whole row same = absurd row
 row_same N (Has k) (Full counts) S T U whole row same = absurd row
-row_same N (Add k) OldFile S T U whole row same = same
-row_same N (Remove k) OldFile S T U whole row same = same
-row_same N (Has k) OldFile S T U whole row same = same
 row_same N c Halted S T U whole row same = absurd (true≢false whole)
 row_same N c Device S T U whole row same = absurd (true≢false whole)
 row_same N _ No S T U whole row same = (row.0, same)
 row_same N _ Worn S T U whole row same = same
+row_same N _ OldFile S T U whole row same = same
 
 -- one that was cut off leaves the set with it or without it
 pub row_cut : (N : ℕ) (c : Command) (told : Reply) (S T : Keys) → cuts_off told ≡ true → Same T S ⊎ Same T (after c S) → PlainRow N c told S T
