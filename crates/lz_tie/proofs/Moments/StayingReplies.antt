@@ -1,6 +1,5 @@
 -- A reply that was noted stays over each later hold.
-use Rattle.std.proofs.Common.{◌≡◌, ◌≤◌, ⊎_elim, ℕ, List, [], ◌∷◌, ◌++◌, length, refl, sym, ap, ◌∙◌, subst, append_assoc, arith}
-use Rattle.std.specs.Prelude.{IsTrue}
+use Rattle.std.proofs.Common.{◌≡◌, ◌≤◌, ⊎_elim, ℕ, List, [], ◌∷◌, ◌++◌, length, refl, sym, ap, ◌∙◌, subst, append_assoc, arith, IsTrue}
 use Rattle.lz_disk.specs.Devices.{Device, IsTimely}
 use Rattle.lz_disk.specs.Images.{IsImage}
 use Rattle.lz_vault.specs.Vaults.{LeavesEither}

@@ -1,16 +1,13 @@
 -- The pin words of a run are those that the notes give.
-use Rattle.std.proofs.Common.{◌≡◌, ◌≢◌, ◌⊎◌, inl, inr, ⊎_elim, ℕ, zero, suc, ◌+◌, ◌≤◌, ◌==◌, Bool, true, false, List, [], ◌∷◌, ◌++◌, length, refl, sym, ap, ◌∙◌, subst, arith, eq-eqb, ne_eqb}
-use Rattle.std.specs.Prelude.{replicate, Option, Some, None, if◌then◌else◌, not, ◌||◌}
+use Rattle.std.proofs.Common.{◌≡◌, ◌≢◌, ◌⊎◌, inl, inr, ⊎_elim, ℕ, zero, suc, ◌+◌, ◌≤◌, ◌==◌, Bool, true, false, List, [], ◌∷◌, ◌++◌, length, refl, sym, ap, ◌∙◌, subst, arith, eq-eqb, ne_eqb, replicate, Option, Some, None, if◌then◌else◌, not, ◌||◌}
 use Rattle.std.proofs.lemmas.Bool.{cases_eq, not-true}
 use mathlib.Core.Bool.{false≢true}
 use Rattle.lz_slot.specs.Counted.{of_pass, set_of_pass}
 use Rattle.lz_slot.proofs.Counted.{of_pass_same, of_pass_other, length-set_of_pass}
 use Rattle.lz_disk.specs.Images.{Medium}
 use Rattle.lz_allot.specs.Uses.{is_outside}
-use Rattle.lz_list.specs.declared.place.Place.{Place}
-use Rattle.lz_list.specs.declared.place.Place.TheVariants.{Bucket, Node}
 use Rattle.lz_list.specs.declared.word.Word.TheVariants.{Pin as pin_word}
-use Rattle.lz_list.specs.Words.{Words, get, set, redirect}
+use Rattle.lz_list.specs.Words.{Words, get, set}
 use Rattle.lz_machine.specs.declared.course.Course.{Course}
 use Rattle.lz_machine.specs.declared.course.Course.TheVariants.{Refused, Plays}
 use Rattle.lz_machine.specs.declared.actor.Actor.{Actor}
@@ -25,6 +22,7 @@ use Rattle.lz_machine.proofs.Runs.Course.{answer_plays}
 use Rattle.lz_machine.proofs.Theorem.Reached.{reached_sound, up_at}
 use Rattle.lz_machine.proofs.Frames.OneActor.{caller_range}
 use Rattle.lz_machine.proofs.Frames.Outside.{out_even, answered_pin, answered_other, outside_even}
+use Rattle.lz_machine.proofs.Steps.Unlink.{redirect_pins}
 use Rattle.lz_board.specs.declared.view.What.{What}
 use Rattle.lz_board.specs.declared.view.What.TheVariants.{Played, Found}
 use Rattle.lz_board.specs.declared.view.Note.{Note}
@@ -43,10 +41,6 @@ abbrev pub is_counting : Yard → ℕ → Event → Bool
 is_counting y a Pin = true
 is_counting y a Answer = not (stays_out (actor_at y a) (pin_of y a))
 is_counting y a e = false
-
-redirect_pins : (w : Words) (place : Place) (next : ℕ) → (redirect w place next).pins ≡ w.pins
-redirect_pins w (Bucket b) next = refl
-redirect_pins w (Node s) next = refl
 
 if_pins : (b : Bool) (x y : Words) (ps : List ℕ) → x.pins ≡ ps → y.pins ≡ ps → (if b then x else y).pins ≡ ps
 if_pins true x y ps one other = one

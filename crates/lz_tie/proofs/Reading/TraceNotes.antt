@@ -1,6 +1,5 @@
 -- What notes tell of the run that they are read as.
-use Rattle.std.proofs.Common.{◌≡◌, ℕ, zero, suc, List, [], ◌∷◌, ◌++◌, refl, sym, ap, ◌∙◌}
-use Rattle.std.specs.Prelude.{replicate, Option, Some, None}
+use Rattle.std.proofs.Common.{◌≡◌, ℕ, zero, suc, List, [], ◌∷◌, ◌++◌, refl, sym, ap, ◌∙◌, replicate, Option, Some, None}
 use Rattle.lz_list.specs.Traces.{Trace}
 use Rattle.lz_machine.specs.Runs.{State, Up, Down, Service, Caller, Transition, Calls, Turn, Fails, Looks, Point, run, caller_at, trace_after, turn_publishes}
 use Rattle.lz_board.specs.declared.view.What.{What}

@@ -1,6 +1,5 @@
 -- The trace at which a pass of a run went in is that before the last change of its pin word in the notes.
-use Rattle.std.proofs.Common.{◌≡◌, ◌≢◌, ◌⊎◌, inl, inr, ⊎_elim, ℕ, zero, suc, ◌+◌, ◌%◌, ◌≤◌, ◌==◌, Bool, true, false, List, [], ◌∷◌, ◌++◌, refl, sym, ap, ◌∙◌, subst, arith, eq-eqb, ne_eqb}
-use Rattle.std.specs.Prelude.{replicate, if◌then◌else◌}
+use Rattle.std.proofs.Common.{◌≡◌, ◌≢◌, ◌⊎◌, inl, inr, ⊎_elim, ℕ, zero, suc, ◌+◌, ◌%◌, ◌≤◌, ◌==◌, Bool, true, false, List, [], ◌∷◌, ◌++◌, refl, sym, ap, ◌∙◌, subst, arith, eq-eqb, ne_eqb, replicate, if◌then◌else◌}
 use Rattle.std.proofs.lemmas.Bool.{cases_eq}
 use Rattle.lz_disk.specs.Images.{Medium}
 use Rattle.lz_list.specs.Traces.{Trace}
@@ -25,11 +24,7 @@ use Rattle.lz_tie.proofs.Reading.PinWords.{still_pin, pin_in_state, looks_pins, 
 played_pin : (e : Event) (o : Outcome) (pin : ℕ) → (pin_after_played e o pin ≡ pin) ⊎ (pin_after_played e o pin ≡ suc pin)
 played_pin Pin Done pin = inr refl
 played_pin Pin o pin = inl refl
-played_pin Answer Done pin = go (pin % 2 == 0)
-  where
-    go : (b : Bool) → ((if b then pin else suc pin) ≡ pin) ⊎ ((if b then pin else suc pin) ≡ suc pin)
-    go true = inl refl
-    go false = inr refl
+played_pin Answer Done pin = elim (pin % 2 == 0) as (λ (b : Bool). ((if b then pin else suc pin) ≡ pin) ⊎ ((if b then pin else suc pin) ≡ suc pin)) [ true ↦ inl refl | false ↦ inr refl ]
 played_pin Answer o pin = inl refl
 played_pin e o pin = inl (still_pin e o pin refl)
 
