@@ -1,5 +1,5 @@
 -- A call that a caller counts goes on by each of its moves.
-use Rattle.std.proofs.Common.{◌≡◌, ◌≢◌, ℕ, zero, suc, ◌==◌, ◌+◌, nat_lt, Bool, true, false, List, [], ◌∷◌, length, refl, sym, ap, ◌∙◌, subst}
+use Rattle.std.proofs.Common.{◌≡◌, ◌≢◌, ℕ, zero, suc, ◌==◌, Bool, true, false, List, [], ◌∷◌, refl, sym, ap, ◌∙◌, subst}
 use mathlib.Core.Bool.{false≢true}
 use Rattle.std.specs.Prelude.{if◌then◌else◌, is_some, slice_index_or, Option, Some, None}
 use Rattle.lz_slot.specs.declared.command.Command.{Command}
@@ -20,20 +20,21 @@ use Rattle.lz_flush.specs.Settling.{may_answer}
 use Rattle.lz_machine.specs.declared.event.Event.{Event}
 use Rattle.lz_machine.specs.declared.event.Event.TheVariants.{Hop, Check, Invoke, Answer}
 use Rattle.lz_machine.specs.declared.event.Outcome.{Outcome}
-use Rattle.lz_machine.specs.declared.event.Outcome.TheVariants.{Value, Slot, NoSlot, Taken, True, False, Early, Worn, OldFile, Fault, Dead}
+use Rattle.lz_machine.specs.declared.event.Outcome.TheVariants.{Value}
 use Rattle.lz_machine.specs.declared.event.Reply.{Reply}
 use Rattle.lz_machine.specs.declared.event.Reply.TheVariants.{Yes, No, Halted, OldFile as SaysOldFile}
 use Rattle.lz_machine.specs.declared.caller.Sequence.{Sequence}
 use Rattle.lz_machine.specs.declared.caller.Sequence.TheVariants.{Pinning, Resting, Writing, Adding, Removing, Releasing, Halting}
 use Rattle.lz_machine.specs.declared.caller.Progress.{Progress}
-use Rattle.lz_machine.specs.declared.caller.Progress.TheVariants.{Playing, LoadsHalt, Walking, Reserving, SeeingPins, Claiming, Checking, Answering}
+use Rattle.lz_machine.specs.declared.caller.Progress.TheVariants.{Playing, LoadsHalt, Walking, Answering}
 use Rattle.lz_machine.specs.Yards.{Shape, IsInside}
-use Rattle.lz_machine.specs.Calls.{begun, event_at, events_of, first_progress, goes_on, after_event, follows, after_see_pin, changes, hops_on, walked, rests, halt_loaded, progress_after}
+use Rattle.lz_machine.specs.Calls.{begun, event_at, events_of, first_progress, goes_on, hops_on, walked, rests, halt_loaded, progress_after}
 use Rattle.lz_machine.specs.CallersSound.{is_before_pin, side_of}
 use Rattle.lz_machine.specs.Laws.{hop_of}
 use Rattle.lz_machine.specs.Orders.{Calling, MayTake, shape_with}
 use Rattle.lz_machine.specs.Runs.{mark_of, mark_of_turn, reply_at}
 use Rattle.lz_machine.specs.Table.{is_old}
+use Rattle.lz_machine.proofs.Runs.FlowChart.{Edge, again, past, begins as begins_walk, hops, next_edge}
 use Rattle.lz_machine.proofs.Theorem.Readiness.{is_invoke}
 use Rattle.lz_caller.specs.Begun.{begun_after}
 use Rattle.lz_caller.proofs.BegunCall.{begins}
@@ -105,62 +106,11 @@ goes_on_with shape c (Playing sequence i) = no_invoke_in (events_of c sequence) 
 goes_on_with shape c _ = refl
 
 -- A walk begins with its first look.
-module _ (z : Sizes) (walkable : IsWalkable z) (shape : Shape) (c : Command) (P0 Q : Trace) where
-  changes_walk : (d : Command) (aim curr : Option ℕ) → OnWalk z c (changes d aim curr) P0 Q
-  changes_walk (Has k) aim curr = tt
-  changes_walk (Add k) None curr = tt
-  changes_walk (Add k) (Some s) curr = tt
-  changes_walk (Remove k) aim None = tt
-  changes_walk (Remove k) aim (Some s) = tt
-
+module _ (z : Sizes) (walkable : IsWalkable z) (c : Command) (P0 Q : Trace) where
   on_walk : (sequence : Sequence) → OnWalk z c (goes_on sequence) P0 Q
   on_walk (Writing s) = first_look z walkable (key_of c) P0 Q
   on_walk (Releasing aim) = first_look z walkable (key_of c) P0 Q
-  on_walk Pinning = tt
-  on_walk (Resting s reply) = tt
-  on_walk (Adding s) = tt
-  on_walk (Removing s) = tt
-  on_walk (Halting reply) = tt
-
-  sequence_walk : (sequence : Sequence) (i : ℕ) → OnWalk z c (after_event c sequence i) P0 Q
-  sequence_walk sequence i = go (nat_lt (i + 1) (length (events_of c sequence)))
-    where
-      go : (more : Bool) → OnWalk z c (if more then Playing sequence (i + 1) else goes_on sequence) P0 Q
-      go true = tt
-      go false = on_walk sequence
-
-  pin_walk : (p : ℕ) → OnWalk z c (after_see_pin shape p) P0 Q
-  pin_walk p = go (nat_lt p shape.passes)
-    where
-      go : (more : Bool) → OnWalk z c (if more then SeeingPins (p + 1) else Reserving true) P0 Q
-      go true = tt
-      go false = tt
-
-  follows_walk : (at : Progress) (o : Outcome) → hop_of (event_at shape c at) ≡ None → OnWalk z c (follows shape c at o) P0 Q
-  follows_walk (Playing sequence i) Early none = tt
-  follows_walk (Playing sequence i) o none = sequence_walk sequence i
-  follows_walk LoadsHalt o none = absurd (false≢true (sym (ap is_some none)))
-  follows_walk (Walking aim look) o none = absurd (false≢true (sym (ap is_some none)))
-  follows_walk (Reserving false) (Slot s) none = tt
-  follows_walk (Reserving true) (Slot s) none = tt
-  follows_walk (Reserving false) (NoSlot counts) none = tt
-  follows_walk (Reserving true) (NoSlot counts) none = tt
-  follows_walk (Reserving false) o none = tt
-  follows_walk (Reserving true) o none = tt
-  follows_walk (SeeingPins p) o none = pin_walk p
-  follows_walk (Claiming aim pred curr) Taken none = tt
-  follows_walk (Claiming aim pred curr) o none = tt
-  follows_walk (Checking aim curr) True none = changes_walk c aim curr
-  follows_walk (Checking aim curr) False none = tt
-  follows_walk (Checking aim curr) o none = tt
-  follows_walk (Answering reply) o none = tt
-
-  next_walk : (at : Progress) (o : Outcome) → hop_of (event_at shape c at) ≡ None → OnWalk z c (progress_after shape c at o) P0 Q
-  next_walk at Fault none = tt
-  next_walk at Dead none = tt
-  next_walk at Worn none = tt
-  next_walk at OldFile none = tt
-  next_walk at o none = follows_walk at o none
+  on_walk _ = tt
 
   rests_walk : (s : ℕ) (need : Need) (reply : Reply) → OnWalk z c (rests s need reply) P0 Q
   rests_walk s Now reply = tt
@@ -190,6 +140,18 @@ module _ (z : Sizes) (walkable : IsWalkable z) (shape : Shape) (c : Command) (P0
       go true = tt
       go false = first_look z walkable (key_of c) P0 Q
 
+-- where its event is no load
+still_walk : (z : Sizes) (shape : Shape) (c : Command) (P0 Q : Trace) (at : Progress) → hop_of (event_at shape c at) ≡ None → OnWalk z c at P0 Q
+still_walk z shape c P0 Q (Walking aim look) none = absurd (false≢true (sym (ap is_some none)))
+still_walk z shape c P0 Q _ none = tt
+
+next_walk : {shape : Shape} {c : Command} {at : Progress} {o : Outcome} {next : Progress} → Edge shape c at o next → (z : Sizes) → IsWalkable z → (P0 Q : Trace) → hop_of (event_at shape c at) ≡ None → OnWalk z c next P0 Q
+next_walk {shape = shape} (again c at o) z walkable P0 Q none = still_walk z shape c P0 Q at none
+next_walk (past c sequence i o) z walkable P0 Q none = on_walk z walkable c P0 Q sequence
+next_walk (begins_walk c value) z walkable P0 Q none = absurd (false≢true (sym (ap is_some none)))
+next_walk (hops c aim look more value) z walkable P0 Q none = absurd (false≢true (sym (ap is_some none)))
+next_walk _ z walkable P0 Q none = tt
+
 -- The hold of its next event.
 module _ (b : BoardId) (c : Command) (format : Format) (before : Part) (k : Calling) (h : Part) (C : Counts b c format before k h) where
   on_board : IsCallerOn b c k
@@ -212,7 +174,7 @@ module _ (b : BoardId) (c : Command) (format : Format) (before : Part) (k : Call
         buckets = C.buckets;
         passes = C.passes;
         under = caller_turned b c format before k on_board h C.under b.opened A.found is A.event t.outcome t.published.value h' A.holds A.turned A.turn.load going;
-        walk = next_walk b.sizes walkable (shape_with k) k.command h'.begun h'.known k.progress t.outcome no_load;
+        walk = next_walk (next_edge (shape_with k) k.command k.progress t.outcome) b.sizes walkable h'.begun h'.known no_load;
       })
 
   pub no_end_shows : (was is : List Note) (t : Turn) (h' : Part) → WentOn b was is k t h h' → reply_at k.progress ≡ None → Shows (shape_of_sizes b.sizes) was is []
@@ -274,14 +236,14 @@ record Takes (z : Sizes) (shape : Shape) (c : Command) (at : Progress) (P0 Q : T
 
 load_takes : (z : Sizes) (walkable : IsWalkable z) (shape : Shape) → shape.buckets ≡ z.buckets → (c : Command) (at : Progress) (h : Part) → h.sizes ≡ z → IsInside h.pin → OnWalk z c at h.begun h.known → (w : Word) → event_at shape c at ≡ Hop w
     → (seen : Trace) → IsShownTo seen h → (value : ℕ) → value ≡ word_after z.buckets seen w → Takes z shape c at h.begun seen value
-load_takes z walkable shape same c LoadsHalt h sized inside walk w event seen shown value is = record { takes = tt; walk = halt_walk z walkable shape c h.begun seen value }
+load_takes z walkable shape same c LoadsHalt h sized inside walk w event seen shown value is = record { takes = tt; walk = halt_walk z walkable c h.begun seen value }
 load_takes z walkable shape same c (Walking aim look) h sized inside walk w event seen shown value is =
     let hop = hop_shown z walkable h sized inside (key_of c) look seen walk shown in
     let found : word_after z.buckets seen (wants z.buckets (key_of c) look) ≡ value =
     ap (λ (n : ℕ). word_after z.buckets seen (wants n (key_of c) look)) (sym same) ∙ ap (value_in z.buckets seen) (ap hop_of event) ∙ sym is in
     record {
       takes = subst (LeadsOn look) found hop.leads;
-      walk = hop_walk z walkable shape c h.begun seen aim (hopped shape.buckets (key_of c) look value)
+      walk = hop_walk z walkable c h.begun seen aim (hopped shape.buckets (key_of c) look value)
           (subst (λ (q : ℕ × ℕ). Walked z (key_of c) h.begun seen (hopped q.0 (key_of c) look q.1)) (λ i. (sym same i, found i)) hop.walked);
     }
 load_takes z walkable shape same c at h sized inside walk w event seen shown value is = absurd (load_place shape c at w event)
