@@ -1,5 +1,5 @@
 -- A walker's loads: what it knows goes on as the trace does, and each load takes it further.
-use Rattle.std.proofs.Common.{◌≡◌, ◌≢◌, inl, inr, ℕ, zero, suc, ◌+◌, ◌-◌, ◌*◌, ◌<◌, ◌≤◌, ◌^◌, nat_lt, if◌then◌else◌, Bool, true, false, [], ◌∷◌, ◌++◌, Some, refl, sym, ap, ◌∙◌, subst, append_assoc, arith}
+use Rattle.std.proofs.Common.{◌≡◌, inl, inr, ℕ, zero, suc, ◌+◌, ◌-◌, ◌*◌, ◌<◌, ◌≤◌, nat_lt, if◌then◌else◌, Bool, true, false, [], ◌∷◌, ◌++◌, Some, refl, sym, ap, ◌∙◌, subst, append_assoc, arith}
 use Rattle.std.proofs.lemmas.Bool.Decides.{nat_tests, eqb_tells}
 use Rattle.lz_slot.specs.Limits.{most_slots}
 use Rattle.lz_list.specs.declared.flags.Flags.{Flags}
@@ -10,23 +10,21 @@ use Rattle.lz_list.specs.declared.word.Word.{Word}
 use Rattle.lz_list.specs.declared.word.Word.TheVariants.{Head, Link}
 use Rattle.lz_list.specs.declared.walk.Look.{Look}
 use Rattle.lz_list.specs.declared.walk.Look.TheVariants.{AtHead, AtKey, AtMet, AtBelow}
-use Rattle.lz_list.specs.declared.walk.Met.{Met}
 use Rattle.lz_list.specs.declared.walk.Met.TheVariants.{Absent, Unmarked, Marked}
-use Rattle.lz_list.specs.Words.{flags_of, next_of, place_number}
+use Rattle.lz_list.specs.Words.{next_of, place_number}
 use Rattle.lz_list.specs.Walks.{Hopped, More, End, wants, hopped, reaches, met}
 use Rattle.lz_list.specs.Hops.{LeadsOn}
 use Rattle.lz_list.specs.Traces.{Trace, Begins, Lawful, Adjacent, on, chain, chain_of, bucket_of, key_word, head_word, node_next, next_link, rank_at, flags_after, word_after}
 use Rattle.lz_list.specs.Pinned.{Stood, IsQuiet}
-use Rattle.lz_list.proofs.Chains.PlaceRank.{on_start, adjacent_on, adjacent_next}
-use Rattle.lz_list.proofs.Traces.Absence.{begins_itself}
-use Rattle.lz_list.proofs.Traces.Hindsight.{once_from, lawful_begins, hindsight, next_stood, key_since}
+use Rattle.lz_list.proofs.Chains.PlaceRank.{adjacent_on, adjacent_next}
+use Rattle.lz_list.proofs.Traces.Hindsight.{lawful_begins, key_since}
 use Rattle.lz_list.proofs.Chains.TraceChain.{words_show_chain}
 use Rattle.lz_list.proofs.Searches.KeySearch.{next_rank}
-use Rattle.lz_list.proofs.Tables.PackedLink.{next_of_link, mark_of_link, added_of_link, removed_of_link, small_next}
 use Rattle.lz_list.proofs.Chains.ChainNode.{bucket_low}
 use Rattle.lz_machine.specs.Stands.{WasBetween}
 use Rattle.lz_machine.specs.CallersSound.{IsLooking}
-use Rattle.lz_machine.proofs.Frames.Ranges.{stood_range, head_range}
+use Rattle.lz_machine.proofs.Frames.Ranges.{stood_range}
+use Rattle.lz_machine.proofs.Frames.OneLoad as load
 use Rattle.lz_machine.proofs.Steps.Walk.{once_some}
 use Rattle.lz_machine.proofs.Frames.Publishing.{rank_stays, pred_stood, looking_stays}
 use Rattle.lz_board.specs.declared.view.Sizes.{Sizes}
@@ -74,16 +72,11 @@ module _ (z : Sizes) (walkable : IsWalkable z) (P0 P : Trace) (law : Lawful z.bu
   abbrev b : ℕ
   b = bucket_of z.buckets k
 
-  -- a place that stood on the chain leads to the end, or to a slot that stood there too
   leads : (x : ℕ) → Stood buckets b P0 P x → next_link buckets b P x ≤ slots
-  leads x stood = go (next_link buckets b P x) refl
-    where
-      go : (n : ℕ) → next_link buckets b P x ≡ n → n ≤ slots
-      go zero is = omega arith
-      go (suc s) is = stood_range buckets slots P0 P b s law (subst (λ (n : ℕ). Stood buckets b P0 P n) is (next_stood buckets slots P0 b x (next_link buckets b P x) P (hindsight buckets slots P0 b x P law quiet stood) (λ none. grind (arith, is, none))))
+  leads = load.leads buckets slots walkable.few P0 P law quiet begins k
 
   there_since : (pred : Place) (s : ℕ) → WasBetween buckets k pred (suc s) P0 P → Stood buckets b P0 P (suc s)
-  there_since pred s h = next_stood buckets slots P0 b (place_number pred) (suc s) P h.were (λ none. grind arith)
+  there_since = load.there_since buckets slots walkable.few P0 P law quiet begins k
 
   -- the words that a walk wants are the table's
   pub wants_shared : (look : Look) → IsLooking buckets k P0 P look → IsShared z (wants buckets k look)
@@ -92,66 +85,27 @@ module _ (z : Sizes) (walkable : IsWalkable z) (P0 P : Trace) (law : Lawful z.bu
   wants_shared (AtMet pred s) h = stood_range buckets slots P0 P b s law (there_since pred s h.0)
   wants_shared (AtBelow s) h = stood_range buckets slots P0 P b s law h.stood
 
-  head_stood : Stood buckets b P0 P 0
-  head_stood = once_from P0 P P (λ R. on 0 (chain buckets b R) 0 ≡ true) begins (begins_itself P) (on_start 0 (chain buckets b P))
-
   head_next : next_of (word_after buckets P (Head b)) ≡ head_word buckets b P
-  head_next = small_next (head_word buckets b P) (omega (arith, head_range buckets slots P b law, walkable.few))
-
-  node_small : (s : ℕ) → Stood buckets b P0 P (suc s) → node_next buckets s P < 2 ^ 32
-  node_small s stood = omega (arith, leads (suc s) stood, walkable.few)
+  head_next = load.head_next buckets slots walkable.few P0 P law quiet begins k
 
   link_next : (s : ℕ) → Stood buckets b P0 P (suc s) → next_of (word_after buckets P (Link s)) ≡ node_next buckets s P
-  link_next s stood = next_of_link (node_next buckets s P) (node_small s stood) (flags_after s P)
-
-  link_flags : (s : ℕ) → Stood buckets b P0 P (suc s) → flags_of (word_after buckets P (Link s)) ≡ flags_after s P
-  link_flags s stood =
-      let m = mark_of_link (node_next buckets s P) (node_small s stood) (flags_after s P) in
-      let a = added_of_link (node_next buckets s P) (node_small s stood) (flags_after s P) in
-      let r = removed_of_link (node_next buckets s P) (node_small s stood) (flags_after s P) in
-      (λ i. record { mark = m i; add_settled = a i; remove_settled = r i })
+  link_next = load.link_next buckets slots walkable.few P0 P law quiet begins k
 
   -- the links by which it goes on lead to slots
   pub leads_on : (look : Look) → IsLooking buckets k P0 P look → LeadsOn look (word_after buckets P (wants buckets k look))
-  leads_on AtHead h = subst (λ (n : ℕ). n ≤ most_slots) (sym head_next) (omega (arith, leads 0 head_stood, walkable.few))
+  leads_on AtHead h = subst (λ (n : ℕ). n ≤ most_slots) (sym head_next) (omega (arith, leads 0 (load.head_stood buckets slots walkable.few P0 P law quiet begins k), walkable.few))
   leads_on (AtBelow s) h = subst (λ (n : ℕ). n ≤ most_slots) (sym (link_next s h.stood)) (omega (arith, leads (suc s) h.stood, walkable.few))
   leads_on (AtKey pred s) h = tt
   leads_on (AtMet pred s) h = tt
 
-  -- along a next link
-  reached : (pred : Place) (n : ℕ) → WasBetween buckets k pred n P0 P → GoneOn buckets k P0 P (reaches pred n)
-  reached pred zero h = (h, inl refl)
-  reached pred (suc s) h = h
-
-  -- to a node with this key
-  compared : (pred : Place) (s word : ℕ) → WasBetween buckets k pred (suc s) P0 P → key_word s P ≡ word → GoneOn buckets k P0 P (hopped buckets k (AtKey pred s) word)
-  compared pred s word h is = elim (eqb_tells word k) [
-    | inl same ↦ rw same.0 (h, is ∙ same.1)
-    | inr other ↦ rw other.0 (go (nat_lt word k) refl other.1)
-  ]
-    where
-      go : (below : Bool) → nat_lt word k ≡ below → word ≢ k → GoneOn buckets k P0 P (if below then More (AtBelow s) else End pred (Some s) Absent)
-      go true lt other = record { stood = there_since pred s h; low = grind (arith, nat_tests, lt, is) }
-      go false ge other = (h, inr (grind (arith, nat_tests, ge, other, is)))
-
-  -- at the key's node
-  rested : (pred : Place) (s : ℕ) (flags : Flags) → WasBetween buckets k pred (suc s) P0 P → key_word s P ≡ k → flags ≡ flags_after s P → Ended buckets k P0 P pred (Some s) (met s flags)
-  rested pred s flags h key is = go flags.mark refl
-    where
-      go : (mark : Bool) → flags.mark ≡ mark → Ended buckets k P0 P pred (Some s) (met s flags)
-      go true mark =
-          let m : met s flags ≡ Marked s flags = rw mark refl in
-          subst (λ (q : Met). Ended buckets k P0 P pred (Some s) q) (sym m) (refl, h, record { stood = there_since pred s h; key = key; shown = is; marked = mark })
-      go false mark =
-          let m : met s flags ≡ Unmarked s flags = rw mark refl in
-          subst (λ (q : Met). Ended buckets k P0 P pred (Some s) q) (sym m) (refl, h, record { stood = there_since pred s h; key = key; shown = is; marked = mark })
-
   -- what a walk knows after the load of the word that it wants
   pub hop : (look : Look) → IsLooking buckets k P0 P look → GoneOn buckets k P0 P (hopped buckets k look (word_after buckets P (wants buckets k look)))
-  hop AtHead h = subst (λ (n : ℕ). GoneOn buckets k P0 P (reaches (Bucket b) n)) (sym head_next) (reached (Bucket b) (head_word buckets b P) (record { bucket = refl; low = omega arith; were = hindsight buckets slots P0 b 0 P law quiet head_stood }))
-  hop (AtKey pred s) h = compared pred s (key_word s P) h refl
-  hop (AtMet pred s) h = rested pred s (flags_of (word_after buckets P (Link s))) h.0 h.1 (link_flags s (there_since pred s h.0))
-  hop (AtBelow s) h = subst (λ (n : ℕ). GoneOn buckets k P0 P (reaches (Node s) n)) (sym (link_next s h.stood)) (reached (Node s) (node_next buckets s P) (record { bucket = tt; low = h.low; were = hindsight buckets slots P0 b (suc s) P law quiet h.stood }))
+  hop look h = load.loaded buckets slots walkable.few P0 P law quiet begins k (GoneOn buckets k P0 P) (λ next on. on) (λ pred curr between high. (between, high)) met_node look h
+    where
+      met_node : (pred : Place) (s : ℕ) (flags : Flags) → WasBetween buckets k pred (suc s) P0 P → key_word s P ≡ k → flags ≡ flags_after s P → (mark : Bool) → flags.mark ≡ mark
+          → GoneOn buckets k P0 P (End pred (Some s) (if mark then Marked s flags else Unmarked s flags))
+      met_node pred s flags h key shown true mark = (refl, h, record { stood = there_since pred s h; key = key; shown = shown; marked = mark })
+      met_node pred s flags h key shown false mark = (refl, h, record { stood = there_since pred s h; key = key; shown = shown; marked = mark })
 
   -- keys rise along a walk
   rises : (pred : Place) (s : ℕ) → WasBetween buckets k pred (suc s) P0 P → rank_at (λ t. key_word t P) (place_number pred) ≤ key_word s P
