@@ -11,7 +11,7 @@ use Rattle.lz_slot.specs.Sets.{Keys}
 use Rattle.lz_slot.specs.declared.slot.SlotRead.{SlotRead}
 use Rattle.lz_slot.specs.declared.slot.SlotRead.TheVariants as read
 use Rattle.lz_judge.specs.declared.finding.Finding.{Finding}
-use Rattle.lz_judge.specs.declared.finding.Finding.TheVariants.{Key, BadKey}
+use Rattle.lz_judge.specs.declared.finding.Finding.TheVariants.{Key}
 use Rattle.lz_judge.specs.Surveys.{IsFinding, IsFirst, finding_key, found_keys, is_sound, open_slot, open_slots, slot_of}
 use Rattle.lz_judge.specs.Renewals.{AreHeld, IsFirstOutside, IsLowestOutside, IsWithin}
 use Rattle.lz_judge.proofs.Surveys.SlotFinding.{first_of, found_below, same_member, sound_where}

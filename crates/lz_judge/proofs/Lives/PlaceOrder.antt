@@ -50,18 +50,18 @@ above_head k (e ∷ es) all q m is = ⊎_elim
     is_less : (a b : ℕ) → nat_cmp a b ≡ Less → a < b
     is_less a b less = grind (arith, nat_tests)
 
+at_same : (a b : ℕ) → a ≡ b → is_at (nat_cmp a) b ≡ true
+at_same a b same = grind (arith, nat_tests)
+
+at_apart : (a b : ℕ) → a ≢ b → is_at (nat_cmp a) b ≡ false
+at_apart a b apart = grind (arith, nat_tests)
+
 pub lookup_among : (es : List (ℕ × Listed)) (p : ℕ) (l : Listed) → lookup (is_at (nat_cmp p)) es ≡ Some l → Among (p, l) es
 lookup_among [] p l is = absurd (cc)
 lookup_among (e ∷ es) p l is = ⊎_elim
     (λ same. inl (let here : is_at (nat_cmp p) e.0 ≡ true = at_same p e.0 same in let found : e.1 ≡ l = same_Some _ _ (rw here at is) in (λ i. (sym same i, found i))))
     (λ apart. inr (lookup_among es p l (let off : is_at (nat_cmp p) e.0 ≡ false = at_apart p e.0 apart in rw off at is)))
     (cases_eq p e.0)
-  where
-    at_same : (a b : ℕ) → a ≡ b → is_at (nat_cmp a) b ≡ true
-    at_same a b same = grind (arith, nat_tests)
-
-    at_apart : (a b : ℕ) → a ≢ b → is_at (nat_cmp a) b ≡ false
-    at_apart a b apart = grind (arith, nat_tests)
 
 pub among_lookup : (es : List (ℕ × Listed)) (p : ℕ) (l : Listed) → IsStrictlySortedBy nat_cmp (keys_of es) → Among (p, l) es → lookup (is_at (nat_cmp p)) es ≡ Some l
 among_lookup [] p l sorted is = absurd is
@@ -72,15 +72,9 @@ among_lookup (e ∷ es) p l sorted is = ⊎_elim
     rw on (ap (λ (x : ℕ × Listed). Some x.1) here))
     (λ there.
     let above = above_head e.0 es (sorted_head nat_cmp e.0 (keys_of es) sorted) p l there in
-    let off : is_at (nat_cmp p) e.0 ≡ false = at_above p e.0 above in
+    let off : is_at (nat_cmp p) e.0 ≡ false = at_apart p e.0 (λ same. absurd (omega (arith, above, same))) in
     rw off (among_lookup es p l (sorted_tail nat_cmp e.0 (keys_of es) sorted) there))
     is
-  where
-    at_same : (a b : ℕ) → a ≡ b → is_at (nat_cmp a) b ≡ true
-    at_same a b same = grind (arith, nat_tests)
-
-    at_above : (a b : ℕ) → b < a → is_at (nat_cmp a) b ≡ false
-    at_above a b above = grind (arith, nat_tests)
 
 -- by a map's order the calls rise
 pub rises : (places : BTreeMap ℕ ℕ) (es : List (ℕ × Listed)) → IsStrictlySortedBy nat_cmp (keys_of es) → ((p : ℕ) (l : Listed) → Among (p, l) es → IsAt places l.call p) → Rises places (values_of es)
