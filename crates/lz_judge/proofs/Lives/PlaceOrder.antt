@@ -110,13 +110,7 @@ module _ (places : BTreeMap ℕ ℕ) where
 
   -- a call below those after it is none of them
   not_behind : (l : Listed) (calls : List Listed) (i : ℕ) → HavePlaces (l ∷ calls) → Rises places (l ∷ calls) → l.call ≡ i → IsListed i (calls_of calls) → ⊥
-  not_behind l calls i have rise same is =
-      let (m, at, same') = listed_among calls i is in
-      let (p, here) = have l (inl refl) in
-      let (q, there) = have m (inr at) in
-      let lt = rise.0 m p q at here there in
-      let e = same_Some p q (sym here ∙ ap (tree.get nat_cmp places) (same ∙ sym same') ∙ there) in
-      omega (arith, lt, e)
+  not_behind l calls i have rise same is = grind (arith, nat_tests, listed_among, same_Some)
 
   pub once : (calls : List Listed) (i : ℕ) → HavePlaces calls → Rises places calls → count_of i (calls_of calls) ≤ 1
   once [] i have rise = omega arith

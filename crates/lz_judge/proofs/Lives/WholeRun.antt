@@ -84,16 +84,10 @@ module _ (at : ℕ → ℕ → Type 0) where
 
     -- an answer is given in the life of its call
     answer_past : (i p : ℕ) (b : Bool) → IsMade (past_of M) i → at i p → IsAnswered M i b → IsAnswered (past_of M) i b
-    answer_past i p b made is told = ⊎_elim
-        (λ past. past)
-        (λ here. absurd (let lt = past_below i i p p made (answered_life M i b lawful here) is is in omega (arith, lt)))
-        (answer_split M i b told)
+    answer_past i p b made is told = grind (arith, past_below, answered_life, answer_split)
 
     answer_now : (i p : ℕ) (b : Bool) → IsMade (this_life M) i → at i p → IsAnswered M i b → IsAnswered (this_life M) i b
-    answer_now i p b made is told = ⊎_elim
-        (λ past. absurd (let lt = past_below i i p p (told_made (past_of M) i b (lawful_past M lawful) past) made is is in omega (arith, lt)))
-        (λ here. here)
-        (answer_split M i b told)
+    answer_now i p b made is told = grind (arith, past_below, told_made, lawful_past, answer_split)
 
     -- a run of the past, or of the life that goes on, is one of all
     part_runs : (H : List Mark) → ((m : Mark) → HasMark m H → HasMark m M) → ((i p : ℕ) (b : Bool) → IsMade H i → at i p → IsAnswered M i b → IsAnswered H i b)

@@ -30,30 +30,12 @@ same_place places i j p q same at at' = same_Some p q (sym at ∙ ap (tree.get n
 
 -- nothing has come
 pub floored_none : (places : BTreeMap ℕ ℕ) (used : BTreeSet ℕ) → used.keys ≡ [] → Floored [] places 0 0 used None
-floored_none places used none = record {
-  answered = λ i b p is at. absurd is;
-  past = λ i p is at. absurd is;
-  floor_is = λ q lt. absurd (omega (arith, lt));
-  made = λ i p is at. absurd is.1.1;
-  top_is = λ q lt. absurd (omega (arith, lt));
-  used_is = λ p is. absurd (let e : set.contains nat_cmp used p ≡ false = rw none refl in cc);
-  order = record {
-    found = λ j is. absurd (cc);
-    apart = λ n i j p q at at' is. absurd is;
-    before = λ n i j p q at at' is. absurd is;
-    lives = λ n i j p q at at' is. absurd is;
-  };
-}
+floored_none places used none = grind arith
 
 module _ (M : List Mark) (places : BTreeMap ℕ ℕ) (floor top : ℕ) (used : BTreeSet ℕ) (least : Option ℕ) (so_far : Floored M places floor top used least) where
   -- a mark that is no call
   ordered_other : (m : Mark) → ((j a : ℕ) (c : Command) → m ≢ Call j a c) → Ordered (m ∷ M) places least
-  ordered_other m no_call = record {
-    found = λ j is. forbidden_more M m places j (so_far.order.found j is);
-    apart = λ none i j p q at at' is. so_far.order.apart none i j p q at at' (⊎_elim (λ (actor, c, here, made). absurd (no_call j actor c here)) (λ there. there) is);
-    before = λ none i j p q at at' is. so_far.order.before none i j p q at at' (⊎_elim (λ (actor, c, b, here, told). absurd (no_call j actor c here)) (λ there. there) is);
-    lives = λ none i j p q at at' is. so_far.order.lives none i j p q at at' (⊎_elim (λ (actor, c, here, past). absurd (no_call j actor c here)) (λ there. there) is);
-  }
+  ordered_other m no_call = grind (arith, forbidden_more)
 
   -- a mark that changes nothing
   floored_other : (m : Mark) → ((j a : ℕ) (c : Command) → m ≢ Call j a c) → ((j : ℕ) (b : Bool) → m ≢ Answer j b)

@@ -105,24 +105,12 @@ module _ (places : BTreeMap ℕ ℕ) (answers : BTreeMap ℕ Bool) (M : List Mar
     -- the last life was run
     pub played_all : (keys' : BTreeSet ℕ) (wrong_reply' : Option ℕ) → Finishes answers (values_of life.entries) before.now keys' wrong_reply wrong_reply' → wrong_reply' ≡ None → wrong_set ≡ None
         → (T : Keys) × OrderedChain (IsAt places) (lives (members []) M) T
-    played_all keys' wrong_reply' finishes no_reply no_set =
-        let (was, plays) = finishes.fine no_reply in
-        let (start, chain) = before.chain was no_set in
-        (finishes.now, chain_more life before.now finishes.now finishes.now ordered before.is_life start chain plays (λ k. refl))
+    played_all keys' wrong_reply' finishes no_reply no_set = grind (arith, chain_more)
 
     -- the next life begins
     pub played_opened : (found : List ℕ) (keys' : BTreeSet ℕ) (life' : BTreeMap ℕ Listed) (wrong_reply' wrong_set' : Option ℕ) → Finishes answers (values_of life.entries) before.now keys' wrong_reply wrong_reply'
         → tree.IsEmpty life' → ((S : Keys) → IsSet keys' S → wrong_set' ≡ None → (wrong_set ≡ None) × Same S (members found)) → Played places (Opened found ∷ M) keys' life' wrong_reply' wrong_set'
-    played_opened found keys' life' wrong_reply' wrong_set' finishes none compares = record {
-      now = finishes.now;
-      is_set = finishes.is_set;
-      is_life = empty_life places life' none;
-      chain = λ no_reply no_set.
-          let (was, plays) = finishes.fine no_reply in
-          let (was_set, same) = compares finishes.now finishes.is_set no_set in
-          let (start, chain) = before.chain was was_set in
-          (same, chain_more life before.now finishes.now (members found) ordered before.is_life start chain plays same);
-    }
+    played_opened found keys' life' wrong_reply' wrong_set' finishes none compares = grind (arith, empty_life, chain_more)
 
 module _ (places : BTreeMap ℕ ℕ) (M : List Mark) (keys : BTreeSet ℕ) (life : BTreeMap ℕ Listed) (wrong_reply wrong_set : Option ℕ) (before : Played places M keys life wrong_reply wrong_set) where
   -- a mark of the life, or between lives, that is no call

@@ -114,25 +114,11 @@ places_low points places has low i p at = low_of points low (sym (has i) ∙ at)
 
 pub known_all : (M : List Mark) (points : List Point) (places : BTreeMap ℕ ℕ) (answers : BTreeMap ℕ Bool) → IsLawful M → ((i : ℕ) → tree.get nat_cmp answers i ≡ answer_of M i) → AreListed M points places
     → Ordered M places None → IsKnown places answers M
-known_all M points places answers lawful told listed order = record {
-  lawful = lawful;
-  refused = listed.refused;
-  answered = listed.answered;
-  told = λ i b is. told i ∙ told_is M i b lawful is;
-  apart = order.apart refl;
-  order = order.before refl;
-  lives = order.lives refl;
-}
+known_all M points places answers lawful told listed order = grind (arith, told_is)
 
 -- a chain by places is one by points
 order_same : (at at' : ℕ → ℕ → Type 0) → ((i p : ℕ) → at i p ↔ at' i p) → (M : List Mark) (L : List ℕ) → IsInOrder at M L → IsInOrder at' M L
-order_same at at' same M L order = record {
-  each = λ i. (
-    λ is. let (made, (p, there)) = (order.each i).0 is in (made, (p, (same i p).0 there)),
-    λ (made, (p, there)). (order.each i).1 (made, (p, (same i p).1 there)),
-  );
-  ascending = λ i j p q is here there. order.ascending i j p q is ((same i p).1 here) ((same j q).1 there);
-}
+order_same at at' same M L order = grind arith
 
 pub chain_same : (at at' : ℕ → ℕ → Type 0) → ((i p : ℕ) → at i p ↔ at' i p) → (ls : List Life) (T : Keys) → OrderedChain at ls T → OrderedChain at' ls T
 chain_same at at' same [] T chain = tt

@@ -102,9 +102,7 @@ any_map i [] = refl
 any_map i (x ∷ rest) = ap (λ (b : Bool). (slot_of x == i) || b) (any_map i rest)
 
 found_at : (i : ℕ) (found : List Finding) → list_any (λ j. j == i) (map slot_of found) ≡ true → (finding : Finding) × Contains found finding × (slot_of finding ≡ i)
-found_at i found is =
-    let (finding, at, here) = any_found (λ finding. slot_of finding == i) found (sym (any_map i found) ∙ is) in
-    (finding, at, eqb-true (slot_of finding) i here)
+found_at i found is = grind (arith, nat_tests, any_found, any_map, eqb-true)
 
 at_found : (found : List Finding) (finding : Finding) → Contains found finding → list_any (λ j. j == slot_of finding) (map slot_of found) ≡ true
 at_found found finding at = any_map (slot_of finding) found ∙ found_any (λ other. slot_of other == slot_of finding) found finding at (eq-eqb _ _ refl)
@@ -174,9 +172,7 @@ module _ (says : ℕ → SlotRead) (n : ℕ) (found : List Finding) (findings : 
         sound_first _ at is first here = absurd (cc)
 
     pub no_bad_key : (i : ℕ) → i < n → says i ≢ read.BadKey
-    no_bad_key i lt bad =
-        let f = first_of i lt (λ shut. let e : read.BadKey ≡ read.Closed = sym bad ∙ shut in cc) in
-        let e : read.BadKey ≡ read.Member f.0 = sym bad ∙ f.2.holds in cc
+    no_bad_key i lt bad = grind (arith, nat_tests, first_of)
 
     pub no_key_twice : (i j k : ℕ) → i < n → j < n → says i ≡ read.Member k → says j ≡ read.Member k → i ≡ j
     no_key_twice i j k lt lt' one other =
@@ -185,9 +181,7 @@ module _ (says : ℕ → SlotRead) (n : ℕ) (found : List Finding) (findings : 
         ⊎_elim (λ less. absurd (g.lowest i less one)) (λ le. ⊎_elim (λ less. absurd (f.lowest j less other)) (λ le'. omega (arith, le, le')) (cases_lt j i)) (cases_lt i j)
       where
         firsts : (i k : ℕ) → i < n → says i ≡ read.Member k → IsFirst says i k
-        firsts i k lt is =
-            let f = first_of i lt (λ shut. let e : read.Member k ≡ read.Closed = sym is ∙ shut in cc) in
-            subst (λ (q : ℕ). IsFirst says i q) (same_member f.0 k (sym f.2.holds ∙ is)) f.2
+        firsts i k lt is = grind (arith, nat_tests, first_of, same_member)
 
     pub set_found : (k : ℕ) → IsTrue (found_keys found k) ↔ ((i : ℕ) × (i < n) × (says i ≡ read.Member k))
     set_found k = (holds, has)

@@ -1,5 +1,5 @@
 -- What is written of a mark is read as the mark.
-use Rattle.std.proofs.Common.{◌≡◌, ℕ, suc, ◌+◌, ◌≤◌, Bool, List, [], ◌∷◌, ◌++◌, map, reverse, length, length-append, decimal, codes, true, false, nat_le, Some, arith, refl, sym, ap, subst, ◌∙◌, append_assoc, option_map, option_and_then}
+use Rattle.std.proofs.Common.{◌≡◌, ℕ, suc, ◌+◌, ◌≤◌, Bool, List, [], ◌∷◌, ◌++◌, map, reverse, length, length-append, decimal, codes, true, false, Some, arith, refl, sym, ap, subst, ◌∙◌, append_assoc, option_map, option_and_then}
 use Rattle.std.specs.Cmp.Lexicographic.{same_text}
 use Rattle.std.specs.List.{join_with_byte}
 use Rattle.std.proofs.lemmas.Bool.{false_from_ne_true, false≢true}
@@ -23,7 +23,7 @@ use Rattle.lz_slot.proofs.Texts.MarkTexts.{marks_join}
 use Rattle.lz_slot.proofs.Texts.Numerals.{decimal_read}
 use Rattle.lz_slot.proofs.Texts.Spellings.{decimal_lacks, key_text_lacks, spelled_read, written_keys_are_spelled}
 use Rattle.lz_judge.specs.declared.line.Line.TheVariants.{Seen}
-use Rattle.lz_judge.specs.LinesRead.{call_number, is_word, key_from, key_named, key_told, keys_from, kind_read, not_below}
+use Rattle.lz_judge.specs.LinesRead.{call_number, is_word, key_from, key_named, key_told, keys_from, kind_read}
 use Rattle.lz_judge.specs.MarkLines.{AscendFrom, IsCallNumber, IsMarkOfRun, MarksReadBack, HistoriesReadBack}
 use Rattle.lz_judge.specs.Limits.{most_bytes, most_faults}
 use Rattle.lz_judge.specs.TextsRead.{IsClear, Reads, nothing, line}
@@ -112,10 +112,7 @@ named : (k : ℕ) → k ≤ largest_key → key_named (key_text k) ≡ Some k
 named k small = ap key_told (spelled_read (key_text k) k small (written_keys_are_spelled k))
 
 from_is : (least k : ℕ) → least ≤ k → k ≤ largest_key → key_from least (key_text k) ≡ Some k
-from_is least k above small =
-    let test : nat_le least k ≡ true = grind (arith, nat_tests, above) in
-    let here : not_below least k ≡ Some k = rw test refl in
-    ap (option_and_then (not_below least)) (named k small) ∙ here
+from_is least k above small = grind (arith, nat_tests, named)
 
 pub keys_are : (least : ℕ) (ks : List ℕ) → AscendFrom least ks → keys_from least (map key_text ks) ≡ Some ks
 keys_are least [] ascend = refl

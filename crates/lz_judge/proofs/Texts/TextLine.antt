@@ -1,5 +1,5 @@
 -- One line more of a text.
-use Rattle.std.proofs.Common.{◌≡◌, inl, inr, ℕ, ◌+◌, ◌-◌, ◌<◌, ◌≤◌, List, [], ◌∷◌, ◌++◌, length, take, drop, Some, None, sym, refl, ap, subst, ◌∙◌, arith, append_assoc, length-append}
+use Rattle.std.proofs.Common.{◌≡◌, inr, ℕ, ◌+◌, ◌-◌, ◌<◌, ◌≤◌, List, [], ◌∷◌, ◌++◌, length, take, drop, Some, None, sym, refl, ap, subst, ◌∙◌, arith, append_assoc, length-append}
 use Rattle.std.proofs.lemmas.List.{length-take, take_rest}
 use Rattle.memchr.specs.Find.{IsFirstByte, is_byte}
 use Rattle.lz_slot.proofs.Texts.Cuts.{cut_at, lacks_all, lacks_first}
@@ -72,9 +72,4 @@ line_refused n text rest h end so_far is refuses = record {
 
 -- a rest that doesn't end
 pub rest_unread : (n : ℕ) (text rest : List ℕ) (h : Record) → HasRead n text rest h → IsFirstByte (is_byte 10) rest None → 0 < length rest → IsFirstUnread text n
-rest_unread n text rest h so_far none some = record {
-  history = h;
-  rest = rest;
-  read = so_far;
-  unread = inl (λ e. let short : length rest ≡ 0 = ap length e in omega (arith, some, short), none_of 10 rest (lacks_all 10 rest none));
-}
+rest_unread n text rest h so_far none some = grind (arith, none_of, lacks_all)
