@@ -1,6 +1,5 @@
 -- Which slot of a file is the lowest whose key lies outside a set, told from what was found.
-use Rattle.std.proofs.Common.{◌≡◌, ◌≢◌, ⊎_elim, ℕ, zero, suc, ◌+◌, ◌<◌, ◌≤◌, List, [], ◌∷◌, ◌++◌, length, get_or, take, refl, sym, ◌∙◌, ap, subst, arith, true, false, IsTrue, Option, None, Some}
-use Rattle.std.specs.Prelude.{All, map, Contains, MatchOption, is_some}
+use Rattle.std.proofs.Common.{◌≡◌, ◌≢◌, ⊎_elim, ℕ, zero, suc, ◌+◌, ◌<◌, ◌≤◌, List, [], ◌∷◌, ◌++◌, length, get_or, take, refl, sym, ◌∙◌, ap, subst, arith, true, false, IsTrue, Option, None, Some, All, map, Contains, MatchOption, is_some}
 use Rattle.std.proofs.lemmas.Bool.{cases_lt, eq-eqb}
 use Rattle.std.proofs.lemmas.Bool.Decides.{nat_tests}
 use Rattle.std.proofs.lemmas.List.{append-nil, get_or-map, get_or-take, length-map, length-take, take_all}
@@ -12,7 +11,7 @@ use Rattle.lz_slot.specs.Sets.{Keys}
 use Rattle.lz_slot.specs.declared.slot.SlotRead.{SlotRead}
 use Rattle.lz_slot.specs.declared.slot.SlotRead.TheVariants as read
 use Rattle.lz_judge.specs.declared.finding.Finding.{Finding}
-use Rattle.lz_judge.specs.declared.finding.Finding.TheVariants.{Key, BadKey, Twice}
+use Rattle.lz_judge.specs.declared.finding.Finding.TheVariants.{Key}
 use Rattle.lz_judge.specs.Surveys.{IsFinding, IsFirst, finding_key, found_keys, is_sound, open_slot, open_slots, slot_of}
 use Rattle.lz_judge.specs.Renewals.{AreHeld, IsFirstOutside, IsLowestOutside, IsWithin}
 use Rattle.lz_judge.proofs.Surveys.SlotFinding.{first_of, found_below, same_member, sound_where}
@@ -147,9 +146,8 @@ all_found_within S found p end each = All-same (IsWithin S) found (take p found)
 pub key_any : (found : List Finding) (i k : ℕ) → get_or (map finding_key found) i None ≡ Some k → found_keys found k ≡ true
 key_any [] i k is = absurd (cc)
 key_any (Key j q ∷ found) zero k is = let same : q ≡ k = cc in let here = eq-eqb q k same in grind (arith, here)
-key_any (BadKey j ∷ found) zero k is = absurd (cc)
-key_any (Twice j first ∷ found) zero k is = absurd (cc)
 key_any (f ∷ found) (suc i) k is = let ih = key_any found i k is in grind (arith, ih)
+key_any (_ ∷ found) zero k is = absurd (cc)
 
 pub key_none : (found : List Finding) (k : ℕ) → ((i : ℕ) → get_or (map finding_key found) i None ≢ Some k) → found_keys found k ≡ false
 key_none [] k none = refl
@@ -157,5 +155,4 @@ key_none (Key j q ∷ found) k none =
     let rest = key_none found k (λ i. none (suc i)) in
     let here : q ≢ k = λ same. none zero (ap Some same) in
     grind (arith, nat_tests, rest, here)
-key_none (BadKey j ∷ found) k none = key_none found k (λ i. none (suc i))
-key_none (Twice j first ∷ found) k none = key_none found k (λ i. none (suc i))
+key_none (_ ∷ found) k none = key_none found k (λ i. none (suc i))

@@ -2,6 +2,7 @@ pub mod LawfulHistory
 pub mod CurrentLife
 pub mod PlaceOrder
 pub mod PastLife
+pub mod ListFront
 pub mod WrongAnswer
 pub mod WholeRun
 pub mod GoodVerdict

@@ -1,5 +1,5 @@
 -- Two files hold one set exactly where no flaw of a renewal is true of them.
-use Rattle.std.proofs.Common.{◌≡◌, ◌↔◌, ⊎_elim, ℕ, ◌+◌, ◌*◌, ◌<◌, true, false, List, length, refl, sym, ◌∙◌, ap, subst, arith, IsTrue, Ok, Err}
+use Rattle.std.proofs.Common.{◌≡◌, ◌↔◌, ℕ, ◌+◌, ◌*◌, ◌<◌, true, false, List, length, refl, sym, ◌∙◌, ap, subst, arith, IsTrue, Ok, Err, All}
 use Rattle.std.specs.Cmp.{both_ways}
 use Rattle.std.proofs.lemmas.Bool.{cases_lt}
 use Rattle.lz_slot.specs.Bytes.{Holds, header_read, slot_at}
@@ -8,7 +8,6 @@ use Rattle.lz_slot.specs.declared.slot.SlotRead.TheVariants.{Member}
 use Rattle.lz_slot.proofs.Files.HeldSets.{holds_same_set}
 use Rattle.lz_judge.specs.declared.renewing.RenewFlaw.{RenewFlaw}
 use Rattle.lz_judge.specs.declared.renewing.RenewFlaw.TheVariants.{NotHeld, Missing, Extra}
-use Rattle.std.specs.Prelude.{All}
 use Rattle.lz_judge.specs.declared.finding.Finding.{Finding}
 use Rattle.lz_judge.specs.Surveys.{AreFindings, found_keys}
 use Rattle.lz_judge.specs.Renewals.{AreHeld, HoldOneSet, IsFirstOutside, IsLowestOutside, IsRenewFlaw, IsWithin, OneVerdict}
@@ -92,13 +91,7 @@ module _ (old new : List ℕ) (before after : List Finding) (kept : AreHeld old 
 
 -- One verdict alone
 lowest_alone : (t : List ℕ) (N M : ℕ) (T U : Keys) (i j : ℕ) → ((k : ℕ) → IsTrue (T k) → IsTrue (U k)) → ((k : ℕ) → IsTrue (U k) → IsTrue (T k)) → IsLowestOutside t N T i → IsLowestOutside t M U j → i ≡ j
-lowest_alone t N M T U i j to from one other = ⊎_elim
-    (λ less. absurd (let e : true ≡ false = sym (from one.outside.0 (other.lowest i one.outside.0 less one.outside.1)) ∙ one.outside.2 in cc))
-    (λ le. ⊎_elim
-    (λ less. absurd (let e : true ≡ false = sym (to other.outside.0 (one.lowest j other.outside.0 less other.outside.1)) ∙ other.outside.2 in cc))
-    (λ ge. omega (arith, le, ge))
-    (cases_lt j i))
-    (cases_lt i j)
+lowest_alone t N M T U i j to from one other = grind (arith, cases_lt)
 
 -- a key of the old file that is missing, where the new one has each of its keys
 not_both : (old new : List ℕ) (N M n m : ℕ) (S T R U : Keys) (i : ℕ) → Holds old N S → Holds new M T → Holds old n R → Holds new m U → ((k : ℕ) → IsTrue (R k) → IsTrue (U k)) → IsLowestOutside old N T i → ⊥

@@ -11,7 +11,7 @@ use Rattle.lz_proto.specs.declared.end.End.{End}
 use Rattle.lz_proto.specs.Lines.{Items}
 use Rattle.lz_proto.specs.Pieces.{Reads}
 use Rattle.lz_proto.specs.Sessions.{CutOff, IsInput, Serves, SessionTells}
-use Rattle.lz_proto.proofs.Serving.{input_is, known_rest, no_rest, serves_more}
+use Rattle.lz_proto.proofs.Serving.{input_is, known_rest, no_rest, goes_more}
 use Rattle.lz_proto.proofs.Texts.{some_items}
 
 -- the first items of an input were asked, and the service went from one state to another by it
@@ -57,7 +57,7 @@ module _ {S : Type 0} (answers : S → Request → Reply → S → Type 0) (inpu
 
   -- those answered before a write failed, and the one at which it did
   cut_served : (items : List Item) (written : List ℕ) (cut : CutOff answers old items new written) → Serves answers old (cut.done ++ cut.item ∷ []) (cut.answered.replies ++ cut.reply) new
-  cut_served items written cut = serves_more answers old cut.mid new cut.done (cut.item ∷ []) cut.answered.replies cut.reply cut.answered.served cut.answered.ends cut.served
+  cut_served items written cut = (goes_more answers old cut.mid new cut.done (cut.item ∷ []) cut.answered.replies cut.reply cut.answered.served cut.answered.ends cut.served).0
 
   cut_whole : (items : List Item) (written : List ℕ) (cut : CutOff answers old items new written) → items ≡ (cut.done ++ cut.item ∷ []) ++ cut.rest
   cut_whole items written cut = cut.whole ∙ sym (append_assoc cut.done (cut.item ∷ []) cut.rest)

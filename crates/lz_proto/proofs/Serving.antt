@@ -21,44 +21,30 @@ use Rattle.lz_proto.specs.Steps.{SendTells, AnswersTell, PieceTells, end_after}
 use Rattle.lz_proto.proofs.Texts.{items_end, reads_more, some_items}
 
 -- what goes on after items that didn't end the session
-pub serves_more : {S : Type 0} (answers : S → Request → Reply → S → Type 0) (old mid new : S) (a b : List Item) (ra rb : List Reply)
-    → Serves answers old a ra mid → end_of a ra ≡ ends.Done → Serves answers mid b rb new → Serves answers old (a ++ b) (ra ++ rb) new
-serves_more answers old mid new [] b [] rb s e t = subst (λ x. Serves answers x b rb new) s t
-serves_more answers old mid new [] b (r ∷ ra) rb s e t = absurd s
-serves_more answers old mid new (Faulty bad ∷ a) b ra rb s e t = serves_more answers old mid new a b ra rb s e t
-serves_more answers old mid new (Asks Quit ∷ a) b ra rb s e t = absurd (cc)
-serves_more answers old mid new (Asks request ∷ a) b [] rb s e t = absurd s
-serves_more answers old mid new (Asks request ∷ a) b (Halted ∷ ra) rb s e t = absurd (cc)
-serves_more answers old mid new (Asks request ∷ a) b (reply ∷ ra) rb s e t = (s.0, s.1, serves_more answers s.0 mid new a b ra rb s.2 e t)
-
-text_more : {S : Type 0} (answers : S → Request → Reply → S → Type 0) (old mid : S) (a b : List Item) (ra rb : List Reply)
-    → Serves answers old a ra mid → end_of a ra ≡ ends.Done → session_text (a ++ b) (ra ++ rb) ≡ session_text a ra ++ session_text b rb
-text_more answers old mid [] b [] rb s e = refl
-text_more answers old mid [] b (r ∷ ra) rb s e = absurd s
-text_more answers old mid (Faulty bad ∷ a) b ra rb s e = ap (λ (t : List ℕ). bad_text bad ++ t) (text_more answers old mid a b ra rb s e) ∙ sym (append_assoc (bad_text bad) (session_text a ra) (session_text b rb))
-text_more answers old mid (Asks Quit ∷ a) b ra rb s e = absurd (cc)
-text_more answers old mid (Asks request ∷ a) b [] rb s e = absurd s
-text_more answers old mid (Asks request ∷ a) b (Halted ∷ ra) rb s e = absurd (cc)
-text_more answers old mid (Asks request ∷ a) b (reply ∷ ra) rb s e = ap (λ (t : List ℕ). reply_text reply ++ t) (text_more answers s.0 mid a b ra rb s.2 e) ∙ sym (append_assoc (reply_text reply) (session_text a ra) (session_text b rb))
-
-end_more : {S : Type 0} (answers : S → Request → Reply → S → Type 0) (old mid : S) (a b : List Item) (ra rb : List Reply)
-    → Serves answers old a ra mid → end_of a ra ≡ ends.Done → end_of (a ++ b) (ra ++ rb) ≡ end_of b rb
-end_more answers old mid [] b [] rb s e = refl
-end_more answers old mid [] b (r ∷ ra) rb s e = absurd s
-end_more answers old mid (Faulty bad ∷ a) b ra rb s e = end_more answers old mid a b ra rb s e
-end_more answers old mid (Asks Quit ∷ a) b ra rb s e = absurd (cc)
-end_more answers old mid (Asks request ∷ a) b [] rb s e = absurd s
-end_more answers old mid (Asks request ∷ a) b (Halted ∷ ra) rb s e = absurd (cc)
-end_more answers old mid (Asks request ∷ a) b (reply ∷ ra) rb s e = end_more answers s.0 mid a b ra rb s.2 e
+pub goes_more : {S : Type 0} (answers : S → Request → Reply → S → Type 0) (old mid new : S) (a b : List Item) (ra rb : List Reply)
+    → Serves answers old a ra mid → end_of a ra ≡ ends.Done → Serves answers mid b rb new
+    → Serves answers old (a ++ b) (ra ++ rb) new × (session_text (a ++ b) (ra ++ rb) ≡ session_text a ra ++ session_text b rb) × (end_of (a ++ b) (ra ++ rb) ≡ end_of b rb)
+goes_more answers old mid new [] b [] rb s e t = (subst (λ x. Serves answers x b rb new) s t, refl, refl)
+goes_more answers old mid new [] b (r ∷ ra) rb s e t = absurd s
+goes_more answers old mid new (Faulty bad ∷ a) b ra rb s e t =
+    let rest = goes_more answers old mid new a b ra rb s e t in
+    (rest.0, ap (λ (t : List ℕ). bad_text bad ++ t) rest.1 ∙ sym (append_assoc (bad_text bad) (session_text a ra) (session_text b rb)), rest.2)
+goes_more answers old mid new (Asks Quit ∷ a) b ra rb s e t = absurd (cc)
+goes_more answers old mid new (Asks request ∷ a) b [] rb s e t = absurd s
+goes_more answers old mid new (Asks request ∷ a) b (Halted ∷ ra) rb s e t = absurd (cc)
+goes_more answers old mid new (Asks request ∷ a) b (reply ∷ ra) rb s e t =
+    let rest = goes_more answers s.0 mid new a b ra rb s.2 e t in
+    ((s.0, s.1, rest.0), ap (λ (t : List ℕ). reply_text reply ++ t) rest.1 ∙ sym (append_assoc (reply_text reply) (session_text a ra) (session_text b rb)), rest.2)
 
 pub answered_more : {S : Type 0} (answers : S → Request → Reply → S → Type 0) (old mid new : S) (a b : List Item) (first second : List ℕ) (ended : End)
     → Answered answers old a mid first ends.Done → Answered answers mid b new second ended → Answered answers old (a ++ b) new (first ++ second) ended
 answered_more answers old mid new a b first second ended p q =
+    let both = goes_more answers old mid new a b p.replies q.replies p.served p.ends q.served in
     record {
       replies = p.replies ++ q.replies;
-      served = serves_more answers old mid new a b p.replies q.replies p.served p.ends q.served;
-      text = ap (λ (t : List ℕ). t ++ second) p.text ∙ ap (λ (t : List ℕ). session_text a p.replies ++ t) q.text ∙ sym (text_more answers old mid a b p.replies q.replies p.served p.ends);
-      ends = end_more answers old mid a b p.replies q.replies p.served p.ends ∙ q.ends;
+      served = both.0;
+      text = ap (λ (t : List ℕ). t ++ second) p.text ∙ ap (λ (t : List ℕ). session_text a p.replies ++ t) q.text ∙ sym both.1;
+      ends = both.2 ∙ q.ends;
     }
 
 pub cut_more : {S : Type 0} (answers : S → Request → Reply → S → Type 0) (old mid new : S) (a b : List Item) (first second : List ℕ)
@@ -80,42 +66,26 @@ cut_more answers old mid new a b first second p q =
     }
 
 -- what comes after the end of a session changes nothing
-serves_on : {S : Type 0} (answers : S → Request → Reply → S → Type 0) (old new : S) (a b : List Item) (ra : List Reply)
-    → Serves answers old a ra new → end_of a ra ≢ ends.Done → Serves answers old (a ++ b) ra new
-serves_on answers old new [] b ra s e = absurd (e refl)
-serves_on answers old new (Faulty bad ∷ a) b ra s e = serves_on answers old new a b ra s e
-serves_on answers old new (Asks Quit ∷ a) b [] s e = s
-serves_on answers old new (Asks Quit ∷ a) b (r ∷ ra) s e = absurd s
-serves_on answers old new (Asks request ∷ a) b [] s e = absurd s
-serves_on answers old new (Asks request ∷ a) b (Halted ∷ ra) s e = s
-serves_on answers old new (Asks request ∷ a) b (reply ∷ ra) s e = (s.0, s.1, serves_on answers s.0 new a b ra s.2 e)
-
-text_on : (a b : List Item) (ra : List Reply) → end_of a ra ≢ ends.Done → session_text (a ++ b) ra ≡ session_text a ra
-text_on [] b ra e = absurd (e refl)
-text_on (Faulty bad ∷ a) b ra e = ap (λ (t : List ℕ). bad_text bad ++ t) (text_on a b ra e)
-text_on (Asks Quit ∷ a) b ra e = refl
-text_on (Asks request ∷ a) b [] e = refl
-text_on (Asks request ∷ a) b (Halted ∷ ra) e = refl
-text_on (Asks request ∷ a) b (reply ∷ ra) e = ap (λ (t : List ℕ). reply_text reply ++ t) (text_on a b ra e)
-
-end_on : (a b : List Item) (ra : List Reply) → end_of a ra ≢ ends.Done → end_of (a ++ b) ra ≡ end_of a ra
-end_on [] b ra e = absurd (e refl)
-end_on (Faulty bad ∷ a) b ra e = end_on a b ra e
-end_on (Asks Quit ∷ a) b ra e = refl
-end_on (Asks request ∷ a) b [] e = absurd (e refl)
-end_on (Asks request ∷ a) b (Halted ∷ ra) e = refl
-end_on (Asks request ∷ a) b (reply ∷ ra) e = end_on a b ra e
+goes_on : {S : Type 0} (answers : S → Request → Reply → S → Type 0) (old new : S) (a b : List Item) (ra : List Reply)
+    → Serves answers old a ra new → end_of a ra ≢ ends.Done
+    → Serves answers old (a ++ b) ra new × (session_text (a ++ b) ra ≡ session_text a ra) × (end_of (a ++ b) ra ≡ end_of a ra)
+goes_on answers old new [] b ra s e = absurd (e refl)
+goes_on answers old new (Faulty bad ∷ a) b ra s e =
+    let rest = goes_on answers old new a b ra s e in
+    (rest.0, ap (λ (t : List ℕ). bad_text bad ++ t) rest.1, rest.2)
+goes_on answers old new (Asks Quit ∷ a) b [] s e = (s, refl, refl)
+goes_on answers old new (Asks Quit ∷ a) b (r ∷ ra) s e = absurd s
+goes_on answers old new (Asks request ∷ a) b [] s e = absurd s
+goes_on answers old new (Asks request ∷ a) b (Halted ∷ ra) s e = (s, refl, refl)
+goes_on answers old new (Asks request ∷ a) b (reply ∷ ra) s e =
+    let rest = goes_on answers s.0 new a b ra s.2 e in
+    ((s.0, s.1, rest.0), ap (λ (t : List ℕ). reply_text reply ++ t) rest.1, rest.2)
 
 pub answered_on : {S : Type 0} (answers : S → Request → Reply → S → Type 0) (old new : S) (a b : List Item) (written : List ℕ) (ended : End)
     → Answered answers old a new written ended → ended ≢ ends.Done → Answered answers old (a ++ b) new written ended
 answered_on answers old new a b written ended p over =
-    let goes : end_of a p.replies ≢ ends.Done = λ e. over (sym p.ends ∙ e) in
-    record {
-      replies = p.replies;
-      served = serves_on answers old new a b p.replies p.served goes;
-      text = p.text ∙ sym (text_on a b p.replies goes);
-      ends = end_on a b p.replies goes ∙ p.ends;
-    }
+    let all = goes_on answers old new a b p.replies p.served (λ e. over (sym p.ends ∙ e)) in
+    record { replies = p.replies; served = all.0; text = p.text ∙ sym all.1; ends = all.2 ∙ p.ends }
 
 -- the bytes that a reader has left, where it tells
 abbrev pub known_rest : Option (List ℕ) → List ℕ
@@ -180,31 +150,17 @@ broken_within answers after old mid new first second taken piece kept left items
     record { items = items ++ more; its = inr (left, reads_more taken piece items more kept left r f); cut = cut_more answers old mid new items more first second p q }
 
 -- one request and its reply
-
-serves_request : {S : Type 0} (answers : S → Request → Reply → S → Type 0) (old new : S) (request : Request) (reply : Reply) → request ≢ Quit → answers old request reply new
-    → Serves answers old (Asks request ∷ []) (reply ∷ []) new
-serves_request answers old new Quit reply other h = absurd (other refl)
-serves_request answers old new request Halted other h = (h, refl)
-serves_request answers old new request reply other h = (new, h, refl)
-
-text_request : (request : Request) (reply : Reply) → request ≢ Quit → session_text (Asks request ∷ []) (reply ∷ []) ≡ reply_text reply
-text_request Quit reply other = absurd (other refl)
-text_request request Halted other = refl
-text_request request reply other = append-nil (reply_text reply)
-
-end_request : (request : Request) (reply : Reply) → request ≢ Quit → end_of (Asks request ∷ []) (reply ∷ []) ≡ end_after reply
-end_request Quit reply other = absurd (other refl)
-end_request request Halted other = refl
-end_request request reply other = refl
+one_request : {S : Type 0} (answers : S → Request → Reply → S → Type 0) (old new : S) (request : Request) (reply : Reply) → request ≢ Quit → answers old request reply new
+    → Serves answers old (Asks request ∷ []) (reply ∷ []) new × (session_text (Asks request ∷ []) (reply ∷ []) ≡ reply_text reply) × (end_of (Asks request ∷ []) (reply ∷ []) ≡ end_after reply)
+one_request answers old new Quit reply other h = absurd (other refl)
+one_request answers old new request Halted other h = ((h, refl), refl, refl)
+one_request answers old new request reply other h = ((new, h, refl), append-nil (reply_text reply), refl)
 
 pub request_answered : {S : Type 0} (answers : S → Request → Reply → S → Type 0) (old new : S) (request : Request) (reply : Reply) (text : List ℕ)
     → request ≢ Quit → answers old request reply new → text ≡ reply_text reply → Answered answers old (Asks request ∷ []) new text (end_after reply)
-request_answered answers old new request reply text other h is = record {
-  replies = reply ∷ [];
-  served = serves_request answers old new request reply other h;
-  text = is ∙ sym (text_request request reply other);
-  ends = end_request request reply other;
-}
+request_answered answers old new request reply text other h is =
+    let one = one_request answers old new request reply other h in
+    record { replies = reply ∷ []; served = one.0; text = is ∙ sym one.1; ends = one.2 }
 
 pub fault_answered : {S : Type 0} (answers : S → Request → Reply → S → Type 0) (old : S) (bad : Bad) (text : List ℕ) → text ≡ bad_text bad → Answered answers old (Faulty bad ∷ []) old text ends.Done
 fault_answered answers old bad text is = record { replies = []; served = refl; text = is ∙ sym (append-nil (bad_text bad)); ends = refl }

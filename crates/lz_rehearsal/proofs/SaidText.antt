@@ -9,7 +9,7 @@ use Rattle.lz_judge.specs.MarkLines.{AreMarksOfRun, IsMarkOfRun}
 use Rattle.lz_judge.specs.Records.{IsLawful}
 use Rattle.lz_judge.specs.TextsRead as read
 use Rattle.lz_judge.specs.TextsRead.{Reads, calls_of}
-use Rattle.lz_judge.proofs.Texts.MarkLine.{mark_clear, marks_read_back, none_of}
+use Rattle.lz_judge.proofs.Texts.MarkLine.{mark_clear, marks_read_back}
 use Rattle.lz_rehearsal.specs.Tellings.{mark_line}
 use Rattle.lz_rehearsal.proofs.SilentLines.{IsSilent}
 
@@ -53,7 +53,7 @@ said_reads _ _ (mark marks text m before of_run) lawful few fits =
     let inner = said_reads marks text before now.1 (omega arith) (omega arith) in (
       inner.0 + 1,
       subst (λ (M : List Mark). Reads (inner.0 + 1) (text ++ mark_line m) (record { marks = M; points = [] })) (sym newest)
-          (read.line inner.0 text (record { marks = reverse marks; points = [] }) (mark_text m) (Seen m) inner.1 (none_of 10 (mark_text m) (mark_clear m of_run)) (marks_read_back m of_run, (now.0, few_now), long)),
+          (read.line inner.0 text (record { marks = reverse marks; points = [] }) (mark_text m) (Seen m) inner.1 (mark_clear m of_run) (marks_read_back m of_run, (now.0, few_now), long)),
     )
 said_reads _ _ (silence marks text t before silent) lawful few fits =
     let long = line_fits text t fits in

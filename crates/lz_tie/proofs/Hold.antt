@@ -1,3 +1,4 @@
+pub mod Alike
 pub mod Exchanges
 pub mod OtherPins
 pub mod NextStep

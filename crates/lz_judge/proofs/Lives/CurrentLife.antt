@@ -7,7 +7,7 @@ use Rattle.lz_slot.specs.declared.history.Mark.TheVariants.{Call, Answer, Refuse
 use Rattle.lz_slot.specs.Histories.{HasMark, IsAnswered, IsBefore, Life, lives, with_mark}
 use Rattle.lz_judge.specs.Records.{IsLawful, IsMade, actor_of}
 use Rattle.lz_judge.specs.Plays.{lives_before, this_life, this_start}
-use Rattle.lz_judge.proofs.Lives.LawfulHistory.{made_more}
+use Rattle.lz_judge.proofs.Lives.LawfulHistory.{made_more, not_ended}
 
 abbrev pub now : List Mark → Life
 now M = record { start = this_start M; history = this_life M }
@@ -18,10 +18,7 @@ lives_parts (Opened keys ∷ M) = refl
 lives_parts (Stop ∷ M) = lives_parts M
 lives_parts (Crash ∷ M) = lives_parts M
 lives_parts (OpenFailed why ∷ M) = lives_parts M
-lives_parts (Call j a c ∷ M) = ap (with_mark (Call j a c)) (lives_parts M)
-lives_parts (Answer j b ∷ M) = ap (with_mark (Answer j b)) (lives_parts M)
-lives_parts (Refused j why ∷ M) = ap (with_mark (Refused j why)) (lives_parts M)
-lives_parts (Cut j why ∷ M) = ap (with_mark (Cut j why)) (lives_parts M)
+lives_parts (m ∷ M) = ap (with_mark m) (lives_parts M)
 
 -- what was seen in the life was seen
 pub life_mark : (M : List Mark) (m : Mark) → HasMark m (this_life M) → HasMark m M
@@ -30,10 +27,7 @@ life_mark (Opened keys ∷ M) m has = absurd has
 life_mark (Stop ∷ M) m has = inr (life_mark M m has)
 life_mark (Crash ∷ M) m has = inr (life_mark M m has)
 life_mark (OpenFailed why ∷ M) m has = inr (life_mark M m has)
-life_mark (Call j a c ∷ M) m has = ⊎_elim (λ here. inl here) (λ there. inr (life_mark M m there)) has
-life_mark (Answer j b ∷ M) m has = ⊎_elim (λ here. inl here) (λ there. inr (life_mark M m there)) has
-life_mark (Refused j why ∷ M) m has = ⊎_elim (λ here. inl here) (λ there. inr (life_mark M m there)) has
-life_mark (Cut j why ∷ M) m has = ⊎_elim (λ here. inl here) (λ there. inr (life_mark M m there)) has
+life_mark (_ ∷ M) m has = ⊎_elim (λ here. inl here) (λ there. inr (life_mark M m there)) has
 
 pub life_made : (M : List Mark) (i : ℕ) → IsMade (this_life M) i → IsMade M i
 life_made M i (c, (actor, has)) = (c, (actor, life_mark M (Call i actor c) has))
@@ -47,10 +41,7 @@ life_before (Opened keys ∷ M) i j is = absurd is
 life_before (Stop ∷ M) i j is = inr (life_before M i j is)
 life_before (Crash ∷ M) i j is = inr (life_before M i j is)
 life_before (OpenFailed why ∷ M) i j is = inr (life_before M i j is)
-life_before (Call k a c ∷ M) i j is = before_one (Call k a c) M i j (life_before M i j) is
-life_before (Answer k b ∷ M) i j is = before_one (Answer k b) M i j (life_before M i j) is
-life_before (Refused k why ∷ M) i j is = before_one (Refused k why) M i j (life_before M i j) is
-life_before (Cut k why ∷ M) i j is = before_one (Cut k why) M i j (life_before M i j) is
+life_before (m ∷ M) i j is = before_one m M i j (life_before M i j) is
 
 -- an open call was made in the life that goes on
 open_life : (M : List Mark) (i actor : ℕ) → actor_of M i ≡ Some actor → IsMade (this_life M) i
@@ -59,30 +50,22 @@ open_life (Call j a c ∷ M) i actor is = elim (eqb_tells j i) [
   | inl t ↦ (c, (a, inl (ap (λ (n : ℕ). Call n a c) t.1)))
   | inr f ↦ made_more (Call j a c) (this_life M) i (open_life M i actor (rw f.0 at is))
 ]
-open_life (Answer j b ∷ M) i actor is = elim (eqb_tells j i) [
-  | inl t ↦ absurd (let e = rw t.0 at is in cc)
-  | inr f ↦ made_more (Answer j b) (this_life M) i (open_life M i actor (rw f.0 at is))
-]
-open_life (Refused j why ∷ M) i actor is = elim (eqb_tells j i) [
-  | inl t ↦ absurd (let e = rw t.0 at is in cc)
-  | inr f ↦ made_more (Refused j why) (this_life M) i (open_life M i actor (rw f.0 at is))
-]
-open_life (Cut j why ∷ M) i actor is = elim (eqb_tells j i) [
-  | inl t ↦ absurd (let e = rw t.0 at is in cc)
-  | inr f ↦ made_more (Cut j why) (this_life M) i (open_life M i actor (rw f.0 at is))
-]
-open_life (Stop ∷ M) i actor is = absurd (cc)
-open_life (Crash ∷ M) i actor is = absurd (cc)
-open_life (Opened keys ∷ M) i actor is = absurd (cc)
+open_life (Answer j b ∷ M) i actor is = made_more (Answer j b) (this_life M) i (open_life M i actor (not_ended j i actor (actor_of M i) is).1)
+open_life (Refused j why ∷ M) i actor is = made_more (Refused j why) (this_life M) i (open_life M i actor (not_ended j i actor (actor_of M i) is).1)
+open_life (Cut j why ∷ M) i actor is = made_more (Cut j why) (this_life M) i (open_life M i actor (not_ended j i actor (actor_of M i) is).1)
 open_life (OpenFailed why ∷ M) i actor is = open_life M i actor is
+open_life (_ ∷ M) i actor is = absurd (cc)
+
+pub open_made : (M : List Mark) (i actor : ℕ) → actor_of M i ≡ Some actor → IsMade M i
+open_made M i actor is = life_made M i (open_life M i actor is)
+
+pub answered_made : (M : List Mark) (i : ℕ) (b : Bool) → IsLawful (Answer i b ∷ M) → IsMade M i
+answered_made M i b lawful = open_made M i lawful.0.0 lawful.0.1
 
 -- a call is answered in the life in which it was made
 pub answered_life : (M : List Mark) (i : ℕ) (b : Bool) → IsLawful M → IsAnswered (this_life M) i b → IsMade (this_life M) i
 answered_life [] i b lawful has = absurd has
 answered_life (Opened keys ∷ M) i b lawful has = absurd has
-answered_life (Stop ∷ M) i b lawful has = answered_life M i b lawful.1 has
-answered_life (Crash ∷ M) i b lawful has = answered_life M i b lawful.1 has
-answered_life (OpenFailed why ∷ M) i b lawful has = answered_life M i b lawful.1 has
 answered_life (Call j a c ∷ M) i b lawful has = ⊎_elim (λ here. absurd (cc)) (λ there. made_more (Call j a c) (this_life M) i (answered_life M i b lawful.1 there)) has
 answered_life (Refused j why ∷ M) i b lawful has = ⊎_elim (λ here. absurd (cc)) (λ there. made_more (Refused j why) (this_life M) i (answered_life M i b lawful.1 there)) has
 answered_life (Cut j why ∷ M) i b lawful has = ⊎_elim (λ here. absurd (cc)) (λ there. made_more (Cut j why) (this_life M) i (answered_life M i b lawful.1 there)) has
@@ -90,3 +73,4 @@ answered_life (Answer j d ∷ M) i b lawful has = ⊎_elim
     (λ here. let same : j ≡ i = cc in made_more (Answer j d) (this_life M) i (subst (IsMade (this_life M)) same (open_life M j lawful.0.0 lawful.0.1)))
     (λ there. made_more (Answer j d) (this_life M) i (answered_life M i b lawful.1 there))
     has
+answered_life (_ ∷ M) i b lawful has = answered_life M i b lawful.1 has

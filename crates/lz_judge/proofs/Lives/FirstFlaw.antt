@@ -1,12 +1,10 @@
 -- A flaw that is told is of the first kind of which one is true.
-use Rattle.std.proofs.Common.{◌≡◌, ⊎_elim, ◌↔◌, ℕ, ◌≤◌, Bool, sym, ◌∙◌, arith, Some, None}
-use Rattle.std.specs.Prelude.{map}
-use Rattle.std.specs.BTreeMap.{BTreeMap}
+use Rattle.std.proofs.Common.{◌≡◌, ⊎_elim, ◌↔◌, ℕ, ◌≤◌, Bool, sym, ◌∙◌, arith, Some, None, map, BTreeMap}
 use Rattle.lz_slot.specs.Histories.{IsRefused, count_of}
 use Rattle.lz_judge.specs.Records.{IsMade, IsPoint, Record}
 use Rattle.lz_judge.specs.Flaws.{IsFirstKind, IsFlaw, flaw_turn}
 use Rattle.lz_judge.specs.declared.flaw.Flaw.{Flaw}
-use Rattle.lz_judge.specs.declared.flaw.Flaw.TheVariants.{Unlisted, NeverCalled, Misordered, WrongReply, WrongSet, ListedTwice, RefusedListed}
+use Rattle.lz_judge.specs.declared.flaw.Flaw.TheVariants.{Unlisted, NeverCalled, Misordered, ListedTwice, RefusedListed}
 use Rattle.lz_judge.specs.Readings.{IsAt}
 use Rattle.lz_judge.specs.Plays.{IsKnown}
 use Rattle.lz_judge.specs.Verdicts.{AreCalled, AreListed}
@@ -26,42 +24,22 @@ AreUnrefused h = (i p : ℕ) → IsRefused h.marks i → IsPoint h.points i p �
 -- the first kind of all
 pub first_stranger : (h : Record) (i : ℕ) → IsFirstKind h (NeverCalled i)
 first_stranger h i (NeverCalled j) is = omega arith
-first_stranger h i (ListedTwice j) is = omega arith
-first_stranger h i (RefusedListed j) is = omega arith
-first_stranger h i (Unlisted j) is = omega arith
-first_stranger h i (Misordered j) is = omega arith
-first_stranger h i (WrongReply j) is = omega arith
-first_stranger h i (WrongSet j) is = omega arith
+first_stranger h i _ is = omega arith
 
 -- after the strangers
 pub first_twin : (h : Record) (i : ℕ) → AreMade h → IsFirstKind h (ListedTwice i)
 first_twin h i made (NeverCalled j) ((p, is), unmade) = absurd (unmade (made j p is))
-first_twin h i made (ListedTwice j) is = omega arith
-first_twin h i made (RefusedListed j) is = omega arith
-first_twin h i made (Unlisted j) is = omega arith
-first_twin h i made (Misordered j) is = omega arith
-first_twin h i made (WrongReply j) is = omega arith
-first_twin h i made (WrongSet j) is = omega arith
+first_twin h i made _ is = omega arith
 
 -- and after the calls with two points
 pub first_refused : (h : Record) (i : ℕ) → AreMade h → AreSingle h → IsFirstKind h (RefusedListed i)
-first_refused h i made once (NeverCalled j) ((p, is), unmade) = absurd (unmade (made j p is))
 first_refused h i made once (ListedTwice j) twice = let single = once j in absurd (omega (arith, single, twice))
-first_refused h i made once (RefusedListed j) is = omega arith
-first_refused h i made once (Unlisted j) is = omega arith
-first_refused h i made once (Misordered j) is = omega arith
-first_refused h i made once (WrongReply j) is = omega arith
-first_refused h i made once (WrongSet j) is = omega arith
+first_refused h i made once flaw is = let before = first_twin h i made flaw is in omega (arith, before)
 
 -- and after the refused calls
 pub first_unlisted : (h : Record) (i : ℕ) → AreMade h → AreSingle h → AreUnrefused h → IsFirstKind h (Unlisted i)
-first_unlisted h i made once unrefused (NeverCalled j) ((p, is), unmade) = absurd (unmade (made j p is))
-first_unlisted h i made once unrefused (ListedTwice j) twice = let single = once j in absurd (omega (arith, single, twice))
 first_unlisted h i made once unrefused (RefusedListed j) (refused, (p, is)) = absurd (unrefused j p refused is)
-first_unlisted h i made once unrefused (Unlisted j) is = omega arith
-first_unlisted h i made once unrefused (Misordered j) is = omega arith
-first_unlisted h i made once unrefused (WrongReply j) is = omega arith
-first_unlisted h i made once unrefused (WrongSet j) is = omega arith
+first_unlisted h i made once unrefused flaw is = let before = first_refused h i made once flaw is in omega (arith, before)
 
 -- what is known once the points are in order but for their places
 module _ (h : Record) (places : BTreeMap ℕ ℕ) (listed : AreListed h.marks h.points places) (called : AreCalled h.marks h.points) (same : (i p : ℕ) → IsAt places i p ↔ IsPoint h.points i p) where
@@ -70,13 +48,8 @@ module _ (h : Record) (places : BTreeMap ℕ ℕ) (listed : AreListed h.marks h.
 
   -- a flaw after those of the points' calls
   pub behind_points : (flaw : Flaw) → IsFlaw h flaw → 5 ≤ flaw_turn flaw
-  behind_points (NeverCalled j) ((p, is), unmade) = absurd (unmade (called.made j p is))
-  behind_points (ListedTwice j) twice = let single = called.once j in absurd (omega (arith, single, twice))
-  behind_points (RefusedListed j) (refused, (p, is)) = absurd (unrefused j p refused is)
   behind_points (Unlisted j) ((b, told), never) = let (p, is) = listed.answered j b told in absurd (never p ((same j p).0 is))
-  behind_points (Misordered j) is = omega arith
-  behind_points (WrongReply j) is = omega arith
-  behind_points (WrongSet j) is = omega arith
+  behind_points flaw is = let before = first_unlisted h 0 called.made called.once unrefused flaw is in omega (arith, before)
 
   -- and after those of their order
   pub behind_order : (answers : BTreeMap ℕ Bool) → IsKnown places answers h.marks → (flaw : Flaw) → IsFlaw h flaw → 6 ≤ flaw_turn flaw
@@ -87,9 +60,4 @@ module _ (h : Record) (places : BTreeMap ℕ ℕ) (listed : AreListed h.marks h.
       (λ later. let lt = known.lives i j p q ((same i p).1 is) ((same j q).1 is') later in omega (arith, lt, le))
       order)
       why)
-  behind_order answers known (NeverCalled j) ((p, is), unmade) = absurd (unmade (called.made j p is))
-  behind_order answers known (ListedTwice j) twice = let single = called.once j in absurd (omega (arith, single, twice))
-  behind_order answers known (RefusedListed j) (refused, (p, is)) = absurd (unrefused j p refused is)
-  behind_order answers known (Unlisted j) ((b, told), never) = let (p, is) = listed.answered j b told in absurd (never p ((same j p).0 is))
-  behind_order answers known (WrongReply j) is = omega arith
-  behind_order answers known (WrongSet j) is = omega arith
+  behind_order answers known flaw is = let before = behind_points flaw is in omega (arith, before)

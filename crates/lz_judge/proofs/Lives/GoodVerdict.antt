@@ -1,22 +1,22 @@
 -- A judge's yes leaves no flaw.
-use Rattle.std.proofs.Common.{◌≡◌, inl, inr, ⊎_elim, ◌↔◌, ℕ, ◌<◌, Bool, true, List, [], ◌∷◌, ◌++◌, sym, refl, ◌∙◌, ap, subst, arith, Some, None}
-use Rattle.std.specs.BTreeMap.{BTreeMap}
+use Rattle.std.proofs.Common.{◌≡◌, inl, inr, ⊎_elim, ◌↔◌, ℕ, ◌<◌, Bool, true, List, [], ◌∷◌, ◌++◌, sym, refl, ◌∙◌, ap, subst, arith, BTreeMap}
 use Rattle.std.proofs.lemmas.Bool.Decides.{eqb_tells}
 use Rattle.std.proofs.lemmas.Option.{same_Some}
 use Rattle.lz_slot.specs.Sets.{Keys, Same, key_of, members, reply}
 use Rattle.lz_slot.specs.declared.command.Command.{Command}
 use Rattle.lz_slot.specs.declared.history.Mark.{Mark}
-use Rattle.lz_slot.specs.declared.history.Mark.TheVariants.{Call, Answer, Refused, Cut, Stop, Crash, Opened, OpenFailed}
+use Rattle.lz_slot.specs.declared.history.Mark.TheVariants.{Call, Opened}
 use Rattle.lz_slot.specs.Histories.{IsAnswered, IsCalled, IsEarlier, IsListed, Runs, lives}
 use Rattle.lz_judge.specs.Records.{IsLawful, IsMade, IsPoint, Record}
 use Rattle.lz_judge.specs.Flaws.{IsFlaw, IsInOrder, IsLifeBefore, IsReached, IsWrongSet, Leads, OrderedChain}
 use Rattle.lz_judge.specs.declared.flaw.Flaw.{Flaw}
-use Rattle.lz_judge.specs.declared.flaw.Flaw.TheVariants.{Unlisted, NeverCalled, Misordered, WrongReply, WrongSet, ListedTwice, RefusedListed}
+use Rattle.lz_judge.specs.declared.flaw.Flaw.TheVariants.{WrongReply, WrongSet}
 use Rattle.lz_judge.specs.Readings.{IsAt, is_made}
 use Rattle.lz_judge.specs.Plays.{IsKnown, lives_before, this_start}
 use Rattle.lz_judge.specs.Verdicts.{AreCalled, AreListed}
+use Rattle.lz_judge.proofs.Lives.FirstFlaw.{behind_order}
 use Rattle.lz_judge.proofs.Lives.LawfulHistory.{made_more}
-use Rattle.lz_slot.proofs.Listings.{listed_append, listed_left, listed_right}
+use Rattle.lz_judge.proofs.Lives.ListFront.{front_is}
 use Rattle.lz_judge.proofs.Lives.WholeRun.{AreApart, RunIs, chain_before, chain_run, run_leads, run_replies}
 
 -- a call that is counted was made
@@ -26,28 +26,7 @@ is_made_tells (Call j a c ∷ M) i is = elim (eqb_tells j i) [
   | inl t ↦ (c, (a, inl (ap (λ (n : ℕ). Call n a c) t.1)))
   | inr f ↦ made_more (Call j a c) M i (is_made_tells M i (rw f.0 at is))
 ]
-is_made_tells (Answer j b ∷ M) i is = made_more (Answer j b) M i (is_made_tells M i is)
-is_made_tells (Refused j why ∷ M) i is = made_more (Refused j why) M i (is_made_tells M i is)
-is_made_tells (Cut j why ∷ M) i is = made_more (Cut j why) M i (is_made_tells M i is)
-is_made_tells (Stop ∷ M) i is = made_more Stop M i (is_made_tells M i is)
-is_made_tells (Crash ∷ M) i is = made_more Crash M i (is_made_tells M i is)
-is_made_tells (Opened keys ∷ M) i is = made_more (Opened keys) M i (is_made_tells M i is)
-is_made_tells (OpenFailed why ∷ M) i is = made_more (OpenFailed why) M i (is_made_tells M i is)
-
--- what stands earlier in a part, or in the first of two parts, stands earlier in the whole
-earlier_left : (i j : ℕ) (L R : List ℕ) → IsEarlier i j L → IsEarlier i j (L ++ R)
-earlier_left i j [] R is = absurd is
-earlier_left i j (k ∷ L) R (inl (here, behind)) = inl (here, listed_left j L R behind)
-earlier_left i j (k ∷ L) R (inr there) = inr (earlier_left i j L R there)
-
-earlier_across : (i j : ℕ) (L R : List ℕ) → IsListed i L → IsListed j R → IsEarlier i j (L ++ R)
-earlier_across i j [] R is is' = absurd is
-earlier_across i j (k ∷ L) R (inl here) is' = inl (here, listed_right j L R is')
-earlier_across i j (k ∷ L) R (inr there) is' = inr (earlier_across i j L R there is')
-
-earlier_right : (i j : ℕ) (L R : List ℕ) → IsEarlier i j R → IsEarlier i j (L ++ R)
-earlier_right i j [] R is = is
-earlier_right i j (k ∷ L) R is = inr (earlier_right i j L R is)
+is_made_tells (m ∷ M) i is = made_more m M i (is_made_tells M i is)
 
 -- the list up to a call, and after it
 record Split (i : ℕ) (L : List ℕ) : Type 0 where
@@ -106,24 +85,11 @@ module _ (at : ℕ → ℕ → Type 0) (one : (i p q : ℕ) → at i p → at i 
     right_reply : (i : ℕ) (S : Keys) (c : Command) (b : Bool) → IsReached at M i S → IsCalled M i c → IsAnswered M i b → reply c (S (key_of c)) ≡ b
     right_reply i S c b reached called told =
         let parts = split_at i run.list ((run.in_order.each i).1 ((c, called), (reached.place, reached.here))) in
-        let order = subst (IsInOrder at M) parts.is run.in_order in
-        let up : Ascends parts.front = λ j k p q is here there. order.ascending j k p q (earlier_left j k parts.front (i ∷ parts.rest) is) here there in
-        let have : Placed parts.front = λ j is. ((order.each j).0 (listed_left j parts.front (i ∷ parts.rest) is)).1 in
-        let placed : Placed reached.list = λ j is. let (made, (p, here, lt)) = (reached.each j).0 is in (p, here) in
-        let to : (j : ℕ) → IsListed j parts.front → IsListed j reached.list =
-        λ j is.
-        let (made, (p, here)) = (order.each j).0 (listed_left j parts.front (i ∷ parts.rest) is) in
-        (reached.each j).1 (made, (p, here, order.ascending j i p reached.place (earlier_across j i parts.front (i ∷ parts.rest) is (inl refl)) here reached.here)) in
-        let from : (j : ℕ) → IsListed j reached.list → IsListed j parts.front =
-        λ j is.
-        let (made, (p, here, lt)) = (reached.each j).0 is in
-        ⊎_elim (λ left. left)
-        (λ right. ⊎_elim
-        (λ same. absurd (let e = one j p reached.place here (subst (λ (n : ℕ). at n reached.place) same reached.here) in omega (arith, e, lt)))
-        (λ behind. absurd (let more = order.ascending i j reached.place p (earlier_right i j parts.front (i ∷ parts.rest) (inl (refl, behind))) reached.here here in omega (arith, more, lt)))
-        right)
-        (listed_append j parts.front (i ∷ parts.rest) ((order.each j).1 (made, (p, here)))) in
-        let same : parts.front ≡ reached.list = only_order parts.front reached.list up reached.ascending have placed (λ k. (to k, from k)) in
+        let front = front_is at one M parts.front parts.rest i reached.place (subst (IsInOrder at M) parts.is run.in_order) reached.here in
+        let same : parts.front ≡ reached.list = only_order parts.front reached.list front.ascending reached.ascending
+        (λ j is. let (made, (p, here, lt)) = (front.each j).0 is in (p, here))
+        (λ j is. let (made, (p, here, lt)) = (reached.each j).0 is in (p, here))
+        (λ k. (λ is. (reached.each k).1 ((front.each k).0 is), λ is. (front.each k).1 ((reached.each k).0 is))) in
         run_replies M lawful parts.front parts.rest i (members []) T (members []) S c b (λ k. refl) (subst (λ (l : List ℕ). Runs M (members []) l T) parts.is run.runs) (subst (λ (l : List ℕ). Leads M (members []) l S) (sym same) reached.leads) called told
 
   -- no open of a chain found another set
@@ -140,13 +106,7 @@ module _ (at : ℕ → ℕ → Type 0) (one : (i p q : ℕ) → at i p → at i 
           differs (λ k. sym (same k)))
           (λ rest. before M n lawful.1 earlier (chain_before at M (members keys) chain) rest)
           wrong
-      before (Stop ∷ M) n lawful apart chain wrong = before M n lawful.1 (λ i j p q is is' later. apart i j p q is is' (inr later)) chain wrong
-      before (Crash ∷ M) n lawful apart chain wrong = before M n lawful.1 (λ i j p q is is' later. apart i j p q is is' (inr later)) chain wrong
-      before (OpenFailed why ∷ M) n lawful apart chain wrong = before M n lawful.1 (λ i j p q is is' later. apart i j p q is is' (inr later)) chain wrong
-      before (Call k a c ∷ M) n lawful apart chain wrong = before M n lawful.1 (λ i j p q is is' later. apart i j p q is is' (inr later)) chain wrong
-      before (Answer k b ∷ M) n lawful apart chain wrong = before M n lawful.1 (λ i j p q is is' later. apart i j p q is is' (inr later)) chain wrong
-      before (Refused k why ∷ M) n lawful apart chain wrong = before M n lawful.1 (λ i j p q is is' later. apart i j p q is is' (inr later)) chain wrong
-      before (Cut k why ∷ M) n lawful apart chain wrong = before M n lawful.1 (λ i j p q is is' later. apart i j p q is is' (inr later)) chain wrong
+      before (_ ∷ M) n lawful apart chain wrong = before M n lawful.1 (λ i j p q is is' later. apart i j p q is is' (inr later)) chain wrong
 
 -- no flaw at all
 pub flawless : (h : Record) (places : BTreeMap ℕ ℕ) (answers : BTreeMap ℕ Bool) (T : Keys) → IsKnown places answers h.marks → AreListed h.marks h.points places → AreCalled h.marks h.points
@@ -166,16 +126,6 @@ flawless h places answers T known listed called same chain flaw is = of flaw is
     run = chain_run (IsPoint h.points) h.marks T known.lawful apart chain
 
     of : (flaw : Flaw) → IsFlaw h flaw → ⊥
-    of (NeverCalled i) ((p, is), unmade) = unmade (called.made i p is)
-    of (ListedTwice i) twice = let once = called.once i in omega (arith, once, twice)
-    of (RefusedListed i) (refused, (p, is)) = let e : None ≡ Some p = sym (listed.refused i refused) ∙ listed.placed i p is in cc
-    of (Unlisted i) ((b, told), never) = let (p, is) = listed.answered i b told in never p ((same i p).0 is)
-    of (Misordered j) (i, p, q, is, is', (before, why)) = ⊎_elim
-        (λ equal. known.apart i j p q (place i p is) (place j q is') before equal)
-        (λ (order, le). ⊎_elim
-        (λ answered. let lt = known.order i j p q (place i p is) (place j q is') answered in omega (arith, lt, le))
-        (λ later. let lt = known.lives i j p q (place i p is) (place j q is') later in omega (arith, lt, le))
-        order)
-        why
     of (WrongReply i) (S, c, b, reached, at, told, differs) = differs (right_reply (IsPoint h.points) one h.marks T known.lawful run i S c b reached at told)
     of (WrongSet n) wrong = right_sets (IsPoint h.points) one h.marks T n known.lawful apart chain wrong
+    of flaw is = let before = behind_order h places listed called same answers known flaw is in omega (arith, before)

@@ -1,13 +1,10 @@
 -- A life's calls in the order of their places fit it.
-use Rattle.std.proofs.Common.{◌≡◌, ◌≢◌, ◌⊎◌, inl, inr, ⊎_elim, ℕ, ◌<◌, ◌≤◌, Bool, true, false, List, [], ◌∷◌, sym, refl, ◌∙◌, ap, subst, arith, Some}
-use Rattle.std.specs.Prelude.{map}
+use Rattle.std.proofs.Common.{◌≡◌, ◌≢◌, ◌⊎◌, inl, inr, ⊎_elim, ℕ, ◌<◌, ◌≤◌, Bool, true, false, List, [], ◌∷◌, sym, refl, ◌∙◌, ap, subst, arith, Some, map, nat_cmp, Less}
 use Rattle.std.specs.Map.{values_of, keys_of, lookup}
 use Rattle.std.specs.BTreeMap as tree
 use Rattle.std.specs.BTreeMap.{BTreeMap, is_at}
 use Rattle.std.specs.List.{AllByRecursion}
 use Rattle.std.specs.List.Sorted.{IsStrictlySortedBy}
-use Rattle.std.specs.Ordering.{nat_cmp}
-use Rattle.std.specs.declared.cmp.Ordering.TheVariants.{Less}
 use Rattle.std.proofs.lemmas.Map.Keys.{sorted_head, sorted_tail}
 use Rattle.std.proofs.lemmas.Option.{same_Some}
 use Rattle.std.proofs.lemmas.Bool.{cases_eq}
@@ -17,6 +14,7 @@ use Rattle.lz_slot.specs.declared.history.Mark.{Mark}
 use Rattle.lz_slot.specs.Histories.{IsAnswered, IsCalled, IsEarlier, IsListed, Runs, count_of}
 use Rattle.lz_slot.proofs.Sets.{after_same}
 use Rattle.lz_judge.specs.Records.{IsMade}
+use Rattle.lz_judge.specs.Flaws.{IsInOrder}
 use Rattle.lz_judge.specs.Readings.{IsAt}
 use Rattle.lz_judge.specs.Plays.{IsLife, Plays}
 use Rattle.lz_judge.specs.declared.playing.Listed.{Listed}
@@ -52,18 +50,18 @@ above_head k (e ∷ es) all q m is = ⊎_elim
     is_less : (a b : ℕ) → nat_cmp a b ≡ Less → a < b
     is_less a b less = grind (arith, nat_tests)
 
+at_same : (a b : ℕ) → a ≡ b → is_at (nat_cmp a) b ≡ true
+at_same a b same = grind (arith, nat_tests)
+
+at_apart : (a b : ℕ) → a ≢ b → is_at (nat_cmp a) b ≡ false
+at_apart a b apart = grind (arith, nat_tests)
+
 pub lookup_among : (es : List (ℕ × Listed)) (p : ℕ) (l : Listed) → lookup (is_at (nat_cmp p)) es ≡ Some l → Among (p, l) es
 lookup_among [] p l is = absurd (cc)
 lookup_among (e ∷ es) p l is = ⊎_elim
     (λ same. inl (let here : is_at (nat_cmp p) e.0 ≡ true = at_same p e.0 same in let found : e.1 ≡ l = same_Some _ _ (rw here at is) in (λ i. (sym same i, found i))))
     (λ apart. inr (lookup_among es p l (let off : is_at (nat_cmp p) e.0 ≡ false = at_apart p e.0 apart in rw off at is)))
     (cases_eq p e.0)
-  where
-    at_same : (a b : ℕ) → a ≡ b → is_at (nat_cmp a) b ≡ true
-    at_same a b same = grind (arith, nat_tests)
-
-    at_apart : (a b : ℕ) → a ≢ b → is_at (nat_cmp a) b ≡ false
-    at_apart a b apart = grind (arith, nat_tests)
 
 pub among_lookup : (es : List (ℕ × Listed)) (p : ℕ) (l : Listed) → IsStrictlySortedBy nat_cmp (keys_of es) → Among (p, l) es → lookup (is_at (nat_cmp p)) es ≡ Some l
 among_lookup [] p l sorted is = absurd is
@@ -74,15 +72,9 @@ among_lookup (e ∷ es) p l sorted is = ⊎_elim
     rw on (ap (λ (x : ℕ × Listed). Some x.1) here))
     (λ there.
     let above = above_head e.0 es (sorted_head nat_cmp e.0 (keys_of es) sorted) p l there in
-    let off : is_at (nat_cmp p) e.0 ≡ false = at_above p e.0 above in
+    let off : is_at (nat_cmp p) e.0 ≡ false = at_apart p e.0 (λ same. absurd (omega (arith, above, same))) in
     rw off (among_lookup es p l (sorted_tail nat_cmp e.0 (keys_of es) sorted) there))
     is
-  where
-    at_same : (a b : ℕ) → a ≡ b → is_at (nat_cmp a) b ≡ true
-    at_same a b same = grind (arith, nat_tests)
-
-    at_above : (a b : ℕ) → b < a → is_at (nat_cmp a) b ≡ false
-    at_above a b above = grind (arith, nat_tests)
 
 -- by a map's order the calls rise
 pub rises : (places : BTreeMap ℕ ℕ) (es : List (ℕ × Listed)) → IsStrictlySortedBy nat_cmp (keys_of es) → ((p : ℕ) (l : Listed) → Among (p, l) es → IsAt places l.call p) → Rises places (values_of es)
@@ -118,13 +110,7 @@ module _ (places : BTreeMap ℕ ℕ) where
 
   -- a call below those after it is none of them
   not_behind : (l : Listed) (calls : List Listed) (i : ℕ) → HavePlaces (l ∷ calls) → Rises places (l ∷ calls) → l.call ≡ i → IsListed i (calls_of calls) → ⊥
-  not_behind l calls i have rise same is =
-      let (m, at, same') = listed_among calls i is in
-      let (p, here) = have l (inl refl) in
-      let (q, there) = have m (inr at) in
-      let lt = rise.0 m p q at here there in
-      let e = same_Some p q (sym here ∙ ap (tree.get nat_cmp places) (same ∙ sym same') ∙ there) in
-      omega (arith, lt, e)
+  not_behind l calls i have rise same is = grind (arith, nat_tests, listed_among, same_Some)
 
   pub once : (calls : List Listed) (i : ℕ) → HavePlaces calls → Rises places calls → count_of i (calls_of calls) ≤ 1
   once [] i have rise = omega arith
@@ -187,3 +173,13 @@ of_life places H life ordered is_life = record {
   where
     entry : (p : ℕ) (l : Listed) → Among (p, l) life.entries → IsCalled H l.call l.command × IsAt places l.call p
     entry p l among = is_life.listed p l (among_lookup life.entries p l ordered among)
+
+-- they stand in the order of their places
+pub in_order : (places : BTreeMap ℕ ℕ) (H : List Mark) (calls : List Listed) → OfLife places H calls → IsInOrder (IsAt places) H (calls_of calls)
+in_order places H calls listed = record {
+  each = λ i. (
+    λ is. let (l, at, same) = listed_among calls i is in subst (λ (n : ℕ). IsMade H n × ((p : ℕ) × IsAt places n p)) same ((l.command, listed.called l at), listed.have l at),
+    λ (made, (p, at)). let (l, among, same) = listed.among i p made at in subst (λ (n : ℕ). IsListed n (calls_of calls)) same (among_listed calls l among),
+  );
+  ascending = λ i j p q is at at'. ascending places calls i j p q listed.rise is at at';
+}

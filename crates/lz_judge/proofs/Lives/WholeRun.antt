@@ -3,15 +3,14 @@ use Rattle.std.proofs.Common.{◌≡◌, ◌⊎◌, inl, inr, ⊎_elim, ℕ, ◌
 use Rattle.lz_slot.specs.Sets.{Keys, Same, after, key_of, members, reply}
 use Rattle.lz_slot.specs.declared.command.Command.{Command}
 use Rattle.lz_slot.specs.declared.history.Mark.{Mark}
-use Rattle.lz_slot.specs.declared.history.Mark.TheVariants.{Call, Answer, Refused, Cut, Stop, Crash, Opened, OpenFailed}
-use Rattle.lz_slot.specs.Histories.{IsAnswered, IsCalled, IsListed, Runs, lives}
+use Rattle.lz_slot.specs.declared.history.Mark.TheVariants.{Call, Answer, Refused, Cut, Opened}
+use Rattle.lz_slot.specs.Histories.{HasMark, IsAnswered, IsCalled, IsListed, Runs, lives}
 use Rattle.lz_judge.specs.Records.{IsLawful, IsMade, MayFollow}
 use Rattle.lz_judge.specs.Flaws.{IsInOrder, IsLifeBefore, Leads, OrderedChain}
 use Rattle.lz_judge.specs.Plays.{lives_before, past_of, this_life, this_start}
-use Rattle.lz_judge.proofs.Lives.CurrentLife.{answered_life, life_made, life_mark, lives_parts, now}
+use Rattle.lz_judge.proofs.Lives.CurrentLife.{answered_life, life_mark, lives_parts, now}
 use Rattle.lz_slot.proofs.Sets.{after_same}
-use Rattle.lz_slot.proofs.Listings.{earlier_append, listed_append, listed_left, listed_right}
-use Rattle.lz_judge.proofs.Lives.PastLife.{made_split, past_before, past_made_all, past_mark}
+use Rattle.lz_judge.proofs.Lives.PastLife.{join_order, past_before, past_mark}
 use Rattle.lz_judge.proofs.Readings.ReadingTable.{told_made}
 
 -- a call has one command
@@ -52,13 +51,7 @@ runs_then M (i ∷ L) R S T U (c, called, right, rest) second = (c, called, righ
 lawful_past : (M : List Mark) → IsLawful M → IsLawful (past_of M)
 lawful_past [] lawful = lawful
 lawful_past (Opened keys ∷ M) lawful = lawful.1
-lawful_past (Stop ∷ M) lawful = lawful_past M lawful.1
-lawful_past (Crash ∷ M) lawful = lawful_past M lawful.1
-lawful_past (OpenFailed why ∷ M) lawful = lawful_past M lawful.1
-lawful_past (Call j a c ∷ M) lawful = lawful_past M lawful.1
-lawful_past (Answer j b ∷ M) lawful = lawful_past M lawful.1
-lawful_past (Refused j why ∷ M) lawful = lawful_past M lawful.1
-lawful_past (Cut j why ∷ M) lawful = lawful_past M lawful.1
+lawful_past (_ ∷ M) lawful = lawful_past M lawful.1
 
 -- an answer was given in the past or in the life that goes on
 answer_later : (m : Mark) (M : List Mark) (i : ℕ) (b : Bool) → IsAnswered (past_of M) i b ⊎ IsAnswered (this_life M) i b → IsAnswered (past_of M) i b ⊎ IsAnswered (m ∷ this_life M) i b
@@ -68,13 +61,11 @@ answer_later m M i b (inr here) = inr (inr here)
 answer_split : (M : List Mark) (i : ℕ) (b : Bool) → IsAnswered M i b → IsAnswered (past_of M) i b ⊎ IsAnswered (this_life M) i b
 answer_split [] i b has = absurd has
 answer_split (Opened keys ∷ M) i b has = inl (⊎_elim (λ here. absurd (cc)) (λ there. there) has)
-answer_split (Stop ∷ M) i b has = answer_split M i b (⊎_elim (λ here. absurd (cc)) (λ there. there) has)
-answer_split (Crash ∷ M) i b has = answer_split M i b (⊎_elim (λ here. absurd (cc)) (λ there. there) has)
-answer_split (OpenFailed why ∷ M) i b has = answer_split M i b (⊎_elim (λ here. absurd (cc)) (λ there. there) has)
 answer_split (Call j a c ∷ M) i b has = answer_later (Call j a c) M i b (answer_split M i b (⊎_elim (λ here. absurd (cc)) (λ there. there) has))
 answer_split (Refused j why ∷ M) i b has = answer_later (Refused j why) M i b (answer_split M i b (⊎_elim (λ here. absurd (cc)) (λ there. there) has))
 answer_split (Cut j why ∷ M) i b has = answer_later (Cut j why) M i b (answer_split M i b (⊎_elim (λ here. absurd (cc)) (λ there. there) has))
 answer_split (Answer j d ∷ M) i b has = ⊎_elim (λ here. inr (inl here)) (λ there. answer_later (Answer j d) M i b (answer_split M i b there)) has
+answer_split (_ ∷ M) i b has = answer_split M i b (⊎_elim (λ here. absurd (cc)) (λ there. there) has)
 
 -- the calls with a place, in order, are a run from the empty set to T
 pub record RunIs (at : ℕ → ℕ → Type 0) (M : List Mark) (T : Keys) : Type 0 where
@@ -93,53 +84,18 @@ module _ (at : ℕ → ℕ → Type 0) where
 
     -- an answer is given in the life of its call
     answer_past : (i p : ℕ) (b : Bool) → IsMade (past_of M) i → at i p → IsAnswered M i b → IsAnswered (past_of M) i b
-    answer_past i p b made is told = ⊎_elim
-        (λ past. past)
-        (λ here. absurd (let lt = past_below i i p p made (answered_life M i b lawful here) is is in omega (arith, lt)))
-        (answer_split M i b told)
+    answer_past i p b made is told = grind (arith, past_below, answered_life, answer_split)
 
     answer_now : (i p : ℕ) (b : Bool) → IsMade (this_life M) i → at i p → IsAnswered M i b → IsAnswered (this_life M) i b
-    answer_now i p b made is told = ⊎_elim
-        (λ past. absurd (let lt = past_below i i p p (told_made (past_of M) i b (lawful_past M lawful) past) made is is in omega (arith, lt)))
-        (λ here. here)
-        (answer_split M i b told)
+    answer_now i p b made is told = grind (arith, past_below, told_made, lawful_past, answer_split)
 
-    past_runs : (L : List ℕ) (S T : Keys) → ((i : ℕ) → IsListed i L → IsMade (past_of M) i × ((p : ℕ) × at i p)) → Runs (past_of M) S L T → Runs M S L T
-    past_runs [] S T made runs = runs
-    past_runs (i ∷ L) S T made (c, (actor, has), right, rest) =
-        let (past, (p, is)) = made i (inl refl) in
-        (c, (actor, past_mark M (Call i actor c) has), λ b told. right b (answer_past i p b past is told), past_runs L (after c S) T (λ j there. made j (inr there)) rest)
-
-    now_runs : (L : List ℕ) (S T : Keys) → ((i : ℕ) → IsListed i L → IsMade (this_life M) i × ((p : ℕ) × at i p)) → Runs (this_life M) S L T → Runs M S L T
-    now_runs [] S T made runs = runs
-    now_runs (i ∷ L) S T made (c, (actor, has), right, rest) =
+    -- a run of the past, or of the life that goes on, is one of all
+    part_runs : (H : List Mark) → ((m : Mark) → HasMark m H → HasMark m M) → ((i p : ℕ) (b : Bool) → IsMade H i → at i p → IsAnswered M i b → IsAnswered H i b)
+        → (L : List ℕ) (S T : Keys) → ((i : ℕ) → IsListed i L → IsMade H i × ((p : ℕ) × at i p)) → Runs H S L T → Runs M S L T
+    part_runs H marks answers [] S T made runs = runs
+    part_runs H marks answers (i ∷ L) S T made (c, (actor, has), right, rest) =
         let (here, (p, is)) = made i (inl refl) in
-        (c, (actor, life_mark M (Call i actor c) has), λ b told. right b (answer_now i p b here is told), now_runs L (after c S) T (λ j there. made j (inr there)) rest)
-
-    module _ (L R : List ℕ) (past : IsInOrder at (past_of M) L) (life : IsInOrder at (this_life M) R) where
-      join_to : (j : ℕ) → IsListed j (L ++ R) → IsMade M j × ((p : ℕ) × at j p)
-      join_to j is = ⊎_elim
-          (λ left. let (made, place) = (past.each j).0 left in (past_made_all M j made, place))
-          (λ right. let (made, place) = (life.each j).0 right in (life_made M j made, place))
-          (listed_append j L R is)
-
-      join_from : (j : ℕ) → IsMade M j × ((p : ℕ) × at j p) → IsListed j (L ++ R)
-      join_from j (made, place) = ⊎_elim
-          (λ before. listed_left j L R ((past.each j).1 (before, place)))
-          (λ here. listed_right j L R ((life.each j).1 (here, place)))
-          (made_split M j made)
-
-      join_order : IsInOrder at M (L ++ R)
-      join_order = record {
-        each = λ j. (join_to j, join_from j);
-        ascending = λ i j p q is here there. ⊎_elim
-            (λ left. past.ascending i j p q left here there)
-            (λ rest. ⊎_elim
-            (λ (left, right). past_below i j p q ((past.each i).0 left).0 ((life.each j).0 right).0 here there)
-            (λ right. life.ascending i j p q right here there)
-            rest)
-            (earlier_append i j L R is);
-      }
+        (c, (actor, marks (Call i actor c) has), λ b told. right b (answers i p b here is told), part_runs H marks answers L (after c S) T (λ j there. made j (inr there)) rest)
 
     -- the past, and the life that goes on
     run_of : (T : Keys) → OrderedChain at (lives (members []) M) T → RunIs at (past_of M) (this_start M) → RunIs at M T
@@ -147,10 +103,10 @@ module _ (at : ℕ → ℕ → Type 0) where
         let parts : OrderedChain at (now M ∷ lives_before M) T = subst (λ ls. OrderedChain at ls T) (lives_parts M) chain in
         let (R, life, fits, rest) = parts in record {
           list = past.list ++ R;
-          in_order = join_order past.list R past.in_order life;
+          in_order = join_order at M past_below past.list R past.in_order life;
           runs = runs_then M past.list R (members []) (this_start M) T
-              (past_runs past.list (members []) (this_start M) (λ i is. (past.in_order.each i).0 is) past.runs)
-              (now_runs R (this_start M) T (λ i is. (life.each i).0 is) fits.runs);
+              (part_runs (past_of M) (past_mark M) answer_past past.list (members []) (this_start M) (λ i is. (past.in_order.each i).0 is) past.runs)
+              (part_runs (this_life M) (life_mark M) answer_now R (this_start M) T (λ i is. (life.each i).0 is) fits.runs);
         }
 
   pub chain_before : (M : List Mark) (T : Keys) → OrderedChain at (lives (members []) M) T → OrderedChain at (lives_before M) (this_start M)
@@ -168,13 +124,7 @@ module _ (at : ℕ → ℕ → Type 0) where
   past_run (Opened keys ∷ M) lawful apart chain =
       let earlier = λ (i j p q : ℕ) (is : at i p) (is' : at j q) (before : IsLifeBefore M i j). apart i j p q is is' (inr before) in
       run_of M lawful.1 earlier (members keys) chain (past_run M lawful.1 earlier (chain_before M (members keys) chain))
-  past_run (Stop ∷ M) lawful apart chain = past_run M lawful.1 (λ i j p q is is' before. apart i j p q is is' (inr before)) chain
-  past_run (Crash ∷ M) lawful apart chain = past_run M lawful.1 (λ i j p q is is' before. apart i j p q is is' (inr before)) chain
-  past_run (OpenFailed why ∷ M) lawful apart chain = past_run M lawful.1 (λ i j p q is is' before. apart i j p q is is' (inr before)) chain
-  past_run (Call k a c ∷ M) lawful apart chain = past_run M lawful.1 (λ i j p q is is' before. apart i j p q is is' (inr before)) chain
-  past_run (Answer k b ∷ M) lawful apart chain = past_run M lawful.1 (λ i j p q is is' before. apart i j p q is is' (inr before)) chain
-  past_run (Refused k why ∷ M) lawful apart chain = past_run M lawful.1 (λ i j p q is is' before. apart i j p q is is' (inr before)) chain
-  past_run (Cut k why ∷ M) lawful apart chain = past_run M lawful.1 (λ i j p q is is' before. apart i j p q is is' (inr before)) chain
+  past_run (_ ∷ M) lawful apart chain = past_run M lawful.1 (λ i j p q is is' before. apart i j p q is is' (inr before)) chain
 
   -- a chain is one run of all its calls
   pub chain_run : (M : List Mark) (T : Keys) → IsLawful M → AreApart M → OrderedChain at (lives (members []) M) T → RunIs at M T

@@ -1,24 +1,22 @@
 -- A call that was answered otherwise than the calls below it say.
-use Rattle.std.proofs.Common.{◌≡◌, ◌≢◌, ◌⊎◌, inl, inr, ⊎_elim, ℕ, suc, ◌<◌, ◌≤◌, Bool, List, length, [], ◌∷◌, ◌++◌, sym, refl, ◌∙◌, ap, subst, arith, Option, Some, None}
+use Rattle.std.proofs.Common.{◌≡◌, ◌≢◌, ◌⊎◌, inl, inr, ⊎_elim, ℕ, suc, ◌<◌, ◌≤◌, Bool, List, length, [], ◌∷◌, ◌++◌, sym, refl, ◌∙◌, ap, subst, arith, append_assoc, Option, Some, None, BTreeSet, BTreeMap, nat_cmp}
 use Rattle.std.specs.Map.{values_of}
 use Rattle.std.specs.BTreeMap as tree
-use Rattle.std.specs.BTreeSet.{BTreeSet}
-use Rattle.std.specs.BTreeMap.{BTreeMap}
-use Rattle.std.specs.Ordering.{nat_cmp}
 use Rattle.std.proofs.lemmas.Option.{same_Some}
+use Rattle.std.proofs.lemmas.List.{map-append}
 use Rattle.lz_slot.specs.Sets.{Keys, Same, after, key_of, members, reply}
 use Rattle.lz_slot.specs.declared.history.Mark.{Mark}
-use Rattle.lz_slot.specs.declared.history.Mark.TheVariants.{Call, Answer, Refused, Cut, Stop, Crash, Opened, OpenFailed}
-use Rattle.lz_slot.specs.Histories.{IsCalled, IsEarlier, IsListed}
+use Rattle.lz_slot.specs.declared.history.Mark.TheVariants.{Call, Opened}
+use Rattle.lz_slot.specs.Histories.{IsCalled}
 use Rattle.lz_judge.specs.Records.{IsMade}
 use Rattle.lz_judge.specs.Flaws.{IsInOrder, Leads, opens}
 use Rattle.lz_judge.specs.Readings.{IsAt}
 use Rattle.lz_judge.specs.Plays.{Compared, Finds, Follows, IsKnown, IsLife, IsSet, IsWrong, Ran, WrongAt, past_of, this_life}
 use Rattle.lz_judge.specs.declared.playing.Listed.{Listed}
-use Rattle.lz_judge.proofs.Lives.CurrentLife.{life_made, life_mark}
-use Rattle.lz_judge.proofs.Lives.PlaceOrder.{Among, Rises, among_listed, ascending, calls_of, listed_among, OfLife, of_life}
-use Rattle.lz_slot.proofs.Listings.{earlier_append, listed_append, listed_left, listed_right}
-use Rattle.lz_judge.proofs.Lives.PastLife.{follows_leads, leads_more, leads_then, made_split, past_before, past_made_all, past_mark}
+use Rattle.lz_judge.proofs.Lives.CurrentLife.{life_mark}
+use Rattle.lz_judge.proofs.Lives.PlaceOrder.{Among, calls_of, in_order, OfLife, of_life}
+use Rattle.lz_judge.proofs.Lives.ListFront.{IsFront, front_is}
+use Rattle.lz_judge.proofs.Lives.PastLife.{join_order, follows_leads, leads_more, leads_then, made_split, past_before, past_made_all, past_mark}
 
 -- the place in a list of calls at which one is answered otherwise
 record Wrong (answers : BTreeMap ℕ Bool) (calls : List Listed) (S : Keys) (i : ℕ) : Type 0 where
@@ -50,26 +48,6 @@ among_right : (m : Listed) (done rest : List Listed) → Among m rest → Among 
 among_right m [] rest is = is
 among_right m (l ∷ done) rest is = inr (among_right m done rest is)
 
-among_parts : (m : Listed) (done rest : List Listed) → Among m (done ++ rest) → Among m done ⊎ Among m rest
-among_parts m [] rest is = inr is
-among_parts m (l ∷ done) rest is = ⊎_elim (λ here. inl (inl here)) (λ there. ⊎_elim (λ left. inl (inr left)) (λ right. inr right) (among_parts m done rest there)) is
-
-module _ (places : BTreeMap ℕ ℕ) where
-  front_rises : (done rest : List Listed) → Rises places (done ++ rest) → Rises places done
-  front_rises [] rest rise = tt
-  front_rises (l ∷ done) rest rise = (λ m p q at. rise.0 m p q (among_left m done rest at), front_rises done rest rise.1)
-
-  below_this : (done rest : List Listed) (this m : Listed) (p q : ℕ) → Rises places (done ++ this ∷ rest) → Among m done → IsAt places m.call q → IsAt places this.call p → q < p
-  below_this [] rest this m p q rise at there here = absurd at
-  below_this (l ∷ done) rest this m p q rise at there here = ⊎_elim
-      (λ first. rise.0 this q p (among_right this done (this ∷ rest) (inl refl)) (ap (λ (x : Listed). tree.get nat_cmp places x.call) first ∙ there) here)
-      (λ later. below_this done rest this m p q rise.1 later there here)
-      at
-
-  above_this : (done rest : List Listed) (this m : Listed) (p q : ℕ) → Rises places (done ++ this ∷ rest) → Among m rest → IsAt places m.call q → IsAt places this.call p → p < q
-  above_this [] rest this m p q rise at there here = rise.0 m p q at here there
-  above_this (l ∷ done) rest this m p q rise at there here = above_this done rest this m p q rise.1 at there here
-
 module _ (places : BTreeMap ℕ ℕ) (answers : BTreeMap ℕ Bool) (M : List Mark) (known : IsKnown places answers M) where
   past_below : (i j p q : ℕ) → IsMade (past_of M) i → IsMade (this_life M) j → IsAt places i p → IsAt places j q → p < q
   past_below i j p q past made at at' = known.lives i j p q at at' (past_before M i j past made)
@@ -99,47 +77,16 @@ module _ (places : BTreeMap ℕ ℕ) (answers : BTreeMap ℕ Bool) (M : List Mar
     other = wrong.other;
   }
 
-  module _ (L : List ℕ) (start : Keys) (in_order : IsInOrder (IsAt places) (past_of M) L) (leads : Leads (past_of M) (members []) L start) (life : BTreeMap ℕ Listed) (ordered : tree.IsOrdered nat_cmp life) (is_life : IsLife places (this_life M) life) where
+  module _ (L : List ℕ) (start : Keys) (past_order : IsInOrder (IsAt places) (past_of M) L) (leads : Leads (past_of M) (members []) L start) (life : BTreeMap ℕ Listed) (ordered : tree.IsOrdered nat_cmp life) (is_life : IsLife places (this_life M) life) where
     listed : OfLife places (this_life M) (values_of life.entries)
     listed = of_life places (this_life M) life ordered is_life
 
     called_all : (l : Listed) → Among l (values_of life.entries) → IsCalled M l.call l.command
     called_all l at = let (actor, has) = listed.called l at in (actor, life_mark M (Call l.call actor l.command) has)
 
-    made_this : (l : Listed) → Among l (values_of life.entries) → IsMade (this_life M) l.call
-    made_this l at = (l.command, listed.called l at)
-
     -- the list of the past, and the calls of the life after it
     all_in_order : IsInOrder (IsAt places) M (L ++ calls_of (values_of life.entries))
-    all_in_order = record { each = λ j. (to j, from j); ascending = rising }
-      where
-        to : (j : ℕ) → IsListed j (L ++ calls_of (values_of life.entries)) → IsMade M j × ((p : ℕ) × IsAt places j p)
-        to j is = ⊎_elim
-            (λ left. let (made, at) = (in_order.each j).0 left in (past_made_all M j made, at))
-            (λ right.
-            let (l, among, same) = listed_among (values_of life.entries) j right in
-            subst (λ (n : ℕ). IsMade M n × ((p : ℕ) × IsAt places n p)) same (life_made M l.call (made_this l among), listed.have l among))
-            (listed_append j L (calls_of (values_of life.entries)) is)
-
-        from : (j : ℕ) → IsMade M j × ((p : ℕ) × IsAt places j p) → IsListed j (L ++ calls_of (values_of life.entries))
-        from j (made, (p, at)) = ⊎_elim
-            (λ past. listed_left j L (calls_of (values_of life.entries)) ((in_order.each j).1 (past, (p, at))))
-            (λ this.
-            let (l, among, same) = listed.among j p this at in
-            listed_right j L (calls_of (values_of life.entries)) (subst (λ (n : ℕ). IsListed n (calls_of (values_of life.entries))) same (among_listed (values_of life.entries) l among)))
-            (made_split M j made)
-
-        rising : (i j p q : ℕ) → IsEarlier i j (L ++ calls_of (values_of life.entries)) → IsAt places i p → IsAt places j q → p < q
-        rising i j p q is at at' = ⊎_elim
-            (λ left. in_order.ascending i j p q left at at')
-            (λ rest. ⊎_elim
-            (λ (left, right).
-            let (past, other) = (in_order.each i).0 left in
-            let (l, among, same) = listed_among (values_of life.entries) j right in
-            past_below i j p q past (subst (IsMade (this_life M)) same (made_this l among)) at at')
-            (λ right. ascending places (values_of life.entries) i j p q listed.rise right at at')
-            rest)
-            (earlier_append i j L (calls_of (values_of life.entries)) is)
+    all_in_order = join_order (IsAt places) M past_below L (calls_of (values_of life.entries)) past_order (in_order places (this_life M) (values_of life.entries) listed)
 
     all_leads : (T : Keys) → Follows (values_of life.entries) start T → Leads M (members []) (L ++ calls_of (values_of life.entries)) T
     all_leads T follows = leads_then M L (calls_of (values_of life.entries)) (members []) start T (leads_more M (members []) (members []) L start leads (λ k. refl)) (follows_leads M (values_of life.entries) start T called_all follows)
@@ -148,7 +95,7 @@ module _ (places : BTreeMap ℕ ℕ) (answers : BTreeMap ℕ Bool) (M : List Mar
     wrong_now : (i : ℕ) → WrongAt answers (values_of life.entries) start i → IsWrong places answers M i
     wrong_now i wrong = subst (IsWrong places answers M) at.is (record {
       set_before = at.set_before;
-      reached = record { place = place.0; here = place.1; list = L ++ calls_of at.done; each = λ j. (to j, from j); ascending = rising; leads = led };
+      reached = record { place = place.0; here = place.1; list = L ++ calls_of at.done; each = front.each; ascending = front.ascending; leads = led };
       command = at.this.command;
       called = called_all at.this this_among;
       answer = at.answer;
@@ -159,9 +106,6 @@ module _ (places : BTreeMap ℕ ℕ) (answers : BTreeMap ℕ Bool) (M : List Mar
         at : Wrong answers (values_of life.entries) start i
         at = wrong_place answers (values_of life.entries) start i wrong
 
-        parts_rise : Rises places (at.done ++ at.this ∷ at.rest)
-        parts_rise = subst (Rises places) at.parts listed.rise
-
         this_among : Among at.this (values_of life.entries)
         this_among = subst (Among at.this) (sym at.parts) (among_right at.this at.done (at.this ∷ at.rest) (inl refl))
 
@@ -171,44 +115,14 @@ module _ (places : BTreeMap ℕ ℕ) (answers : BTreeMap ℕ Bool) (M : List Mar
         place : (p : ℕ) × IsAt places at.this.call p
         place = listed.have at.this this_among
 
-        to : (j : ℕ) → IsListed j (L ++ calls_of at.done) → IsMade M j × ((p : ℕ) × IsAt places j p × (p < place.0))
-        to j is = ⊎_elim
-            (λ left.
-            let (past, (p, there)) = (in_order.each j).0 left in
-            (past_made_all M j past, (p, there, past_below j at.this.call p place.0 past (made_this at.this this_among) there place.1)))
-            (λ right.
-            let (m, among, same) = listed_among at.done j right in
-            let (q, there) = listed.have m (done_among m among) in
-            subst (λ (n : ℕ). IsMade M n × ((p : ℕ) × IsAt places n p × (p < place.0))) same
-            (life_made M m.call (made_this m (done_among m among)), (q, there, below_this places at.done at.rest at.this m place.0 q parts_rise among there place.1)))
-            (listed_append j L (calls_of at.done) is)
+        parts : L ++ calls_of (values_of life.entries) ≡ (L ++ calls_of at.done) ++ at.this.call ∷ calls_of at.rest
+        parts =
+            ap (λ (ls : List Listed). L ++ calls_of ls) at.parts ∙ ap (λ (l : List ℕ). L ++ l) (map-append (λ (l : Listed). l.call) at.done (at.this ∷ at.rest))
+            ∙ sym (append_assoc L (calls_of at.done) (at.this.call ∷ calls_of at.rest))
 
-        from : (j : ℕ) → IsMade M j × ((p : ℕ) × IsAt places j p × (p < place.0)) → IsListed j (L ++ calls_of at.done)
-        from j (made, (q, there, lt)) = ⊎_elim
-            (λ past. listed_left j L (calls_of at.done) ((in_order.each j).1 (past, (q, there))))
-            (λ this.
-            let (m, among, same) = listed.among j q this there in
-            let m_at = ap (tree.get nat_cmp places) same ∙ there in
-            ⊎_elim
-            (λ first. listed_right j L (calls_of at.done) (subst (λ (n : ℕ). IsListed n (calls_of at.done)) same (among_listed at.done m first)))
-            (λ later. ⊎_elim
-            (λ here. absurd (let e = same_Some place.0 q (sym place.1 ∙ ap (λ (x : Listed). tree.get nat_cmp places x.call) here ∙ m_at) in omega (arith, e, lt)))
-            (λ behind. absurd (let more = above_this places at.done at.rest at.this m place.0 q parts_rise behind m_at place.1 in omega (arith, more, lt)))
-            later)
-            (among_parts m at.done (at.this ∷ at.rest) (subst (Among m) at.parts among)))
-            (made_split M j made)
-
-        rising : (j k p q : ℕ) → IsEarlier j k (L ++ calls_of at.done) → IsAt places j p → IsAt places k q → p < q
-        rising j k p q is here there = ⊎_elim
-            (λ left. in_order.ascending j k p q left here there)
-            (λ rest. ⊎_elim
-            (λ (left, right).
-            let (past, other) = (in_order.each j).0 left in
-            let (m, among, same) = listed_among at.done k right in
-            past_below j k p q past (subst (IsMade (this_life M)) same (made_this m (done_among m among))) here there)
-            (λ right. ascending places at.done j k p q (front_rises places at.done (at.this ∷ at.rest) parts_rise) right here there)
-            rest)
-            (earlier_append j k L (calls_of at.done) is)
+        front : IsFront (IsAt places) M place.0 (L ++ calls_of at.done)
+        front = front_is (IsAt places) (λ i p q here there. same_Some p q (sym here ∙ there)) M (L ++ calls_of at.done) (calls_of at.rest) at.this.call place.0
+            (subst (IsInOrder (IsAt places) M) parts all_in_order) place.1
 
         led : Leads M (members []) (L ++ calls_of at.done) at.set_before
         led = leads_then M L (calls_of at.done) (members []) start at.set_before (leads_more M (members []) (members []) L start leads (λ k. refl))
@@ -268,35 +182,17 @@ ran_none places answers keys is_set = record {
 pub ran_rest : (places : BTreeMap ℕ ℕ) (answers : BTreeMap ℕ Bool) (M : List Mark) (keys : BTreeSet ℕ) (wrong_reply : Option ℕ) (m : Mark) → ((found : List ℕ) → m ≢ Opened found) → Ran places answers M keys wrong_reply
     → Ran places answers (m ∷ M) keys wrong_reply
 ran_rest places answers M keys wrong_reply (Opened found) no_open ran = absurd (no_open found refl)
-ran_rest places answers M keys wrong_reply Stop no_open ran = record { now = ran.now; is_set = ran.is_set; list = ran.list; in_order = ran.in_order; leads = ran.leads; wrong_is = ran.wrong_is }
-ran_rest places answers M keys wrong_reply Crash no_open ran = record { now = ran.now; is_set = ran.is_set; list = ran.list; in_order = ran.in_order; leads = ran.leads; wrong_is = ran.wrong_is }
-ran_rest places answers M keys wrong_reply (OpenFailed why) no_open ran = record { now = ran.now; is_set = ran.is_set; list = ran.list; in_order = ran.in_order; leads = ran.leads; wrong_is = ran.wrong_is }
-ran_rest places answers M keys wrong_reply (Call j a c) no_open ran = record { now = ran.now; is_set = ran.is_set; list = ran.list; in_order = ran.in_order; leads = ran.leads; wrong_is = ran.wrong_is }
-ran_rest places answers M keys wrong_reply (Answer j b) no_open ran = record { now = ran.now; is_set = ran.is_set; list = ran.list; in_order = ran.in_order; leads = ran.leads; wrong_is = ran.wrong_is }
-ran_rest places answers M keys wrong_reply (Refused j why) no_open ran = record { now = ran.now; is_set = ran.is_set; list = ran.list; in_order = ran.in_order; leads = ran.leads; wrong_is = ran.wrong_is }
-ran_rest places answers M keys wrong_reply (Cut j why) no_open ran = record { now = ran.now; is_set = ran.is_set; list = ran.list; in_order = ran.in_order; leads = ran.leads; wrong_is = ran.wrong_is }
+ran_rest places answers M keys wrong_reply _ no_open ran = record { now = ran.now; is_set = ran.is_set; list = ran.list; in_order = ran.in_order; leads = ran.leads; wrong_is = ran.wrong_is }
 
 pub compared_none : (places : BTreeMap ℕ ℕ) → Compared places [] 0 None
 compared_none places = record { counts = refl; set_is = λ n is. absurd (cc) }
 
 pub compared_rest : (places : BTreeMap ℕ ℕ) (M : List Mark) (count : ℕ) (wrong_set : Option ℕ) (m : Mark) → ((found : List ℕ) → m ≢ Opened found) → Compared places M count wrong_set → Compared places (m ∷ M) count wrong_set
 compared_rest places M count wrong_set (Opened found) no_open compared = absurd (no_open found refl)
-compared_rest places M count wrong_set Stop no_open compared = record { counts = compared.counts; set_is = compared.set_is }
-compared_rest places M count wrong_set Crash no_open compared = record { counts = compared.counts; set_is = compared.set_is }
-compared_rest places M count wrong_set (OpenFailed why) no_open compared = record { counts = compared.counts; set_is = compared.set_is }
-compared_rest places M count wrong_set (Call j a c) no_open compared = record { counts = compared.counts; set_is = compared.set_is }
-compared_rest places M count wrong_set (Answer j b) no_open compared = record { counts = compared.counts; set_is = compared.set_is }
-compared_rest places M count wrong_set (Refused j why) no_open compared = record { counts = compared.counts; set_is = compared.set_is }
-compared_rest places M count wrong_set (Cut j why) no_open compared = record { counts = compared.counts; set_is = compared.set_is }
+compared_rest places M count wrong_set _ no_open compared = record { counts = compared.counts; set_is = compared.set_is }
 
 -- there are no more opens than marks
 pub opens_within : (M : List Mark) → opens M ≤ length M
 opens_within [] = omega arith
 opens_within (Opened keys ∷ M) = let rest = opens_within M in omega (arith, rest)
-opens_within (Stop ∷ M) = let rest = opens_within M in omega (arith, rest)
-opens_within (Crash ∷ M) = let rest = opens_within M in omega (arith, rest)
-opens_within (OpenFailed why ∷ M) = let rest = opens_within M in omega (arith, rest)
-opens_within (Call j a c ∷ M) = let rest = opens_within M in omega (arith, rest)
-opens_within (Answer j b ∷ M) = let rest = opens_within M in omega (arith, rest)
-opens_within (Refused j why ∷ M) = let rest = opens_within M in omega (arith, rest)
-opens_within (Cut j why ∷ M) = let rest = opens_within M in omega (arith, rest)
+opens_within (_ ∷ M) = let rest = opens_within M in omega (arith, rest)

@@ -1,16 +1,13 @@
 -- One mark more in the pass over the order of the calls.
-use Rattle.std.proofs.Common.{◌≡◌, ◌≢◌, ◌⊎◌, inl, inr, ⊎_elim, ℕ, ◌+◌, ◌<◌, ◌≤◌, max, Bool, true, false, List, [], ◌∷◌, sym, refl, ◌∙◌, ap, subst, arith, Option, Some, None}
+use Rattle.std.proofs.Common.{◌≡◌, ◌≢◌, ◌⊎◌, inl, inr, ⊎_elim, ℕ, ◌+◌, ◌<◌, ◌≤◌, max, Bool, true, false, List, [], ◌∷◌, sym, refl, ◌∙◌, ap, subst, arith, Option, Some, None, BTreeMap, BTreeSet, nat_cmp}
 use Rattle.std.specs.BTreeMap as tree
 use Rattle.std.specs.BTreeSet as set
-use Rattle.std.specs.BTreeMap.{BTreeMap}
-use Rattle.std.specs.BTreeSet.{BTreeSet}
-use Rattle.std.specs.Ordering.{nat_cmp}
 use Rattle.std.proofs.lemmas.Grind.{common_steps}
 use Rattle.std.proofs.lemmas.Option.{same_Some}
 use Rattle.std.proofs.lemmas.Bool.{cases_eq, cases_lt}
 use Rattle.lz_slot.specs.declared.command.Command.{Command}
 use Rattle.lz_slot.specs.declared.history.Mark.{Mark}
-use Rattle.lz_slot.specs.declared.history.Mark.TheVariants.{Call, Answer, Refused, Cut, Stop, Crash, Opened, OpenFailed}
+use Rattle.lz_slot.specs.declared.history.Mark.TheVariants.{Call, Answer, Opened}
 use Rattle.lz_judge.specs.Records.{IsMade}
 use Rattle.lz_judge.specs.Flaws.{IsMisplaced, IsPast}
 use Rattle.lz_judge.specs.Readings.{Floored, IsAt, Ordered}
@@ -33,30 +30,12 @@ same_place places i j p q same at at' = same_Some p q (sym at ∙ ap (tree.get n
 
 -- nothing has come
 pub floored_none : (places : BTreeMap ℕ ℕ) (used : BTreeSet ℕ) → used.keys ≡ [] → Floored [] places 0 0 used None
-floored_none places used none = record {
-  answered = λ i b p is at. absurd is;
-  past = λ i p is at. absurd is;
-  floor_is = λ q lt. absurd (omega (arith, lt));
-  made = λ i p is at. absurd is.1.1;
-  top_is = λ q lt. absurd (omega (arith, lt));
-  used_is = λ p is. absurd (let e : set.contains nat_cmp used p ≡ false = rw none refl in cc);
-  order = record {
-    found = λ j is. absurd (cc);
-    apart = λ n i j p q at at' is. absurd is;
-    before = λ n i j p q at at' is. absurd is;
-    lives = λ n i j p q at at' is. absurd is;
-  };
-}
+floored_none places used none = grind arith
 
 module _ (M : List Mark) (places : BTreeMap ℕ ℕ) (floor top : ℕ) (used : BTreeSet ℕ) (least : Option ℕ) (so_far : Floored M places floor top used least) where
   -- a mark that is no call
   ordered_other : (m : Mark) → ((j a : ℕ) (c : Command) → m ≢ Call j a c) → Ordered (m ∷ M) places least
-  ordered_other m no_call = record {
-    found = λ j is. forbidden_more M m places j (so_far.order.found j is);
-    apart = λ none i j p q at at' is. so_far.order.apart none i j p q at at' (⊎_elim (λ (actor, c, here, made). absurd (no_call j actor c here)) (λ there. there) is);
-    before = λ none i j p q at at' is. so_far.order.before none i j p q at at' (⊎_elim (λ (actor, c, b, here, told). absurd (no_call j actor c here)) (λ there. there) is);
-    lives = λ none i j p q at at' is. so_far.order.lives none i j p q at at' (⊎_elim (λ (actor, c, here, past). absurd (no_call j actor c here)) (λ there. there) is);
-  }
+  ordered_other m no_call = grind (arith, forbidden_more)
 
   -- a mark that changes nothing
   floored_other : (m : Mark) → ((j a : ℕ) (c : Command) → m ≢ Call j a c) → ((j : ℕ) (b : Bool) → m ≢ Answer j b)
@@ -76,11 +55,7 @@ module _ (M : List Mark) (places : BTreeMap ℕ ℕ) (floor top : ℕ) (used : B
   floored_rest (Call j a c) no_call no_answer no_open = absurd (no_call j a c refl)
   floored_rest (Answer j b) no_call no_answer no_open = absurd (no_answer j b refl)
   floored_rest (Opened keys) no_call no_answer no_open = absurd (no_open keys refl)
-  floored_rest (Refused j why) no_call no_answer no_open = floored_other (Refused j why) no_call no_answer (λ i is. is) (λ i is. is)
-  floored_rest (Cut j why) no_call no_answer no_open = floored_other (Cut j why) no_call no_answer (λ i is. is) (λ i is. is)
-  floored_rest Stop no_call no_answer no_open = floored_other Stop no_call no_answer (λ i is. is) (λ i is. is)
-  floored_rest Crash no_call no_answer no_open = floored_other Crash no_call no_answer (λ i is. is) (λ i is. is)
-  floored_rest (OpenFailed why) no_call no_answer no_open = floored_other (OpenFailed why) no_call no_answer (λ i is. is) (λ i is. is)
+  floored_rest m no_call no_answer no_open = floored_other m no_call no_answer (λ i is. is) (λ i is. is)
 
   -- the answer of a call without a point
   pub floored_untold : (i : ℕ) (b : Bool) → tree.get nat_cmp places i ≡ None → Floored (Answer i b ∷ M) places floor top used least

@@ -1,20 +1,16 @@
 -- One mark more in the run of the calls, and what the run comes to.
-use Rattle.std.proofs.Common.{◌≡◌, ◌≢◌, inl, inr, ⊎_elim, ℕ, Bool, List, [], ◌∷◌, ◌++◌, take, drop, sym, refl, ◌∙◌, ap, subst, arith, Option, Some, None}
-use Rattle.std.specs.Prelude.{reverse}
+use Rattle.std.proofs.Common.{◌≡◌, ◌≢◌, inl, inr, ⊎_elim, ℕ, Bool, List, [], ◌∷◌, ◌++◌, take, drop, sym, refl, ◌∙◌, ap, subst, arith, Option, Some, None, reverse, BTreeMap, BTreeSet, nat_cmp}
 use Rattle.std.specs.Map.{values_of}
 use Rattle.std.specs.BTreeMap as tree
 use Rattle.std.specs.BTreeSet as set
-use Rattle.std.specs.BTreeMap.{BTreeMap}
-use Rattle.std.specs.BTreeSet.{BTreeSet}
-use Rattle.std.specs.Ordering.{nat_cmp}
 use Rattle.std.proofs.lemmas.Grind.{common_steps}
 use Rattle.std.proofs.lemmas.Option.{same_Some}
 use Rattle.std.proofs.lemmas.Bool.{cases_eq}
 use Rattle.lz_slot.specs.Sets.{Keys, Same, members}
 use Rattle.lz_slot.specs.declared.command.Command.{Command}
 use Rattle.lz_slot.specs.declared.history.Mark.{Mark}
-use Rattle.lz_slot.specs.declared.history.Mark.TheVariants.{Call, Answer, Refused, Cut, Stop, Crash, Opened, OpenFailed}
-use Rattle.lz_slot.specs.Histories.{Fits, IsCalled, IsListed, Life, lives}
+use Rattle.lz_slot.specs.declared.history.Mark.TheVariants.{Call, Answer, Refused, Cut, Opened}
+use Rattle.lz_slot.specs.Histories.{Fits, IsCalled, Life, lives}
 use Rattle.lz_judge.specs.Records.{IsMade}
 use Rattle.lz_judge.specs.Flaws.{IsInOrder, OrderedChain}
 use Rattle.lz_judge.specs.Readings.{IsAt}
@@ -22,7 +18,7 @@ use Rattle.lz_judge.specs.Plays.{Finishes, IsKnown, IsLife, IsSet, Played, Plays
 use Rattle.lz_judge.specs.declared.playing.Listed.{Listed}
 use Rattle.lz_judge.proofs.Lives.LawfulHistory.{made_cases, made_less, so_far}
 use Rattle.lz_judge.proofs.Lives.CurrentLife.{answered_life, life_before, life_made, life_mark, lives_parts}
-use Rattle.lz_judge.proofs.Lives.PlaceOrder.{among_listed, ascending, calls_of, earlier, listed_among, once, runs, OfLife, of_life}
+use Rattle.lz_judge.proofs.Lives.PlaceOrder.{calls_of, earlier, in_order, once, runs, OfLife, of_life}
 
 -- what is known of more marks is known of fewer
 pub known_rest : (places : BTreeMap ℕ ℕ) (answers : BTreeMap ℕ Bool) (m : Mark) (M : List Mark) → IsKnown places answers (m ∷ M) → IsKnown places answers M
@@ -80,33 +76,20 @@ module _ (places : BTreeMap ℕ ℕ) (answers : BTreeMap ℕ Bool) (M : List Mar
       listed : OfLife places (this_life M) calls
       listed = of_life places (this_life M) life ordered is_life
 
-      listed_is : (i : ℕ) → IsListed i (calls_of calls) → IsMade (this_life M) i × ((p : ℕ) × IsAt places i p)
-      listed_is i is =
-          let (l, at, same) = listed_among calls i is in
-          subst (λ (n : ℕ). IsMade (this_life M) n × ((p : ℕ) × IsAt places n p)) same ((l.command, listed.called l at), listed.have l at)
-
-      is_listed : (i : ℕ) → IsMade (this_life M) i × ((p : ℕ) × IsAt places i p) → IsListed i (calls_of calls)
-      is_listed i (made, (p, at)) =
-          let (l, among, same) = listed.among i p made at in
-          subst (λ (n : ℕ). IsListed n (calls_of calls)) same (among_listed calls l among)
-
       order : IsInOrder (IsAt places) (this_life M) (calls_of calls)
-      order = record {
-        each = λ i. (listed_is i, is_listed i);
-        ascending = λ i j p q is at at'. ascending places calls i j p q listed.rise is at at';
-      }
+      order = in_order places (this_life M) calls listed
 
       fits : Fits (this_start M) (this_life M) (calls_of calls) T'
       fits = record {
         once = λ i. once places calls i listed.have listed.rise;
-        answered = λ i b is. is_listed i (answered_life M i b known.lawful is, known.answered i b (life_mark M (Answer i b) is));
+        answered = λ i b is. (order.each i).1 (answered_life M i b known.lawful is, known.answered i b (life_mark M (Answer i b) is));
         not_refused = λ i (why, has) is.
             let none = known.refused i (why, life_mark M (Refused i why) has) in
-            let (made, (p, at)) = listed_is i is in
+            let (made, (p, at)) = (order.each i).0 is in
             let e : None ≡ Some p = sym none ∙ at in absurd (cc);
         order = λ i j before is is'.
-            let (made, (p, at)) = listed_is i is in
-            let (made', (q, at')) = listed_is j is' in
+            let (made, (p, at)) = (order.each i).0 is in
+            let (made', (q, at')) = (order.each j).0 is' in
             earlier places calls i j p q listed.have listed.rise at at' (known.order i j p q at at' (life_before M i j before)) is is';
         runs = runs (this_life M) answers calls S T (this_start M) T' (λ i b is. known.told i b (life_mark M (Answer i b) is)) listed.called start end plays;
       }
@@ -122,36 +105,22 @@ module _ (places : BTreeMap ℕ ℕ) (answers : BTreeMap ℕ Bool) (M : List Mar
     -- the last life was run
     pub played_all : (keys' : BTreeSet ℕ) (wrong_reply' : Option ℕ) → Finishes answers (values_of life.entries) before.now keys' wrong_reply wrong_reply' → wrong_reply' ≡ None → wrong_set ≡ None
         → (T : Keys) × OrderedChain (IsAt places) (lives (members []) M) T
-    played_all keys' wrong_reply' finishes no_reply no_set =
-        let (was, plays) = finishes.fine no_reply in
-        let (start, chain) = before.chain was no_set in
-        (finishes.now, chain_more life before.now finishes.now finishes.now ordered before.is_life start chain plays (λ k. refl))
+    played_all keys' wrong_reply' finishes no_reply no_set = grind (arith, chain_more)
 
     -- the next life begins
     pub played_opened : (found : List ℕ) (keys' : BTreeSet ℕ) (life' : BTreeMap ℕ Listed) (wrong_reply' wrong_set' : Option ℕ) → Finishes answers (values_of life.entries) before.now keys' wrong_reply wrong_reply'
         → tree.IsEmpty life' → ((S : Keys) → IsSet keys' S → wrong_set' ≡ None → (wrong_set ≡ None) × Same S (members found)) → Played places (Opened found ∷ M) keys' life' wrong_reply' wrong_set'
-    played_opened found keys' life' wrong_reply' wrong_set' finishes none compares = record {
-      now = finishes.now;
-      is_set = finishes.is_set;
-      is_life = empty_life places life' none;
-      chain = λ no_reply no_set.
-          let (was, plays) = finishes.fine no_reply in
-          let (was_set, same) = compares finishes.now finishes.is_set no_set in
-          let (start, chain) = before.chain was was_set in
-          (same, chain_more life before.now finishes.now (members found) ordered before.is_life start chain plays same);
-    }
+    played_opened found keys' life' wrong_reply' wrong_set' finishes none compares = grind (arith, empty_life, chain_more)
 
 module _ (places : BTreeMap ℕ ℕ) (M : List Mark) (keys : BTreeSet ℕ) (life : BTreeMap ℕ Listed) (wrong_reply wrong_set : Option ℕ) (before : Played places M keys life wrong_reply wrong_set) where
   -- a mark of the life, or between lives, that is no call
   pub played_rest : (m : Mark) → ((j a : ℕ) (c : Command) → m ≢ Call j a c) → ((found : List ℕ) → m ≢ Opened found) → Played places (m ∷ M) keys life wrong_reply wrong_set
   played_rest (Call j a c) no_call no_open = absurd (no_call j a c refl)
   played_rest (Opened found) no_call no_open = absurd (no_open found refl)
-  played_rest Stop no_call no_open = record { now = before.now; is_set = before.is_set; is_life = before.is_life; chain = before.chain }
-  played_rest Crash no_call no_open = record { now = before.now; is_set = before.is_set; is_life = before.is_life; chain = before.chain }
-  played_rest (OpenFailed why) no_call no_open = record { now = before.now; is_set = before.is_set; is_life = before.is_life; chain = before.chain }
   played_rest (Answer j b) no_call no_open = record { now = before.now; is_set = before.is_set; is_life = life_other places (this_life M) life (Answer j b) no_call before.is_life; chain = before.chain }
   played_rest (Refused j why) no_call no_open = record { now = before.now; is_set = before.is_set; is_life = life_other places (this_life M) life (Refused j why) no_call before.is_life; chain = before.chain }
   played_rest (Cut j why) no_call no_open = record { now = before.now; is_set = before.is_set; is_life = life_other places (this_life M) life (Cut j why) no_call before.is_life; chain = before.chain }
+  played_rest _ no_call no_open = record { now = before.now; is_set = before.is_set; is_life = before.is_life; chain = before.chain }
 
   -- a call without a place
   pub played_unlisted : (i a : ℕ) (c : Command) → tree.get nat_cmp places i ≡ None → Played places (Call i a c ∷ M) keys life wrong_reply wrong_set

@@ -1,11 +1,7 @@
 -- One mark, or one point, more in a pass.
-use Rattle.std.proofs.Common.{◌≡◌, ◌≢◌, ◌⊎◌, inl, inr, ⊎_elim, ℕ, ◌+◌, ◌<◌, Bool, true, false, List, [], ◌∷◌, length, get_or, take, sym, refl, ◌∙◌, ap, subst, Option, Some, None, Result, Ok, Err}
-use Rattle.std.specs.Prelude.{reverse, IfOk, IsSome, OnOk, is_some, not}
+use Rattle.std.proofs.Common.{◌≡◌, ◌≢◌, ◌⊎◌, inl, inr, ⊎_elim, ℕ, ◌+◌, ◌<◌, Bool, true, false, List, [], ◌∷◌, length, get_or, take, sym, refl, ◌∙◌, ap, subst, Option, Some, None, Result, Ok, Err, reverse, IfOk, IsSome, OnOk, is_some, not, BTreeMap, BTreeSet, nat_cmp}
 use Rattle.std.specs.BTreeMap as tree
 use Rattle.std.specs.BTreeSet as set
-use Rattle.std.specs.BTreeMap.{BTreeMap}
-use Rattle.std.specs.BTreeSet.{BTreeSet}
-use Rattle.std.specs.Ordering.{nat_cmp}
 use Rattle.std.proofs.lemmas.List.{reverse-append, take_more}
 use Rattle.std.proofs.lemmas.Option.{same_Some}
 use Rattle.lz_slot.specs.declared.history.Refusal.{Refusal}

@@ -1,9 +1,6 @@
 -- What the tables of the passes say of the history.
-use Rattle.std.proofs.Common.{◌≡◌, inl, inr, ⊎_elim, ◌↔◌, ℕ, ◌≤◌, Bool, true, List, [], ◌∷◌, sym, refl, ◌∙◌, ap, subst, arith, Some, None}
-use Rattle.std.specs.Prelude.{map}
+use Rattle.std.proofs.Common.{◌≡◌, inl, inr, ⊎_elim, ◌↔◌, ℕ, ◌≤◌, Bool, true, List, [], ◌∷◌, sym, refl, ◌∙◌, ap, subst, arith, Some, None, map, BTreeMap, nat_cmp}
 use Rattle.std.specs.BTreeMap as tree
-use Rattle.std.specs.BTreeMap.{BTreeMap}
-use Rattle.std.specs.Ordering.{nat_cmp}
 use Rattle.std.proofs.lemmas.Option.{same_Some}
 use Rattle.std.proofs.lemmas.Bool.Decides.{eqb_tells}
 use Rattle.lz_slot.specs.Sets.{Keys}
@@ -18,7 +15,8 @@ use Rattle.lz_judge.specs.declared.flaw.Flaw.TheVariants.{WrongReply}
 use Rattle.lz_judge.specs.Readings.{AreLow, HasPlaces, IsAt, Ordered, answer_of, is_made, place_of}
 use Rattle.lz_judge.specs.Plays.{IsKnown, IsWrong}
 use Rattle.lz_judge.specs.Verdicts.{AreListed}
-use Rattle.lz_judge.proofs.Lives.LawfulHistory.{made_more, open_made}
+use Rattle.lz_judge.proofs.Lives.LawfulHistory.{made_more, not_ended}
+use Rattle.lz_judge.proofs.Lives.CurrentLife.{open_made}
 
 -- a call that was made is counted
 pub made_is : (M : List Mark) (i : ℕ) → IsMade M i → is_made M i ≡ true
@@ -27,28 +25,18 @@ made_is (Call j a c ∷ M) i (d, (actor, has)) = elim (eqb_tells j i) [
   | inl t ↦ rw t.0 refl
   | inr f ↦ rw f.0 (made_is M i (⊎_elim (λ here. absurd (let same : j ≡ i = cc in f.1 same)) (λ there. (d, (actor, there))) has))
 ]
-made_is (Answer j b ∷ M) i (d, (actor, has)) = made_is M i (⊎_elim (λ here. absurd (cc)) (λ there. (d, (actor, there))) has)
-made_is (Refused j why ∷ M) i (d, (actor, has)) = made_is M i (⊎_elim (λ here. absurd (cc)) (λ there. (d, (actor, there))) has)
-made_is (Cut j why ∷ M) i (d, (actor, has)) = made_is M i (⊎_elim (λ here. absurd (cc)) (λ there. (d, (actor, there))) has)
-made_is (Stop ∷ M) i (d, (actor, has)) = made_is M i (⊎_elim (λ here. absurd (cc)) (λ there. (d, (actor, there))) has)
-made_is (Crash ∷ M) i (d, (actor, has)) = made_is M i (⊎_elim (λ here. absurd (cc)) (λ there. (d, (actor, there))) has)
-made_is (Opened keys ∷ M) i (d, (actor, has)) = made_is M i (⊎_elim (λ here. absurd (cc)) (λ there. (d, (actor, there))) has)
-made_is (OpenFailed why ∷ M) i (d, (actor, has)) = made_is M i (⊎_elim (λ here. absurd (cc)) (λ there. (d, (actor, there))) has)
+made_is (_ ∷ M) i (d, (actor, has)) = made_is M i (⊎_elim (λ here. absurd (cc)) (λ there. (d, (actor, there))) has)
 
 -- an answered call was made
 pub told_made : (M : List Mark) (i : ℕ) (b : Bool) → IsLawful M → IsAnswered M i b → IsMade M i
 told_made [] i b lawful has = absurd has
-told_made (Call j a c ∷ M) i b lawful has = made_more (Call j a c) M i (told_made M i b lawful.1 (⊎_elim (λ here. absurd (cc)) (λ there. there) has))
-told_made (Refused j why ∷ M) i b lawful has = made_more (Refused j why) M i (told_made M i b lawful.1 (⊎_elim (λ here. absurd (cc)) (λ there. there) has))
-told_made (Cut j why ∷ M) i b lawful has = made_more (Cut j why) M i (told_made M i b lawful.1 (⊎_elim (λ here. absurd (cc)) (λ there. there) has))
 told_made (Stop ∷ M) i b lawful has = made_more (Stop) M i (told_made M i b lawful.1 (⊎_elim (λ here. absurd (cc)) (λ there. there) has))
 told_made (Crash ∷ M) i b lawful has = made_more (Crash) M i (told_made M i b lawful.1 (⊎_elim (λ here. absurd (cc)) (λ there. there) has))
-told_made (Opened keys ∷ M) i b lawful has = made_more (Opened keys) M i (told_made M i b lawful.1 (⊎_elim (λ here. absurd (cc)) (λ there. there) has))
-told_made (OpenFailed why ∷ M) i b lawful has = made_more (OpenFailed why) M i (told_made M i b lawful.1 (⊎_elim (λ here. absurd (cc)) (λ there. there) has))
 told_made (Answer j d ∷ M) i b lawful has = ⊎_elim
     (λ here. let same : j ≡ i = cc in made_more (Answer j d) M i (subst (IsMade M) same (open_made M j lawful.0.0 lawful.0.1)))
     (λ there. made_more (Answer j d) M i (told_made M i b lawful.1 there))
     has
+told_made (m ∷ M) i b lawful has = made_more m M i (told_made M i b lawful.1 (⊎_elim (λ here. absurd (cc)) (λ there. there) has))
 
 -- an open call has no answer
 pub open_untold : (M : List Mark) (i actor : ℕ) (b : Bool) → IsLawful M → actor_of M i ≡ Some actor → IsAnswered M i b → ⊥
@@ -59,33 +47,17 @@ open_untold (Call j a c ∷ M) i actor b lawful is has =
       | inl t ↦ lawful.0.1 (subst (IsMade M) (sym t.1) (told_made M i b lawful.1 older))
       | inr f ↦ open_untold M i actor b lawful.1 (rw f.0 at is) older
     ]
-open_untold (Answer j d ∷ M) i actor b lawful is has = elim (eqb_tells j i) [
-  | inl t ↦ let e = rw t.0 at is in absurd (cc)
-  | inr f ↦ open_untold M i actor b lawful.1 (rw f.0 at is) (⊎_elim (λ here. absurd (let same : j ≡ i = cc in f.1 same)) (λ there. there) has)
-]
-open_untold (Refused j why ∷ M) i actor b lawful is has = elim (eqb_tells j i) [
-  | inl t ↦ let e = rw t.0 at is in absurd (cc)
-  | inr f ↦ open_untold M i actor b lawful.1 (rw f.0 at is) (⊎_elim (λ here. absurd (cc)) (λ there. there) has)
-]
-open_untold (Cut j why ∷ M) i actor b lawful is has = elim (eqb_tells j i) [
-  | inl t ↦ let e = rw t.0 at is in absurd (cc)
-  | inr f ↦ open_untold M i actor b lawful.1 (rw f.0 at is) (⊎_elim (λ here. absurd (cc)) (λ there. there) has)
-]
-open_untold (Stop ∷ M) i actor b lawful is has = absurd (cc)
-open_untold (Crash ∷ M) i actor b lawful is has = absurd (cc)
-open_untold (Opened keys ∷ M) i actor b lawful is has = absurd (cc)
+open_untold (Answer j d ∷ M) i actor b lawful is has =
+    let still = not_ended j i actor (actor_of M i) is in
+    open_untold M i actor b lawful.1 still.1 (⊎_elim (λ here. absurd (let same : j ≡ i = cc in still.0 same)) (λ there. there) has)
+open_untold (Refused j why ∷ M) i actor b lawful is has = open_untold M i actor b lawful.1 (not_ended j i actor (actor_of M i) is).1 (⊎_elim (λ here. absurd (cc)) (λ there. there) has)
+open_untold (Cut j why ∷ M) i actor b lawful is has = open_untold M i actor b lawful.1 (not_ended j i actor (actor_of M i) is).1 (⊎_elim (λ here. absurd (cc)) (λ there. there) has)
 open_untold (OpenFailed why ∷ M) i actor b lawful is has = open_untold M i actor b lawful.1 is (⊎_elim (λ here. absurd (cc)) (λ there. there) has)
+open_untold (_ ∷ M) i actor b lawful is has = absurd (cc)
 
 -- an answer that was seen is the call's
 pub told_is : (M : List Mark) (i : ℕ) (b : Bool) → IsLawful M → IsAnswered M i b → answer_of M i ≡ Some b
 told_is [] i b lawful has = absurd has
-told_is (Call j a c ∷ M) i b lawful has = told_is M i b lawful.1 (⊎_elim (λ here. absurd (cc)) (λ there. there) has)
-told_is (Refused j why ∷ M) i b lawful has = told_is M i b lawful.1 (⊎_elim (λ here. absurd (cc)) (λ there. there) has)
-told_is (Cut j why ∷ M) i b lawful has = told_is M i b lawful.1 (⊎_elim (λ here. absurd (cc)) (λ there. there) has)
-told_is (Stop ∷ M) i b lawful has = told_is M i b lawful.1 (⊎_elim (λ here. absurd (cc)) (λ there. there) has)
-told_is (Crash ∷ M) i b lawful has = told_is M i b lawful.1 (⊎_elim (λ here. absurd (cc)) (λ there. there) has)
-told_is (Opened keys ∷ M) i b lawful has = told_is M i b lawful.1 (⊎_elim (λ here. absurd (cc)) (λ there. there) has)
-told_is (OpenFailed why ∷ M) i b lawful has = told_is M i b lawful.1 (⊎_elim (λ here. absurd (cc)) (λ there. there) has)
 told_is (Answer j d ∷ M) i b lawful has = elim (eqb_tells j i) [
   | inl t ↦ rw t.0 (⊎_elim
       (λ here. let same : d ≡ b = cc in ap (λ (e : Bool). Some e) same)
@@ -93,6 +65,7 @@ told_is (Answer j d ∷ M) i b lawful has = elim (eqb_tells j i) [
       has)
   | inr f ↦ rw f.0 (told_is M i b lawful.1 (⊎_elim (λ here. absurd (let same : j ≡ i = cc in f.1 same)) (λ there. there) has))
 ]
+told_is (_ ∷ M) i b lawful has = told_is M i b lawful.1 (⊎_elim (λ here. absurd (cc)) (λ there. there) has)
 
 -- points and places
 pub place_point : (points : List Point) (i p : ℕ) → place_of points i ≡ Some p → IsPoint points i p
@@ -101,6 +74,9 @@ place_point (point ∷ points) i p is = elim (eqb_tells point.call i) [
   | inl t ↦ inl (t.1, same_Some _ _ (rw t.0 at is))
   | inr f ↦ inr (place_point points i p (rw f.0 at is))
 ]
+
+pub at_point : (M : List Mark) (points : List Point) (places : BTreeMap ℕ ℕ) → HasPlaces points places → AreListed M points places → (i p : ℕ) → IsAt places i p ↔ IsPoint points i p
+at_point M points places has listed i p = (λ at. place_point points i p (sym (has i) ∙ at), listed.placed i p)
 
 pub point_place : (points : List Point) (i p : ℕ) → IsPoint points i p → (q : ℕ) × (place_of points i ≡ Some q)
 point_place [] i p is = absurd is
@@ -138,25 +114,11 @@ places_low points places has low i p at = low_of points low (sym (has i) ∙ at)
 
 pub known_all : (M : List Mark) (points : List Point) (places : BTreeMap ℕ ℕ) (answers : BTreeMap ℕ Bool) → IsLawful M → ((i : ℕ) → tree.get nat_cmp answers i ≡ answer_of M i) → AreListed M points places
     → Ordered M places None → IsKnown places answers M
-known_all M points places answers lawful told listed order = record {
-  lawful = lawful;
-  refused = listed.refused;
-  answered = listed.answered;
-  told = λ i b is. told i ∙ told_is M i b lawful is;
-  apart = order.apart refl;
-  order = order.before refl;
-  lives = order.lives refl;
-}
+known_all M points places answers lawful told listed order = grind (arith, told_is)
 
 -- a chain by places is one by points
 order_same : (at at' : ℕ → ℕ → Type 0) → ((i p : ℕ) → at i p ↔ at' i p) → (M : List Mark) (L : List ℕ) → IsInOrder at M L → IsInOrder at' M L
-order_same at at' same M L order = record {
-  each = λ i. (
-    λ is. let (made, (p, there)) = (order.each i).0 is in (made, (p, (same i p).0 there)),
-    λ (made, (p, there)). (order.each i).1 (made, (p, (same i p).1 there)),
-  );
-  ascending = λ i j p q is here there. order.ascending i j p q is ((same i p).1 here) ((same j q).1 there);
-}
+order_same at at' same M L order = grind arith
 
 pub chain_same : (at at' : ℕ → ℕ → Type 0) → ((i p : ℕ) → at i p ↔ at' i p) → (ls : List Life) (T : Keys) → OrderedChain at ls T → OrderedChain at' ls T
 chain_same at at' same [] T chain = tt
@@ -169,17 +131,11 @@ ordered_chain at (life ∷ ls) T (L, order, fits, chain) = (L, fits, ordered_cha
 -- an answer that was kept was seen
 told_from : (M : List Mark) (i : ℕ) (b : Bool) → answer_of M i ≡ Some b → IsAnswered M i b
 told_from [] i b is = absurd (cc)
-told_from (Call j a c ∷ M) i b is = inr (told_from M i b is)
-told_from (Refused j why ∷ M) i b is = inr (told_from M i b is)
-told_from (Cut j why ∷ M) i b is = inr (told_from M i b is)
-told_from (Stop ∷ M) i b is = inr (told_from M i b is)
-told_from (Crash ∷ M) i b is = inr (told_from M i b is)
-told_from (Opened keys ∷ M) i b is = inr (told_from M i b is)
-told_from (OpenFailed why ∷ M) i b is = inr (told_from M i b is)
 told_from (Answer j d ∷ M) i b is = elim (eqb_tells j i) [
   | inl t ↦ let e = same_Some d b (rw t.0 at is) in inl (λ k. Answer (t.1 k) (e k))
   | inr f ↦ inr (told_from M i b (rw f.0 at is))
 ]
+told_from (_ ∷ M) i b is = inr (told_from M i b is)
 
 -- a call that was found wrong is a flaw
 pub wrong_flaw : (M : List Mark) (points : List Point) (places : BTreeMap ℕ ℕ) (answers : BTreeMap ℕ Bool) → ((i : ℕ) → tree.get nat_cmp answers i ≡ answer_of M i) → ((i p : ℕ) → IsAt places i p ↔ IsPoint points i p)
@@ -211,10 +167,4 @@ wrong_set_flaw at at' same (Opened keys ∷ M) n wrong = ⊎_elim
     (λ (is, (L, T, order, leads, differs)). inl (is, (L, T, order_same at at' same M L order, leads, differs)))
     (λ rest. inr (wrong_set_flaw at at' same M n rest))
     wrong
-wrong_set_flaw at at' same (Stop ∷ M) n wrong = wrong_set_flaw at at' same M n wrong
-wrong_set_flaw at at' same (Crash ∷ M) n wrong = wrong_set_flaw at at' same M n wrong
-wrong_set_flaw at at' same (OpenFailed why ∷ M) n wrong = wrong_set_flaw at at' same M n wrong
-wrong_set_flaw at at' same (Call j a c ∷ M) n wrong = wrong_set_flaw at at' same M n wrong
-wrong_set_flaw at at' same (Answer j b ∷ M) n wrong = wrong_set_flaw at at' same M n wrong
-wrong_set_flaw at at' same (Refused j why ∷ M) n wrong = wrong_set_flaw at at' same M n wrong
-wrong_set_flaw at at' same (Cut j why ∷ M) n wrong = wrong_set_flaw at at' same M n wrong
+wrong_set_flaw at at' same (_ ∷ M) n wrong = wrong_set_flaw at at' same M n wrong

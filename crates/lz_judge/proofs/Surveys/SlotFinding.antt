@@ -1,10 +1,9 @@
 -- One slot more in a survey, and what a survey without damage says.
-use Rattle.std.proofs.Common.{◌≡◌, ◌≢◌, ⊎_elim, ◌↔◌, ℕ, zero, suc, ◌+◌, ◌<◌, Bool, true, List, [], ◌∷◌, ◌++◌, get_or, sym, refl, ◌∙◌, ap, subst, arith, Some, None, Ok, Err, IsTrue, add-one, rules, length, Result}
-use Rattle.std.specs.Prelude.{All, map, ◌==◌, ◌||◌, Contains, OnOk}
+use Rattle.std.proofs.Common.{◌≡◌, ◌≢◌, ⊎_elim, ◌↔◌, ℕ, zero, suc, ◌+◌, ◌<◌, Bool, true, List, [], ◌∷◌, ◌++◌, get_or, sym, refl, ◌∙◌, ap, subst, arith, Some, None, Ok, Err, IsTrue, add-one, rules, length, Result, All, map, ◌==◌, ◌||◌, Contains, OnOk}
 use Rattle.std.specs.List.{list_any}
 use Rattle.std.proofs.lemmas.List.{get_or-map, map-append}
 use Rattle.std.proofs.lemmas.List.Elements.{All-push, All-contains, Contains-get_or}
-use Rattle.std.proofs.lemmas.List.Folds.{list_any_at}
+use Rattle.std.proofs.lemmas.List.Folds.{list_any-append, list_any_at}
 use Rattle.std.proofs.lemmas.Option.{same_Some}
 use Rattle.std.proofs.lemmas.Bool.{cases_eq, cases_lt, eqb-true, eq-eqb, or_cases}
 use Rattle.std.proofs.lemmas.Bool.Decides.{nat_tests}
@@ -59,10 +58,6 @@ module _ (says : ℕ → SlotRead) (n : ℕ) where
   scanned_more old new finding (Err fault) some at is grows table before = tt
 
 -- the slots that aren't closed
-any_append : (i : ℕ) (xs ys : List ℕ) → list_any (λ j. j == i) (xs ++ ys) ≡ (list_any (λ j. j == i) xs || list_any (λ j. j == i) ys)
-any_append i [] ys = refl
-any_append i (x ∷ xs) ys = rw (any_append i xs ys) (grind arith)
-
 open_one : (r : SlotRead) (n i : ℕ) → list_any (λ j. j == i) (open_slot r n) ≡ true → i ≡ n
 open_one read.Closed n i is = absurd (cc)
 open_one (read.Member k) n i is = grind (arith, nat_tests)
@@ -78,17 +73,17 @@ open_below says zero i is = absurd (cc)
 open_below says (suc n) i is = ⊎_elim
     (λ low. let lt = open_below says n i low in omega (arith, lt))
     (λ here. let e = open_one (says n) n i here in omega (arith, e))
-    (or_cases _ _ (sym (any_append i (open_slots says n) (open_slot (says n) n)) ∙ is))
+    (or_cases _ _ (sym (list_any-append (λ j. j == i) (open_slots says n) (open_slot (says n) n)) ∙ is))
 
 opened : (says : ℕ → SlotRead) (n i : ℕ) → i < n → says i ≢ read.Closed → list_any (λ j. j == i) (open_slots says n) ≡ true
 opened says zero i lt is = absurd (omega (arith, lt))
 opened says (suc n) i lt is = ⊎_elim
     (λ here.
     let last : list_any (λ j. j == i) (open_slot (says n) n) ≡ true = subst (λ (q : ℕ). list_any (λ j. j == q) (open_slot (says n) n) ≡ true) (sym here) (one_open (says n) n (subst (λ (q : ℕ). says q ≢ read.Closed) here is)) in
-    any_append i (open_slots says n) (open_slot (says n) n) ∙ grind (arith, last))
+    list_any-append (λ j. j == i) (open_slots says n) (open_slot (says n) n) ∙ grind (arith, last))
     (λ other.
     let low = opened says n i (omega (arith, lt, other)) is in
-    any_append i (open_slots says n) (open_slot (says n) n) ∙ grind (arith, low))
+    list_any-append (λ j. j == i) (open_slots says n) (open_slot (says n) n) ∙ grind (arith, low))
     (cases_eq i n)
 
 -- a finding that passes a test
@@ -107,9 +102,7 @@ any_map i [] = refl
 any_map i (x ∷ rest) = ap (λ (b : Bool). (slot_of x == i) || b) (any_map i rest)
 
 found_at : (i : ℕ) (found : List Finding) → list_any (λ j. j == i) (map slot_of found) ≡ true → (finding : Finding) × Contains found finding × (slot_of finding ≡ i)
-found_at i found is =
-    let (finding, at, here) = any_found (λ finding. slot_of finding == i) found (sym (any_map i found) ∙ is) in
-    (finding, at, eqb-true (slot_of finding) i here)
+found_at i found is = grind (arith, nat_tests, any_found, any_map, eqb-true)
 
 at_found : (found : List Finding) (finding : Finding) → Contains found finding → list_any (λ j. j == slot_of finding) (map slot_of found) ≡ true
 at_found found finding at = any_map (slot_of finding) found ∙ found_any (λ other. slot_of other == slot_of finding) found finding at (eq-eqb _ _ refl)
@@ -156,8 +149,7 @@ module _ (says : ℕ → SlotRead) (n : ℕ) (found : List Finding) (findings : 
       again (Key j q) there has =
           let same : q ≡ k = same_Some q k has in
           (found_below (Key j q) there, (k, is, subst (λ (p : ℕ). IsFirst says j p) same (All-contains (IsFinding says) found (Key j q) findings.each there)))
-      again (BadKey j) there has = absurd (cc)
-      again (Twice j first) there has = absurd (cc)
+      again _ there has = absurd (cc)
 
   -- a key that none has
   pub found_first : (k : ℕ) → says n ≡ read.Member k → ((i : ℕ) → get_or (map finding_key found) i None ≢ Some k) → IsFirst says n k
@@ -177,13 +169,10 @@ module _ (says : ℕ → SlotRead) (n : ℕ) (found : List Finding) (findings : 
       where
         sound_first : (finding : Finding) → Contains found finding → IsTrue (is_sound finding) → IsFinding says finding → slot_of finding ≡ i → (k : ℕ) × Contains found (Key i k) × IsFirst says i k
         sound_first (Key j k) at is first here = (k, subst (λ (q : ℕ). Contains found (Key q k)) here at, subst (λ (q : ℕ). IsFirst says q k) here first)
-        sound_first (BadKey j) at is first here = absurd (cc)
-        sound_first (Twice j f) at is first here = absurd (cc)
+        sound_first _ at is first here = absurd (cc)
 
     pub no_bad_key : (i : ℕ) → i < n → says i ≢ read.BadKey
-    no_bad_key i lt bad =
-        let f = first_of i lt (λ shut. let e : read.BadKey ≡ read.Closed = sym bad ∙ shut in cc) in
-        let e : read.BadKey ≡ read.Member f.0 = sym bad ∙ f.2.holds in cc
+    no_bad_key i lt bad = grind (arith, nat_tests, first_of)
 
     pub no_key_twice : (i j k : ℕ) → i < n → j < n → says i ≡ read.Member k → says j ≡ read.Member k → i ≡ j
     no_key_twice i j k lt lt' one other =
@@ -192,17 +181,14 @@ module _ (says : ℕ → SlotRead) (n : ℕ) (found : List Finding) (findings : 
         ⊎_elim (λ less. absurd (g.lowest i less one)) (λ le. ⊎_elim (λ less. absurd (f.lowest j less other)) (λ le'. omega (arith, le, le')) (cases_lt j i)) (cases_lt i j)
       where
         firsts : (i k : ℕ) → i < n → says i ≡ read.Member k → IsFirst says i k
-        firsts i k lt is =
-            let f = first_of i lt (λ shut. let e : read.Member k ≡ read.Closed = sym is ∙ shut in cc) in
-            subst (λ (q : ℕ). IsFirst says i q) (same_member f.0 k (sym f.2.holds ∙ is)) f.2
+        firsts i k lt is = grind (arith, nat_tests, first_of, same_member)
 
     pub set_found : (k : ℕ) → IsTrue (found_keys found k) ↔ ((i : ℕ) × (i < n) × (says i ≡ read.Member k))
     set_found k = (holds, has)
       where
         key_at : (finding : Finding) → Contains found finding → IsFinding says finding → is_key k finding ≡ true → (i : ℕ) × (i < n) × (says i ≡ read.Member k)
         key_at (Key i q) at is here = (i, found_below (Key i q) at, is.holds ∙ ap (λ (x : ℕ). read.Member x) (eqb-true q k here))
-        key_at (BadKey i) at is here = absurd (cc)
-        key_at (Twice i first) at is here = absurd (cc)
+        key_at _ at is here = absurd (cc)
 
         holds : IsTrue (found_keys found k) → (i : ℕ) × (i < n) × (says i ≡ read.Member k)
         holds is = let (finding, at, here) = any_found (is_key k) found is in key_at finding at (All-contains (IsFinding says) found finding findings.each at) here

@@ -1,11 +1,16 @@
 -- Words and the end of a line.
-use Rattle.std.proofs.Common.{◌≡◌, ◌≢◌, ℕ, ◌+◌, ◌-◌, ◌≤◌, true, false, ◌==◌, List, [], ◌∷◌, ◌++◌, length, take, drop, get_or, slice_index, Some, None, sym, refl, ap, ◌∙◌, arith}
+use Rattle.std.proofs.Common.{◌≡◌, ℕ, ◌+◌, ◌-◌, ◌≤◌, false, ◌==◌, List, [], ◌∷◌, ◌++◌, length, take, drop, All, Some, None, sym, refl, ap, ◌∙◌, arith}
 use Rattle.std.proofs.lemmas.Bool.Decides.{nat_tests}
-use Rattle.std.proofs.lemmas.List.{take-append-drop, drop_more, get_or-take, get_or_default, length-take, take_rest}
+use Rattle.std.proofs.lemmas.List.{take_rest}
+use Rattle.std.proofs.lemmas.List.Elements.{All-nil, All-cons}
 use Rattle.std.proofs.lemmas.List.Splits.{length-slice_split, slice_split_at, slice_split_none}
+use Rattle.std.specs.List.{join_with_byte}
 use Rattle.memchr.specs.Find.{IsFirstByte, is_byte}
+use Rattle.lz_slot.proofs.Texts.Cuts.{Lacks, cut_at, lacks_all, lacks_first, lacks_more}
+use Rattle.lz_slot.proofs.Texts.Spellings.{lacks_join}
 use Rattle.lz_judge.specs.declared.line.Line.{Line}
-use Rattle.lz_judge.specs.LinesRead.{at_end, words_of}
+use Rattle.lz_judge.specs.LinesRead.{at_end, kind_read, line_read, with_word, words_of}
+use Rattle.lz_judge.specs.TextsRead.{IsClear}
 
 no_end : (line : Line) (words : List (List ℕ)) → 1 ≤ length words → at_end line words ≡ None
 no_end line [] some = absurd (omega (arith, some))
@@ -15,22 +20,54 @@ no_end line (word ∷ words) some = refl
 pub some_words : (line : Line) (text : List ℕ) → None ≡ at_end line (words_of text)
 some_words line text = sym (no_end line (words_of text) (omega (arith, length-slice_split (λ b. b == 32) text)))
 
-eq_eqb : {n : ℕ} → n ≡ 32 → n == 32 ≡ true
-eq_eqb e = rw e refl
+-- no byte of a word is this one
+pub none_of : (c : ℕ) (word : List ℕ) → Lacks c word → All (λ b. b == c ≡ false) word
+none_of c [] h = All-nil (λ b. b == c ≡ false)
+none_of c (b ∷ word) h =
+    let both = lacks_more c b word h in
+    let here : b == c ≡ false = grind (arith, nat_tests, both.0) in
+    All-cons (λ b. b == c ≡ false) b word here (none_of c word both.1)
 
-not_here : (n : ℕ) → n ≢ 32 → n == 32 ≡ false
-not_here n other = grind (arith, nat_tests, other)
+first_word : (word rest : List ℕ) → Lacks 32 word → words_of (word ++ 32 ∷ rest) ≡ word ∷ words_of rest
+first_word word rest h = slice_split_at (λ b. b == 32) word 32 rest (none_of 32 word h) refl
 
--- the first word ends at the first space
-first_word : (text : List ℕ) (end : ℕ) → IsFirstByte (is_byte 32) text (Some end) → words_of text ≡ take end text ∷ words_of (drop (end + 1) text)
-first_word text end (first, here) =
-    let whole : take end text ++ (slice_index text end ∷ drop (end + 1) text) ≡ text =
-    ap (λ (t : List ℕ). take end text ++ t) (sym (drop_more text end 0 first.high)) ∙ take-append-drop end text in
-    ap words_of (sym whole) ∙ slice_split_at (λ b. b == 32) (take end text) (slice_index text end) (drop (end + 1) text)
-    (λ k d h. not_here (get_or (take end text) k d) (λ e. first.before k (omega arith) (omega (arith, h, length-take end text)) (eq_eqb (sym (get_or-take end text k d (omega (arith, h, length-take end text)) ∙ get_or_default text k d 0 (omega (arith, h, length-take end text, first.high))) ∙ e)))) here
+last_word : (word : List ℕ) → Lacks 32 word → words_of word ≡ word ∷ []
+last_word word h = slice_split_none (λ b. b == 32) word (none_of 32 word h)
 
 pub word_and_rest : (text : List ℕ) (end : ℕ) → IsFirstByte (is_byte 32) text (Some end) → words_of text ≡ take end text ∷ words_of (take (length text - (end + 1)) (drop (end + 1) text))
-word_and_rest text end is = first_word text end is ∙ ap (λ (t : List ℕ). take end text ∷ words_of t) (sym (take_rest text (end + 1)))
+word_and_rest text end is =
+    ap words_of (cut_at 32 text end is) ∙ first_word (take end text) (drop (end + 1) text) (lacks_first 32 text end is)
+    ∙ ap (λ (t : List ℕ). take end text ∷ words_of t) (sym (take_rest text (end + 1)))
 
 pub one_word : (text : List ℕ) → IsFirstByte (is_byte 32) text None → words_of text ≡ text ∷ []
-one_word text nowhere = slice_split_none (λ b. b == 32) text (λ k d h. not_here (get_or text k d) (λ e. nowhere k (omega arith) h (eq_eqb (sym (get_or_default text k d 0 h) ∙ e))))
+one_word text nowhere = last_word text (lacks_all 32 text nowhere)
+
+-- a word of a line that is written
+pub record IsWord (word : List ℕ) : Type 0 where
+  pub space : Lacks 32 word
+  pub feed : Lacks 10 word
+
+abbrev pub AreWords : List (List ℕ) → Type 0
+AreWords [] = Unit {0}
+AreWords (word ∷ words) = IsWord word × AreWords words
+
+words_joined : (word : List ℕ) (words : List (List ℕ)) → AreWords (word ∷ words) → words_of (join_with_byte 32 (word ∷ words)) ≡ word ∷ words
+words_joined word [] (is, are) = last_word word is.space
+words_joined word (next ∷ words) (is, are) = first_word word (join_with_byte 32 (next ∷ words)) is.space ∙ ap (λ (ws : List (List ℕ)). word ∷ ws) (words_joined next words are)
+
+joined_lacks : (words : List (List ℕ)) → AreWords words → Lacks 10 (join_with_byte 32 words)
+joined_lacks [] are = refl
+joined_lacks (word ∷ []) (is, are) = is.feed
+joined_lacks (word ∷ next ∷ words) (is, are) = lacks_join 10 word (32 ∷ join_with_byte 32 (next ∷ words)) is.feed (joined_lacks (next ∷ words) are)
+
+-- the line of these words
+pub record IsLineOf (text : List ℕ) (kind : List ℕ) (words : List (List ℕ)) : Type 0 where
+  pub joined : text ≡ join_with_byte 32 (kind ∷ words)
+  pub are : AreWords (kind ∷ words)
+
+pub of_words : {text kind : List ℕ} {words : List (List ℕ)} → IsLineOf text kind words → line_read text ≡ kind_read kind words
+of_words {kind = kind} {words = words} is =
+    ap line_read is.joined ∙ ap (λ (ws : List (List ℕ)). with_word (λ (kind : List ℕ). Some kind) ws kind_read) (words_joined kind words is.are)
+
+pub is_clear : {text kind : List ℕ} {words : List (List ℕ)} → IsLineOf text kind words → IsClear text
+is_clear {text = text} {kind = kind} {words = words} is = none_of 10 text (rw (is.joined) (joined_lacks (kind ∷ words) is.are))

@@ -1,33 +1,14 @@
 -- One line more of a text.
-use Rattle.std.proofs.Common.{◌≡◌, ◌≢◌, inl, inr, ℕ, ◌+◌, ◌-◌, ◌<◌, ◌≤◌, ◌==◌, true, false, List, [], ◌∷◌, ◌++◌, length, take, drop, get_or, Some, None, sym, refl, ap, subst, ◌∙◌, arith, append_assoc, length-append}
-use Rattle.std.proofs.lemmas.Bool.Decides.{nat_tests}
-use Rattle.std.proofs.lemmas.Bool.{eqb-true}
-use Rattle.std.proofs.lemmas.List.{take-append-drop, drop_more, get_or-take, get_or_default, length-take, take_rest}
+use Rattle.std.proofs.Common.{◌≡◌, inr, ℕ, ◌+◌, ◌-◌, ◌<◌, ◌≤◌, List, [], ◌∷◌, ◌++◌, length, take, drop, Some, None, sym, refl, ap, subst, ◌∙◌, arith, append_assoc, length-append}
+use Rattle.std.proofs.lemmas.List.{length-take, take_rest}
 use Rattle.memchr.specs.Find.{IsFirstByte, is_byte}
+use Rattle.lz_slot.proofs.Texts.Cuts.{cut_at, lacks_all, lacks_first}
 use Rattle.lz_judge.specs.declared.line.Line.{Line}
 use Rattle.lz_judge.specs.Records.{Record}
 use Rattle.lz_judge.specs.LinesRead.{line_read}
 use Rattle.lz_judge.specs.Limits.{most_bytes}
-use Rattle.lz_judge.specs.TextsRead.{HasRead, IsClear, IsFirstUnread, IsNext, MayCome, Reads, nothing, line, with_line}
-
-eq_eqb : {n : ℕ} → n ≡ 10 → n == 10 ≡ true
-eq_eqb e = rw e refl
-
-not_here : (n : ℕ) → n ≢ 10 → n == 10 ≡ false
-not_here n other = grind (arith, nat_tests, other)
-
-clear_line : (rest : List ℕ) (end : ℕ) → IsFirstByte (is_byte 10) rest (Some end) → IsClear (take end rest)
-clear_line rest end (first, here) k d h =
-    let low : k < end = omega (arith, h, length-take end rest) in
-    not_here (get_or (take end rest) k d) (λ e. first.before k (omega arith) low (eq_eqb (sym (get_or-take end rest k d low ∙ get_or_default rest k d 0 (omega (arith, low, first.high))) ∙ e)))
-
-clear_rest : (rest : List ℕ) → IsFirstByte (is_byte 10) rest None → IsClear rest
-clear_rest rest nowhere k d h = not_here (get_or rest k d) (λ e. nowhere k (omega arith) h (eq_eqb (sym (get_or_default rest k d 0 h) ∙ e)))
-
-line_whole : (rest : List ℕ) (end : ℕ) → IsFirstByte (is_byte 10) rest (Some end) → rest ≡ take end rest ++ 10 ∷ drop (end + 1) rest
-line_whole rest end first =
-    let here : get_or rest end 0 ≡ 10 = eqb-true _ _ first.1 in
-    sym (ap (λ (t : List ℕ). take end rest ++ t) (sym (drop_more rest end 0 first.0.high ∙ ap (λ (b : ℕ). b ∷ drop (end + 1) rest) here)) ∙ take-append-drop end rest)
+use Rattle.lz_judge.proofs.Texts.LineWord.{none_of}
+use Rattle.lz_judge.specs.TextsRead.{HasRead, IsFirstUnread, IsNext, MayCome, Reads, nothing, line, with_line}
 
 lengths : (n : ℕ) (text rest : List ℕ) (h : Record) (so_far : HasRead n text rest h) → length text ≡ length so_far.front + length rest
 lengths n text rest h so_far = ap length so_far.whole ∙ length-append so_far.front rest
@@ -52,14 +33,14 @@ line_read_on n text rest h end l so_far is few says comes =
     let next : IsNext (length so_far.front) h t l = (says, comes, omega (arith, few, length-take end rest, is.0.high, lengths n text rest h so_far)) in
     subst (λ (r : List ℕ). HasRead (n + 1) text r (with_line l h)) (sym (take_rest rest (end + 1))) (record {
       front = so_far.front ++ (t ++ 10 ∷ []);
-      whole = so_far.whole ∙ ap (λ (r : List ℕ). so_far.front ++ r) (line_whole rest end is ∙ sym (append_assoc t (10 ∷ []) (drop (end + 1) rest))) ∙ sym (append_assoc so_far.front (t ++ 10 ∷ []) (drop (end + 1) rest));
-      reads = line n so_far.front h t l so_far.reads (clear_line rest end is) next;
+      whole = so_far.whole ∙ ap (λ (r : List ℕ). so_far.front ++ r) (cut_at 10 rest end is ∙ sym (append_assoc t (10 ∷ []) (drop (end + 1) rest))) ∙ sym (append_assoc so_far.front (t ++ 10 ∷ []) (drop (end + 1) rest));
+      reads = line n so_far.front h t l so_far.reads (none_of 10 (take end rest) (lacks_first 10 rest end is)) next;
     })
 
 pub few_bytes : (text rest : List ℕ) (end : ℕ) → IsFirstByte (is_byte 10) rest (Some end) → length rest ≤ length text → length text - length rest + end < most_bytes
     → length text ≤ length (take (length rest - (end + 1)) (drop (end + 1) rest)) + most_bytes
 few_bytes text rest end is within few =
-    let whole : length rest ≡ length (take end rest) + length (10 ∷ drop (end + 1) rest) = ap length (line_whole rest end is) ∙ length-append (take end rest) (10 ∷ drop (end + 1) rest) in
+    let whole : length rest ≡ length (take end rest) + length (10 ∷ drop (end + 1) rest) = ap length (cut_at 10 rest end is) ∙ length-append (take end rest) (10 ∷ drop (end + 1) rest) in
     let same : length (take (length rest - (end + 1)) (drop (end + 1) rest)) ≡ length (drop (end + 1) rest) = ap length (take_rest rest (end + 1)) in
     omega (arith, within, few, is.0.high, whole, same, length-take end rest)
 
@@ -73,8 +54,8 @@ line_too_far n text rest h end so_far is far = record {
   unread = inr (
     take end rest,
     drop (end + 1) rest,
-    line_whole rest end is,
-    clear_line rest end is,
+    cut_at 10 rest end is,
+    none_of 10 (take end rest) (lacks_first 10 rest end is),
     λ l next. omega (arith, far, next.2, length-take end rest, is.0.high, lengths n text rest h so_far),
   );
 }
@@ -86,14 +67,9 @@ line_refused n text rest h end so_far is refuses = record {
   history = h;
   rest = rest;
   read = so_far;
-  unread = inr (take end rest, drop (end + 1) rest, line_whole rest end is, clear_line rest end is, λ l next. refuses l next.0 next.1);
+  unread = inr (take end rest, drop (end + 1) rest, cut_at 10 rest end is, none_of 10 (take end rest) (lacks_first 10 rest end is), λ l next. refuses l next.0 next.1);
 }
 
 -- a rest that doesn't end
 pub rest_unread : (n : ℕ) (text rest : List ℕ) (h : Record) → HasRead n text rest h → IsFirstByte (is_byte 10) rest None → 0 < length rest → IsFirstUnread text n
-rest_unread n text rest h so_far none some = record {
-  history = h;
-  rest = rest;
-  read = so_far;
-  unread = inl (λ e. let short : length rest ≡ 0 = ap length e in omega (arith, some, short), clear_rest rest none);
-}
+rest_unread n text rest h so_far none some = grind (arith, none_of, lacks_all)

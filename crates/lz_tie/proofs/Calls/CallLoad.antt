@@ -1,7 +1,7 @@
 -- A call that is under way goes on by a load of its pass.
-use Rattle.std.proofs.Common.{◌≡◌, ℕ, zero, suc, false, List, [], ◌∷◌, ◌++◌, length, refl, sym, ap, ◌∙◌, subst, append_assoc}
+use Rattle.std.proofs.Common.{◌≡◌, ℕ, Bool, false, [], ◌++◌, length, refl, sym, ap, ◌∙◌, subst, append_assoc, is_some, Option, Some, None}
 use mathlib.Core.Bool.{false≢true}
-use Rattle.std.specs.Prelude.{is_some, slice_index_or, Option, Some, None}
+use Rattle.std.specs.List.{list_any}
 use Rattle.lz_slot.specs.declared.command.Command.{Command}
 use Rattle.lz_slot.specs.declared.format.Format.{Format}
 use Rattle.lz_slot.specs.Sets.{key_of}
@@ -9,11 +9,11 @@ use Rattle.lz_list.specs.declared.word.Word.{Word}
 use Rattle.lz_list.specs.Walks.{hopped}
 use Rattle.lz_list.specs.Traces.{Trace, halt_word, word_after}
 use Rattle.lz_machine.specs.declared.event.Event.{Event}
-use Rattle.lz_machine.specs.declared.event.Event.TheVariants.{Hop, Check}
+use Rattle.lz_machine.specs.declared.event.Event.TheVariants.{Hop}
 use Rattle.lz_machine.specs.declared.event.Outcome.TheVariants.{Value}
 use Rattle.lz_machine.specs.declared.event.Reply.{Reply}
 use Rattle.lz_machine.specs.declared.caller.Sequence.{Sequence}
-use Rattle.lz_machine.specs.declared.caller.Sequence.TheVariants.{Pinning, Resting, Writing, Adding, Removing, Releasing, Halting}
+use Rattle.lz_machine.specs.declared.caller.Sequence.TheVariants.{Pinning}
 use Rattle.lz_machine.specs.declared.caller.Progress.{Progress}
 use Rattle.lz_machine.specs.declared.caller.Progress.TheVariants.{Playing, LoadsHalt, Walking}
 use Rattle.lz_machine.specs.Yards.{Shape}
@@ -40,6 +40,7 @@ use Rattle.lz_tie.specs.UnderWay.{OwnAt, UnderWay}
 use Rattle.lz_tie.proofs.Calls.OwnChanges.{calm_none}
 use Rattle.lz_tie.proofs.Calls.NextPlace.{Onward, hop_onward, halt_onward}
 use Rattle.lz_tie.proofs.Calls.CallTurn.{not_old, not_full}
+use Rattle.lz_tie.proofs.Calls.InnerEvents.{none_at}
 
 loading_going : (at : Progress) → IsLoading at → reply_at at ≡ None
 loading_going LoadsHalt is = refl
@@ -71,26 +72,15 @@ late_load shape c (Walking aim look) w buckets value P is event found halted lat
 late_load shape c at w buckets value P is event found halted late = absurd is
 
 -- no event of a sequence is a load, so only a place of a load has one
-abbrev NoLoads : List Event → Type 0
-NoLoads [] = Unit {0}
-NoLoads (e ∷ es) = (hop_of e ≡ None) × NoLoads es
+abbrev is_load : Event → Bool
+is_load e = is_some (hop_of e)
 
-no_load_in : (es : List Event) (i : ℕ) → NoLoads es → hop_of (slice_index_or es i Check) ≡ None
-no_load_in [] i none = refl
-no_load_in (e ∷ es) zero none = none.0
-no_load_in (e ∷ es) (suc i) none = no_load_in es i none.1
-
-no_loads : (c : Command) (sequence : Sequence) → NoLoads (events_of c sequence)
-no_loads c Pinning = (refl, tt)
-no_loads c (Resting s reply) = (refl, (refl, tt))
-no_loads c (Writing s) = (refl, (refl, tt))
-no_loads c (Adding s) = (refl, (refl, (refl, (refl, (refl, tt)))))
-no_loads c (Removing s) = (refl, (refl, (refl, (refl, (refl, (refl, (refl, tt)))))))
-no_loads c (Releasing aim) = (refl, tt)
-no_loads c (Halting reply) = (refl, tt)
+no_loads : (c : Command) (sequence : Sequence) → list_any is_load (events_of c sequence) ≡ false
+no_loads c Pinning = refl
+no_loads c _ = refl
 
 pub load_place : (shape : Shape) (c : Command) (at : Progress) (w : Word) → event_at shape c at ≡ Hop w → IsLoading at
-load_place shape c (Playing sequence i) w is = absurd (false≢true (ap is_some (sym (no_load_in (events_of c sequence) i (no_loads c sequence)) ∙ ap hop_of is)))
+load_place shape c (Playing sequence i) w is = absurd (false≢true (sym (none_at is_load refl (events_of c sequence) i (no_loads c sequence)) ∙ ap is_load is))
 load_place shape c LoadsHalt w is = tt
 load_place shape c (Walking aim look) w is = tt
 load_place shape c _ w is = absurd (false≢true (ap is_some (ap hop_of is)))

@@ -1,7 +1,6 @@
 -- A call that is under way goes on by a turn of its pass.
-use Rattle.std.proofs.Common.{◌≡◌, ◌≢◌, ◌⊎◌, inl, inr, ⊎_elim, ℕ, zero, suc, ◌%◌, ◌≤◌, Bool, true, false, List, [], ◌++◌, map, refl, sym, ap, ◌∙◌, subst, arith, eq-eqb}
+use Rattle.std.proofs.Common.{◌≡◌, ◌≢◌, ◌⊎◌, inl, inr, ⊎_elim, ℕ, zero, suc, ◌%◌, ◌≤◌, Bool, true, false, List, [], ◌++◌, map, refl, sym, ap, ◌∙◌, subst, arith, eq-eqb, if◌then◌else◌, is_some, Option, Some, None}
 use mathlib.Core.Bool.{false≢true}
-use Rattle.std.specs.Prelude.{if◌then◌else◌, is_some, Option, Some, None}
 use Rattle.lz_slot.specs.declared.command.Command.{Command}
 use Rattle.lz_slot.specs.declared.format.Format.{Format}
 use Rattle.lz_slot.specs.Sets.{HasMembers}
@@ -42,12 +41,12 @@ use Rattle.lz_board.specs.Seats.{BoardId}
 use Rattle.lz_tie.specs.Answers.{IsWithin, last_reserve, reserved_by}
 use Rattle.lz_tie.specs.Holds.{HoldNotes, Turned}
 use Rattle.lz_tie.specs.UnderWay.{OwnAt, FoundFull, UnderWay}
-use Rattle.lz_tie.proofs.Reading.PinWords.{is_pinning}
+use Rattle.lz_tie.proofs.Reading.PinWords.{is_pinning, still_pin}
 use Rattle.lz_tie.proofs.Calls.OwnChanges.{calm, calm_none, worn_none, full_none}
 use Rattle.lz_tie.proofs.Calls.TurnResult.{IsRefused, played_or_refused, pin_gives}
 use Rattle.lz_tie.proofs.Calls.NextPlace.{Onward, is_full, IsPlain, halting_onward, plays_onward}
 use Rattle.lz_tie.proofs.Calls.PartAfter.{known_after, steps_since, goes}
-use Rattle.lz_tie.proofs.Calls.InnerEvents.{plain_pin, plain_within, plain_loaded, plain_event, plain_going, plain_inside, plain_unlate}
+use Rattle.lz_tie.proofs.Calls.InnerEvents.{plain_within, plain_loaded, plain_event, plain_going, plain_inside, plain_unlate}
 use Rattle.lz_yard.proofs.Events.KeptFit.{fault_or_not}
 
 -- which answer a place gives
@@ -131,7 +130,7 @@ module _ (b : BoardId) (c : Command) (format : Format) (before : Part) (at : Pro
     where
       side : is_pinning e ≡ false → is_before_pin at ≡ false → is_before_pin next ≡ false → h'.pin % 2 ≡ side_of (is_before_pin next)
       side plain here there =
-          ap (λ (q : ℕ). q % 2) (H.pin ∙ ap (λ (t : Bool). if t then pin_after_played e o h.pin else h.pin) (eq-eqb a a refl) ∙ plain_pin e o h.pin plain)
+          ap (λ (q : ℕ). q % 2) (H.pin ∙ ap (λ (t : Bool). if t then pin_after_played e o h.pin else h.pin) (eq-eqb a a refl) ∙ still_pin e o h.pin plain)
           ∙ U.side ∙ ap side_of (here ∙ sym there)
 
   pub plain_turn : IsPlain at → UnderWay b c format before next h'
@@ -224,7 +223,7 @@ module _ (b : BoardId) (c : Command) (format : Format) (before : Part) (at : Pro
       calm_now = calm_none a c (Reserving true) U.own refl (subst (λ (q : Progress). OwnAt a c q U.own) same U.is_own)
 
       pin_same : h'.pin % 2 ≡ 1
-      pin_same = ap (λ (q : ℕ). q % 2) (H.pin ∙ ap (λ (t : Bool). if t then pin_after_played e o h.pin else h.pin) (eq-eqb a a refl) ∙ plain_pin e o h.pin plain) ∙ U.side ∙ ap side_of inside
+      pin_same = ap (λ (q : ℕ). q % 2) (H.pin ∙ ap (λ (t : Bool). if t then pin_after_played e o h.pin else h.pin) (eq-eqb a a refl) ∙ still_pin e o h.pin plain) ∙ U.side ∙ ap side_of inside
 
       slots_are : y.shape.slots ≡ b.sizes.slots
       slots_are = ap (λ (s : Shape). s.slots) (sym T.shape) ∙ ap (λ (s : Sizes). s.slots) U.sizes

@@ -1,6 +1,5 @@
 -- The steps of a call under way, in the words of the caller that counts them.
-use Rattle.std.proofs.Common.{◌≡◌, ℕ, List, sym, ap, ◌∙◌, subst}
-use Rattle.std.specs.Prelude.{Option, Some, None}
+use Rattle.std.proofs.Common.{◌≡◌, ℕ, List, sym, ap, ◌∙◌, subst, Option, Some, None}
 use Rattle.lz_slot.specs.declared.command.Command.{Command}
 use Rattle.lz_slot.specs.declared.format.Format.{Format}
 use Rattle.lz_list.specs.declared.publishing.Publishing.{Publishing}

@@ -1,13 +1,13 @@
 -- A call that a caller counts goes on by each of its moves.
-use Rattle.std.proofs.Common.{◌≡◌, ◌≢◌, ℕ, zero, suc, ◌==◌, ◌+◌, nat_lt, Bool, true, false, List, [], ◌∷◌, length, refl, sym, ap, ◌∙◌, subst}
+use Rattle.std.proofs.Common.{◌≡◌, ◌≢◌, ℕ, ◌==◌, Bool, true, false, List, [], ◌∷◌, refl, sym, ap, ◌∙◌, subst, if◌then◌else◌, is_some, Option, Some, None}
 use mathlib.Core.Bool.{false≢true}
-use Rattle.std.specs.Prelude.{if◌then◌else◌, is_some, slice_index_or, Option, Some, None}
+use Rattle.std.specs.List.{list_any}
+use Rattle.std.proofs.lemmas.Bool.{cond_both}
 use Rattle.lz_slot.specs.declared.command.Command.{Command}
 use Rattle.lz_slot.specs.declared.command.Command.TheVariants.{Add, Remove, Has}
 use Rattle.lz_slot.specs.declared.format.Format.{Format}
 use Rattle.lz_slot.specs.Sets.{key_of}
 use Rattle.lz_list.specs.declared.place.Place.{Place}
-use Rattle.lz_list.specs.declared.walk.Look.TheVariants.{AtHead}
 use Rattle.lz_list.specs.declared.walk.Met.{Met}
 use Rattle.lz_list.specs.declared.walk.Met.TheVariants.{Absent, Unmarked, Marked as met_marked}
 use Rattle.lz_list.specs.declared.word.Word.{Word}
@@ -18,22 +18,23 @@ use Rattle.lz_flush.specs.declared.need.Need.{Need}
 use Rattle.lz_flush.specs.declared.need.Need.TheVariants.{Now, Sync as asks_sync}
 use Rattle.lz_flush.specs.Settling.{may_answer}
 use Rattle.lz_machine.specs.declared.event.Event.{Event}
-use Rattle.lz_machine.specs.declared.event.Event.TheVariants.{Hop, Check, Invoke, Answer}
+use Rattle.lz_machine.specs.declared.event.Event.TheVariants.{Hop, Invoke, Answer}
 use Rattle.lz_machine.specs.declared.event.Outcome.{Outcome}
-use Rattle.lz_machine.specs.declared.event.Outcome.TheVariants.{Value, Slot, NoSlot, Taken, True, False, Early, Worn, OldFile, Fault, Dead}
+use Rattle.lz_machine.specs.declared.event.Outcome.TheVariants.{Value}
 use Rattle.lz_machine.specs.declared.event.Reply.{Reply}
-use Rattle.lz_machine.specs.declared.event.Reply.TheVariants.{Yes, No, Halted, OldFile as SaysOldFile}
+use Rattle.lz_machine.specs.declared.event.Reply.TheVariants.{Yes, No, OldFile as SaysOldFile}
 use Rattle.lz_machine.specs.declared.caller.Sequence.{Sequence}
-use Rattle.lz_machine.specs.declared.caller.Sequence.TheVariants.{Pinning, Resting, Writing, Adding, Removing, Releasing, Halting}
+use Rattle.lz_machine.specs.declared.caller.Sequence.TheVariants.{Pinning, Writing, Releasing}
 use Rattle.lz_machine.specs.declared.caller.Progress.{Progress}
-use Rattle.lz_machine.specs.declared.caller.Progress.TheVariants.{Playing, LoadsHalt, Walking, Reserving, SeeingPins, Claiming, Checking, Answering}
+use Rattle.lz_machine.specs.declared.caller.Progress.TheVariants.{Playing, LoadsHalt, Walking, Answering}
 use Rattle.lz_machine.specs.Yards.{Shape, IsInside}
-use Rattle.lz_machine.specs.Calls.{begun, event_at, events_of, first_progress, goes_on, after_event, follows, after_see_pin, changes, hops_on, walked, rests, halt_loaded, progress_after}
+use Rattle.lz_machine.specs.Calls.{begun, event_at, events_of, first_progress, goes_on, hops_on, walked, rests, halt_loaded, progress_after}
 use Rattle.lz_machine.specs.CallersSound.{is_before_pin, side_of}
 use Rattle.lz_machine.specs.Laws.{hop_of}
 use Rattle.lz_machine.specs.Orders.{Calling, MayTake, shape_with}
 use Rattle.lz_machine.specs.Runs.{mark_of, mark_of_turn, reply_at}
 use Rattle.lz_machine.specs.Table.{is_old}
+use Rattle.lz_machine.proofs.Runs.FlowChart.{Edge, again, past, begins as starts, hops, next_edge}
 use Rattle.lz_machine.proofs.Theorem.Readiness.{is_invoke}
 use Rattle.lz_caller.specs.Begun.{begun_after}
 use Rattle.lz_caller.proofs.BegunCall.{begins}
@@ -57,6 +58,7 @@ use Rattle.lz_tie.specs.Marks.{Shows, last_call_number}
 use Rattle.lz_tie.specs.UnderWay.{UnderWay}
 use Rattle.lz_tie.specs.Counting.{OnWalk, Counts}
 use Rattle.lz_tie.proofs.Calls.CallOpening.{called}
+use Rattle.lz_tie.proofs.Calls.InnerEvents.{none_at}
 use Rattle.lz_tie.proofs.Calls.CallLoad.{load_place, value_in}
 use Rattle.lz_tie.proofs.Calls.CallerStep.{IsCallerOn, has_call, event_is, caller_turned, caller_loaded}
 use Rattle.lz_tie.proofs.Replies.AnsweredCall.{answered, idle_again}
@@ -82,113 +84,51 @@ counted_new b c format before opened was is after sized idle from H o is_o bucke
     }
 
 -- the next event of a call is no Invoke
-abbrev AreNoInvokes : List Event → Type 0
-AreNoInvokes [] = Unit {0}
-AreNoInvokes (e ∷ es) = (is_invoke e ≡ false) × AreNoInvokes es
-
-no_invoke_in : (es : List Event) (i : ℕ) → AreNoInvokes es → is_invoke (slice_index_or es i Check) ≡ false
-no_invoke_in [] i none = refl
-no_invoke_in (e ∷ es) zero none = none.0
-no_invoke_in (e ∷ es) (suc i) none = no_invoke_in es i none.1
-
-no_invokes : (c : Command) (sequence : Sequence) → AreNoInvokes (events_of c sequence)
-no_invokes c Pinning = (refl, tt)
-no_invokes c (Resting s reply) = (refl, (refl, tt))
-no_invokes c (Writing s) = (refl, (refl, tt))
-no_invokes c (Adding s) = (refl, (refl, (refl, (refl, (refl, tt)))))
-no_invokes c (Removing s) = (refl, (refl, (refl, (refl, (refl, (refl, (refl, tt)))))))
-no_invokes c (Releasing aim) = (refl, tt)
-no_invokes c (Halting reply) = (refl, tt)
+no_invokes : (c : Command) (sequence : Sequence) → list_any is_invoke (events_of c sequence) ≡ false
+no_invokes c Pinning = refl
+no_invokes c _ = refl
 
 goes_on_with : (shape : Shape) (c : Command) (at : Progress) → is_invoke (event_at shape c at) ≡ false
-goes_on_with shape c (Playing sequence i) = no_invoke_in (events_of c sequence) i (no_invokes c sequence)
+goes_on_with shape c (Playing sequence i) = none_at is_invoke refl (events_of c sequence) i (no_invokes c sequence)
 goes_on_with shape c _ = refl
 
 -- A walk begins with its first look.
-module _ (z : Sizes) (walkable : IsWalkable z) (shape : Shape) (c : Command) (P0 Q : Trace) where
-  changes_walk : (d : Command) (aim curr : Option ℕ) → OnWalk z c (changes d aim curr) P0 Q
-  changes_walk (Has k) aim curr = tt
-  changes_walk (Add k) None curr = tt
-  changes_walk (Add k) (Some s) curr = tt
-  changes_walk (Remove k) aim None = tt
-  changes_walk (Remove k) aim (Some s) = tt
+module _ (z : Sizes) (walkable : IsWalkable z) (P0 Q : Trace) where
+  on_walk : (c : Command) (sequence : Sequence) → OnWalk z c (goes_on sequence) P0 Q
+  on_walk c (Writing s) = first_look z walkable (key_of c) P0 Q
+  on_walk c (Releasing aim) = first_look z walkable (key_of c) P0 Q
+  on_walk c _ = tt
 
-  on_walk : (sequence : Sequence) → OnWalk z c (goes_on sequence) P0 Q
-  on_walk (Writing s) = first_look z walkable (key_of c) P0 Q
-  on_walk (Releasing aim) = first_look z walkable (key_of c) P0 Q
-  on_walk Pinning = tt
-  on_walk (Resting s reply) = tt
-  on_walk (Adding s) = tt
-  on_walk (Removing s) = tt
-  on_walk (Halting reply) = tt
+  next_walk : {shape : Shape} {c : Command} {at : Progress} {o : Outcome} {next : Progress} → Edge shape c at o next → hop_of (event_at shape c at) ≡ None → OnWalk z c next P0 Q
+  next_walk (again c (Walking aim look) o) none = absurd (false≢true (sym (ap is_some none)))
+  next_walk (again c at o) none = tt
+  next_walk (past c q i o) none = on_walk c q
+  next_walk (starts c value) none = absurd (false≢true (sym (ap is_some none)))
+  next_walk (hops c aim look next value) none = absurd (false≢true (sym (ap is_some none)))
+  next_walk _ none = tt
 
-  sequence_walk : (sequence : Sequence) (i : ℕ) → OnWalk z c (after_event c sequence i) P0 Q
-  sequence_walk sequence i = go (nat_lt (i + 1) (length (events_of c sequence)))
-    where
-      go : (more : Bool) → OnWalk z c (if more then Playing sequence (i + 1) else goes_on sequence) P0 Q
-      go true = tt
-      go false = on_walk sequence
-
-  pin_walk : (p : ℕ) → OnWalk z c (after_see_pin shape p) P0 Q
-  pin_walk p = go (nat_lt p shape.passes)
-    where
-      go : (more : Bool) → OnWalk z c (if more then SeeingPins (p + 1) else Reserving true) P0 Q
-      go true = tt
-      go false = tt
-
-  follows_walk : (at : Progress) (o : Outcome) → hop_of (event_at shape c at) ≡ None → OnWalk z c (follows shape c at o) P0 Q
-  follows_walk (Playing sequence i) Early none = tt
-  follows_walk (Playing sequence i) o none = sequence_walk sequence i
-  follows_walk LoadsHalt o none = absurd (false≢true (sym (ap is_some none)))
-  follows_walk (Walking aim look) o none = absurd (false≢true (sym (ap is_some none)))
-  follows_walk (Reserving false) (Slot s) none = tt
-  follows_walk (Reserving true) (Slot s) none = tt
-  follows_walk (Reserving false) (NoSlot counts) none = tt
-  follows_walk (Reserving true) (NoSlot counts) none = tt
-  follows_walk (Reserving false) o none = tt
-  follows_walk (Reserving true) o none = tt
-  follows_walk (SeeingPins p) o none = pin_walk p
-  follows_walk (Claiming aim pred curr) Taken none = tt
-  follows_walk (Claiming aim pred curr) o none = tt
-  follows_walk (Checking aim curr) True none = changes_walk c aim curr
-  follows_walk (Checking aim curr) False none = tt
-  follows_walk (Checking aim curr) o none = tt
-  follows_walk (Answering reply) o none = tt
-
-  next_walk : (at : Progress) (o : Outcome) → hop_of (event_at shape c at) ≡ None → OnWalk z c (progress_after shape c at o) P0 Q
-  next_walk at Fault none = tt
-  next_walk at Dead none = tt
-  next_walk at Worn none = tt
-  next_walk at OldFile none = tt
-  next_walk at o none = follows_walk at o none
-
+module _ (z : Sizes) (walkable : IsWalkable z) (c : Command) (P0 Q : Trace) where
   rests_walk : (s : ℕ) (need : Need) (reply : Reply) → OnWalk z c (rests s need reply) P0 Q
   rests_walk s Now reply = tt
   rests_walk s asks_sync reply = tt
 
   walked_walk : (d : Command) (aim : Option ℕ) (pred : Place) (curr : Option ℕ) (met : Met) → OnWalk z c (walked d aim pred curr met) P0 Q
-  walked_walk (Has k) aim pred curr Absent = tt
   walked_walk (Has k) aim pred curr (Unmarked s flags) = rests_walk s (may_answer flags) Yes
-  walked_walk (Has k) aim pred curr (met_marked s flags) = rests_walk s (may_answer flags) No
   walked_walk (Add k) aim pred curr (Unmarked s flags) = rests_walk s (may_answer flags) No
   walked_walk (Add k) None pred curr Absent = tt
   walked_walk (Add k) None pred curr (met_marked s flags) = tt
   walked_walk (Add k) (Some t) pred curr Absent = tt
   walked_walk (Add k) (Some t) pred curr (met_marked s flags) = tt
-  walked_walk (Remove k) aim pred curr Absent = tt
-  walked_walk (Remove k) aim pred curr (met_marked s flags) = rests_walk s (may_answer flags) No
   walked_walk (Remove k) aim pred curr (Unmarked s flags) = tt
+  walked_walk _ aim pred curr Absent = tt
+  walked_walk _ aim pred curr (met_marked s flags) = rests_walk s (may_answer flags) No
 
   hop_walk : (aim : Option ℕ) (x : Hopped) → Walked z (key_of c) P0 Q x → OnWalk z c (hops_on c aim x) P0 Q
   hop_walk aim (More look) h = h
   hop_walk aim (End pred curr met) h = walked_walk c aim pred curr met
 
   halt_walk : (value : ℕ) → OnWalk z c (halt_loaded value) P0 Q
-  halt_walk value = go (value == 1)
-    where
-      go : (halted : Bool) → OnWalk z c (if halted then Answering Halted else Walking None AtHead) P0 Q
-      go true = tt
-      go false = first_look z walkable (key_of c) P0 Q
+  halt_walk value = cond_both (value == 1) _ _ (λ (at : Progress). OnWalk z c at P0 Q) (λ _. tt) (λ _. first_look z walkable (key_of c) P0 Q)
 
 -- The hold of its next event.
 module _ (b : BoardId) (c : Command) (format : Format) (before : Part) (k : Calling) (h : Part) (C : Counts b c format before k h) where
@@ -212,7 +152,7 @@ module _ (b : BoardId) (c : Command) (format : Format) (before : Part) (k : Call
         buckets = C.buckets;
         passes = C.passes;
         under = caller_turned b c format before k on_board h C.under b.opened A.found is A.event t.outcome t.published.value h' A.holds A.turned A.turn.load going;
-        walk = next_walk b.sizes walkable (shape_with k) k.command h'.begun h'.known k.progress t.outcome no_load;
+        walk = next_walk b.sizes walkable h'.begun h'.known (next_edge (shape_with k) k.command k.progress t.outcome) no_load;
       })
 
   pub no_end_shows : (was is : List Note) (t : Turn) (h' : Part) → WentOn b was is k t h h' → reply_at k.progress ≡ None → Shows (shape_of_sizes b.sizes) was is []
@@ -274,14 +214,14 @@ record Takes (z : Sizes) (shape : Shape) (c : Command) (at : Progress) (P0 Q : T
 
 load_takes : (z : Sizes) (walkable : IsWalkable z) (shape : Shape) → shape.buckets ≡ z.buckets → (c : Command) (at : Progress) (h : Part) → h.sizes ≡ z → IsInside h.pin → OnWalk z c at h.begun h.known → (w : Word) → event_at shape c at ≡ Hop w
     → (seen : Trace) → IsShownTo seen h → (value : ℕ) → value ≡ word_after z.buckets seen w → Takes z shape c at h.begun seen value
-load_takes z walkable shape same c LoadsHalt h sized inside walk w event seen shown value is = record { takes = tt; walk = halt_walk z walkable shape c h.begun seen value }
+load_takes z walkable shape same c LoadsHalt h sized inside walk w event seen shown value is = record { takes = tt; walk = halt_walk z walkable c h.begun seen value }
 load_takes z walkable shape same c (Walking aim look) h sized inside walk w event seen shown value is =
     let hop = hop_shown z walkable h sized inside (key_of c) look seen walk shown in
     let found : word_after z.buckets seen (wants z.buckets (key_of c) look) ≡ value =
     ap (λ (n : ℕ). word_after z.buckets seen (wants n (key_of c) look)) (sym same) ∙ ap (value_in z.buckets seen) (ap hop_of event) ∙ sym is in
     record {
       takes = subst (LeadsOn look) found hop.leads;
-      walk = hop_walk z walkable shape c h.begun seen aim (hopped shape.buckets (key_of c) look value)
+      walk = hop_walk z walkable c h.begun seen aim (hopped shape.buckets (key_of c) look value)
           (subst (λ (q : ℕ × ℕ). Walked z (key_of c) h.begun seen (hopped q.0 (key_of c) look q.1)) (λ i. (sym same i, found i)) hop.walked);
     }
 load_takes z walkable shape same c at h sized inside walk w event seen shown value is = absurd (load_place shape c at w event)

@@ -1,65 +1,53 @@
 -- The events of a call inside, its loads, its Pin and its Answer aside: none moves a pin word.
-use Rattle.std.proofs.Common.{◌≡◌, ℕ, zero, suc, false, List, [], ◌∷◌, refl, sym}
+use Rattle.std.proofs.Common.{◌≡◌, ℕ, zero, suc, Bool, false, List, [], ◌∷◌, refl, sym, slice_index_or, None}
 use mathlib.Core.Bool.{false≢true}
-use Rattle.std.specs.Prelude.{slice_index_or, None}
+use Rattle.std.specs.List.{list_any}
+use Rattle.std.proofs.lemmas.Bool.{or_parts}
 use Rattle.lz_slot.specs.declared.command.Command.{Command}
 use Rattle.lz_list.specs.Words.{Words}
 use Rattle.lz_machine.specs.declared.event.Event.{Event}
-use Rattle.lz_machine.specs.declared.event.Event.TheVariants.{Pin, Check, Answer, SeePin}
+use Rattle.lz_machine.specs.declared.event.Event.TheVariants.{Check, Answer, SeePin}
 use Rattle.lz_machine.specs.declared.event.Outcome.{Outcome}
-use Rattle.lz_machine.specs.declared.caller.Sequence.TheVariants.{Pinning, Resting, Writing, Adding, Removing, Releasing, Halting}
+use Rattle.lz_machine.specs.declared.caller.Sequence.{Sequence}
+use Rattle.lz_machine.specs.declared.caller.Sequence.TheVariants.{Pinning}
 use Rattle.lz_machine.specs.declared.caller.Progress.{Progress}
-use Rattle.lz_machine.specs.declared.caller.Progress.TheVariants.{Playing, LoadsHalt, Walking, Reserving, SeeingPins, Claiming, Checking, Answering}
+use Rattle.lz_machine.specs.declared.caller.Progress.TheVariants.{Playing, LoadsHalt, Reserving, SeeingPins, Claiming, Checking, Answering}
 use Rattle.lz_machine.specs.Yards.{Shape}
 use Rattle.lz_machine.specs.Calls.{event_at, events_of, loaded}
 use Rattle.lz_machine.specs.CallersSound.{is_before_pin}
 use Rattle.lz_machine.specs.Runs.{reply_at}
 use Rattle.lz_board.specs.declared.view.What.TheVariants.{Played}
-use Rattle.lz_board.specs.Notes.{pin_after_played}
 use Rattle.lz_tie.specs.Answers.{IsWithin}
 use Rattle.lz_machine.specs.Halts.{IsLate}
 use Rattle.lz_tie.proofs.Reading.PinWords.{is_pinning}
 use Rattle.lz_tie.proofs.Calls.NextPlace.{IsPlain}
 
--- an event that moves no pin word
-pub plain_pin : (e : Event) (o : Outcome) (pin : ℕ) → is_pinning e ≡ false → pin_after_played e o pin ≡ pin
-plain_pin Pin o pin plain = absurd (false≢true (sym plain))
-plain_pin Answer o pin plain = absurd (false≢true (sym plain))
-plain_pin e o pin plain = refl
-
 pub plain_within : (e : Event) (o : Outcome) → is_pinning e ≡ false → IsWithin (Played e o)
 plain_within Answer o plain = absurd (false≢true (sym plain))
 plain_within e o plain = tt
 
--- the events of a call inside move none, its Answer aside
-abbrev ArePlain : List Event → Type 0
-ArePlain [] = Unit {0}
-ArePlain (e ∷ es) = (is_pinning e ≡ false) × ArePlain es
+-- where no event of a list passes the test, the one that is played doesn't
+pub none_at : (test : Event → Bool) → test Check ≡ false → (es : List Event) (i : ℕ) → list_any test es ≡ false → test (slice_index_or es i Check) ≡ false
+none_at test last [] i none = last
+none_at test last (e ∷ es) zero none = (or_parts (test e) (list_any test es) none).0
+none_at test last (e ∷ es) (suc i) none = none_at test last es i (or_parts (test e) (list_any test es) none).1
 
-plain_in : (es : List Event) (i : ℕ) → ArePlain es → is_pinning (slice_index_or es i Check) ≡ false
-plain_in [] i are = refl
-plain_in (e ∷ es) zero are = are.0
-plain_in (e ∷ es) (suc i) are = plain_in es i are.1
+-- no event of a call inside moves a pin word, its Answer aside
+plain_events : (c : Command) (sequence : Sequence) (i : ℕ) → IsPlain (Playing sequence i) → list_any is_pinning (events_of c sequence) ≡ false
+plain_events c Pinning i plain = absurd plain
+plain_events c _ i plain = refl
 
 pub plain_loaded : (w : Words) (e : Event) → is_pinning e ≡ false → is_pinning (loaded w e) ≡ false
 plain_loaded w (SeePin p value) plain = refl
 plain_loaded w e plain = plain
 
 pub plain_event : (shape : Shape) (c : Command) (at : Progress) → IsPlain at → is_pinning (event_at shape c at) ≡ false
-plain_event shape c (Playing Pinning i) plain = absurd plain
-plain_event shape c (Playing (Resting s reply) i) plain = plain_in (events_of c (Resting s reply)) i (refl, (refl, tt))
-plain_event shape c (Playing (Writing s) i) plain = plain_in (events_of c (Writing s)) i (refl, (refl, tt))
-plain_event shape c (Playing (Adding s) i) plain = plain_in (events_of c (Adding s)) i (refl, (refl, (refl, (refl, (refl, tt)))))
-plain_event shape c (Playing (Removing s) i) plain = plain_in (events_of c (Removing s)) i (refl, (refl, (refl, (refl, (refl, (refl, (refl, tt)))))))
-plain_event shape c (Playing (Releasing aim) i) plain = plain_in (events_of c (Releasing aim)) i (refl, tt)
-plain_event shape c (Playing (Halting reply) i) plain = plain_in (events_of c (Halting reply)) i (refl, tt)
+plain_event shape c (Playing sequence i) plain = none_at is_pinning refl (events_of c sequence) i (plain_events c sequence i plain)
 plain_event shape c (Reserving again) plain = refl
 plain_event shape c (SeeingPins p) plain = refl
 plain_event shape c (Claiming aim pred curr) plain = refl
 plain_event shape c (Checking aim curr) plain = refl
-plain_event shape c LoadsHalt plain = absurd plain
-plain_event shape c (Walking aim look) plain = absurd plain
-plain_event shape c (Answering reply) plain = absurd plain
+plain_event shape c _ plain = absurd plain
 
 pub plain_going : (at : Progress) → IsPlain at → reply_at at ≡ None
 plain_going (Answering reply) plain = absurd plain

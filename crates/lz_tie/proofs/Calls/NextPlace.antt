@@ -1,6 +1,5 @@
 -- Where a call comes to by its next event, with what is published for its pass then.
-use Rattle.std.proofs.Common.{◌≡◌, ℕ, zero, suc, ◌+◌, ◌≤◌, nat_lt, Bool, true, false, List, [], ◌∷◌, ◌++◌, refl, sym, ap, ◌∙◌, subst, arith}
-use Rattle.std.specs.Prelude.{if◌then◌else◌, ◌==◌, unwrap_or, Option, Some, None}
+use Rattle.std.proofs.Common.{◌≡◌, ℕ, zero, suc, ◌+◌, ◌≤◌, nat_lt, Bool, true, false, List, [], ◌∷◌, ◌++◌, refl, sym, ap, ◌∙◌, subst, arith, if◌then◌else◌, ◌==◌, unwrap_or, Option, Some, None}
 use Rattle.std.proofs.lemmas.Bool.Decides.{nat_tests}
 use Rattle.lz_slot.specs.declared.command.Command.{Command}
 use Rattle.lz_slot.specs.declared.command.Command.TheVariants.{Add, Remove, Has}
@@ -44,7 +43,8 @@ use Rattle.lz_machine.proofs.Frames.Ranges.{on_range, few_slots}
 use Rattle.lz_machine.proofs.Frames.OtherCallers.{held_node}
 use Rattle.lz_board.specs.Notes.{own}
 use Rattle.lz_tie.specs.UnderWay.{OwnAt}
-use Rattle.lz_tie.proofs.Calls.OwnChanges.{is_calm, calm, calm_none, none_cut, own_cut, cut_halting, cut_halted, cut_device, settling_none, own_linked, own_marked, own_unlinked}
+use Rattle.lz_tie.proofs.Hold.OneWord.{settling_own}
+use Rattle.lz_tie.proofs.Calls.OwnChanges.{is_calm, calm, calm_none, none_cut, own_cut, cut_halting, cut_halted, cut_device, own_linked, own_marked, own_unlinked}
 
 abbrev pub is_full : Progress → Bool
 is_full (Answering (Full counts)) = true
@@ -68,36 +68,29 @@ module _ (shape : Shape) (p : ℕ) (c : Command) (P : Trace) where
 -- where the reply is one of a call that changed nothing
 rested : (shape : Shape) (p buckets s : ℕ) (c : Command) (reply : Reply) (P0 Q P : Trace) → MayRest buckets c reply s P0 Q → P ≡ [] → Onward shape p c (Answering reply) P
 rested shape p buckets s (Has k) Yes P0 Q P may none = record { inside = refl; pass = tt; is_own = none; room = refl }
-rested shape p buckets s (Has k) No P0 Q P may none = record { inside = refl; pass = tt; is_own = none; room = refl }
-rested shape p buckets s (Add k) No P0 Q P may none = record { inside = refl; pass = tt; is_own = none; room = refl }
-rested shape p buckets s (Remove k) No P0 Q P may none = record { inside = refl; pass = tt; is_own = none; room = refl }
-rested shape p buckets s (Has k) reply P0 Q P may none = absurd may
-rested shape p buckets s (Add k) reply P0 Q P may none = absurd may
-rested shape p buckets s (Remove k) reply P0 Q P may none = absurd may
+rested shape p buckets s _ No P0 Q P may none = record { inside = refl; pass = tt; is_own = none; room = refl }
+rested shape p buckets s _ reply P0 Q P may none = absurd may
 
 -- after a load
 module _ (shape : Shape) (p : ℕ) (P : Trace) (none : P ≡ []) where
   answers_no : (c : Command) → Onward shape p c (Answering No) P
   answers_no (Has k) = record { inside = refl; pass = tt; is_own = none; room = refl }
-  answers_no (Add k) = record { inside = refl; pass = tt; is_own = none; room = refl }
-  answers_no (Remove k) = record { inside = refl; pass = tt; is_own = none; room = refl }
+  answers_no _ = record { inside = refl; pass = tt; is_own = none; room = refl }
 
   rests_onward : (c : Command) (s : ℕ) (need : Need) (reply : Reply) → Onward shape p c (Answering reply) P → Onward shape p c (rests s need reply) P
   rests_onward c s Now reply h = h
   rests_onward c s asks_sync reply h = calm_onward shape p c P (Playing (Resting s reply) 0) refl tt refl refl none
 
   walked_onward : (c : Command) (aim : Option ℕ) (pred : Place) (curr : Option ℕ) (met : Met) → Onward shape p c (walked c aim pred curr met) P
-  walked_onward (Has k) aim pred curr Absent = answers_no (Has k)
   walked_onward (Has k) aim pred curr (Unmarked s flags) = rests_onward (Has k) s (may_answer flags) Yes record { inside = refl; pass = tt; is_own = none; room = refl }
-  walked_onward (Has k) aim pred curr (met_marked s flags) = rests_onward (Has k) s (may_answer flags) No (answers_no (Has k))
   walked_onward (Add k) aim pred curr (Unmarked s flags) = rests_onward (Add k) s (may_answer flags) No (answers_no (Add k))
   walked_onward (Add k) None pred curr Absent = calm_onward shape p (Add k) P (Reserving false) refl tt refl refl none
   walked_onward (Add k) None pred curr (met_marked s flags) = calm_onward shape p (Add k) P (Reserving false) refl tt refl refl none
   walked_onward (Add k) (Some t) pred curr Absent = calm_onward shape p (Add k) P (Claiming (Some t) pred curr) refl tt refl refl none
   walked_onward (Add k) (Some t) pred curr (met_marked s flags) = calm_onward shape p (Add k) P (Claiming (Some t) pred curr) refl tt refl refl none
-  walked_onward (Remove k) aim pred curr Absent = answers_no (Remove k)
-  walked_onward (Remove k) aim pred curr (met_marked s flags) = rests_onward (Remove k) s (may_answer flags) No (answers_no (Remove k))
   walked_onward (Remove k) aim pred curr (Unmarked s flags) = calm_onward shape p (Remove k) P (Claiming aim pred curr) refl tt refl refl none
+  walked_onward c aim pred curr Absent = answers_no c
+  walked_onward c aim pred curr (met_marked s flags) = rests_onward c s (may_answer flags) No (answers_no c)
 
   pub hop_onward : (c : Command) (aim : Option ℕ) (x : Hopped) → Onward shape p c (hops_on c aim x) P
   hop_onward c aim (More look) = calm_onward shape p c P (Walking aim look) refl tt refl refl none
@@ -171,7 +164,7 @@ module _ (n calls : ℕ) (y : Yard) (callers : List (Option Caller)) (disk : Med
   -- a settling, or a sync played again
   settles : (c : Command) (at : Progress) (s : ℕ) → Onward y.shape a c (progress_after y.shape c at Done) Q → Onward y.shape a c (progress_after y.shape c at Early) Q
       → Goes c at (if is_sure y s then Done else Early) (settling (cell_at y s).stage s)
-  settles c at s done early = subst (λ (l : Trace). Onward y.shape a c (progress_after y.shape c at (if is_sure y s then Done else Early)) (l ++ Q)) (sym (settling_none a (cell_at y s).stage s)) (go (is_sure y s))
+  settles c at s done early = subst (λ (l : Trace). Onward y.shape a c (progress_after y.shape c at (if is_sure y s then Done else Early)) (l ++ Q)) (sym (settling_own a (cell_at y s).stage s)) (go (is_sure y s))
     where
       go : (sure : Bool) → Onward y.shape a c (progress_after y.shape c at (if sure then Done else Early)) Q
       go true = done
@@ -213,28 +206,22 @@ module _ (n calls : ℕ) (y : Yard) (callers : List (Option Caller)) (disk : Med
   plays_writing c s (suc (suc i)) relies h = absurd relies
 
   plays_adding : (c : Command) (s i : ℕ) → Plays c (Playing (Adding s) i)
-  plays_adding (Has k) s i relies h = absurd relies
-  plays_adding (Remove k) s i relies h = absurd relies
-  plays_adding (Add k) s zero relies h = record { inside = refl; pass = tt; is_own = h; room = refl }
   plays_adding (Add k) s (suc zero) relies h = record { inside = refl; pass = tt; is_own = (λ i. links k s relies.1 relies.2 i ++ h i); room = refl }
-  plays_adding (Add k) s (suc (suc zero)) relies h = record { inside = refl; pass = tt; is_own = h; room = refl }
-  plays_adding (Add k) s (suc (suc (suc zero))) relies h = record { inside = refl; pass = tt; is_own = h; room = refl }
   plays_adding (Add k) s (suc (suc (suc (suc zero)))) relies h =
       settles (Add k) (Playing (Adding s) 4) s record { inside = refl; pass = tt; is_own = (s, h); room = refl } record { inside = refl; pass = tt; is_own = h; room = refl }
   plays_adding (Add k) s (suc (suc (suc (suc (suc i))))) relies h = absurd relies
+  plays_adding (Add k) s _ relies h = record { inside = refl; pass = tt; is_own = h; room = refl }
+  plays_adding _ s i relies h = absurd relies
 
   plays_removing : (c : Command) (s i : ℕ) → Plays c (Playing (Removing s) i)
-  plays_removing (Has k) s i relies h = absurd relies
-  plays_removing (Add k) s i relies h = absurd relies
-  plays_removing (Remove k) s zero relies h = record { inside = refl; pass = tt; is_own = h; room = refl }
   plays_removing (Remove k) s (suc zero) relies h = record { inside = refl; pass = tt; is_own = (λ i. marks k s relies.2.0 relies.0 relies.2.1 i ++ h i); room = refl }
-  plays_removing (Remove k) s (suc (suc zero)) relies h = record { inside = refl; pass = tt; is_own = h; room = refl }
   plays_removing (Remove k) s (suc (suc (suc zero))) relies h =
       settles (Remove k) (Playing (Removing s) 3) s record { inside = refl; pass = tt; is_own = h; room = refl } record { inside = refl; pass = tt; is_own = h; room = refl }
   plays_removing (Remove k) s (suc (suc (suc (suc zero)))) relies h = record { inside = refl; pass = tt; is_own = (λ i. unlinks k s relies.2.0 relies.0 relies.2.1 i ++ h i); room = refl }
-  plays_removing (Remove k) s (suc (suc (suc (suc (suc zero))))) relies h = record { inside = refl; pass = tt; is_own = h; room = refl }
   plays_removing (Remove k) s (suc (suc (suc (suc (suc (suc zero)))))) relies h = record { inside = refl; pass = tt; is_own = (s, h); room = refl }
   plays_removing (Remove k) s (suc (suc (suc (suc (suc (suc (suc i))))))) relies h = absurd relies.2
+  plays_removing (Remove k) s _ relies h = record { inside = refl; pass = tt; is_own = h; room = refl }
+  plays_removing _ s i relies h = absurd relies
 
   plays_releasing : (c : Command) (aim : Option ℕ) (i : ℕ) → Plays c (Playing (Releasing aim) i)
   plays_releasing c aim zero relies h = calm_onward y.shape a c Q (Walking aim AtHead) refl tt refl refl (calm_none a c (Playing (Releasing aim) 0) Q refl h)

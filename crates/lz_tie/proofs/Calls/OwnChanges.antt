@@ -4,8 +4,6 @@ use mathlib.Core.Bool.{false≢true}
 use Rattle.lz_slot.specs.declared.command.Command.{Command}
 use Rattle.lz_slot.specs.declared.command.Command.TheVariants.{Add, Remove, Has}
 use Rattle.lz_allot.specs.declared.counts.Counts.{Counts}
-use Rattle.lz_vault.specs.declared.vault.Stage.{Stage}
-use Rattle.lz_vault.specs.declared.vault.Stage.TheVariants.{Closed, Open}
 use Rattle.lz_list.specs.declared.publishing.Publishing.TheVariants.{Linked as linked, Marked as marked, Unlinked as unlinked}
 use Rattle.lz_list.specs.Traces.{Trace}
 use Rattle.lz_machine.specs.declared.event.Reply.{Reply}
@@ -13,7 +11,6 @@ use Rattle.lz_machine.specs.declared.event.Reply.TheVariants.{Yes, Full, Worn, O
 use Rattle.lz_machine.specs.declared.caller.Sequence.TheVariants.{Adding, Removing, Halting}
 use Rattle.lz_machine.specs.declared.caller.Progress.{Progress}
 use Rattle.lz_machine.specs.declared.caller.Progress.TheVariants.{Playing, Answering}
-use Rattle.lz_machine.specs.Table.{settling}
 use Rattle.lz_board.specs.Notes.{own}
 use Rattle.lz_tie.specs.Answers.{MayHaveChanged}
 use Rattle.lz_tie.specs.UnderWay.{OwnAt}
@@ -47,8 +44,7 @@ calm_none p (Remove k) at P is h = h
 -- a call that was cut off may have changed what it had
 pub none_cut : (p : ℕ) (c : Command) (P : Trace) → P ≡ [] → MayHaveChanged p c P
 none_cut p (Has k) P h = h
-none_cut p (Add k) P h = inl h
-none_cut p (Remove k) P h = inl h
+none_cut p _ P h = inl h
 
 pub own_cut : (p : ℕ) (c : Command) (at : Progress) (P : Trace) → OwnAt p c at P → MayHaveChanged p c P
 own_cut p (Has k) (Playing (Halting reply) i) P h = h
@@ -77,41 +73,29 @@ own_cut p (Remove k) at P h = inl h
 
 pub cut_halting : (p : ℕ) (c : Command) (reply : Reply) (i : ℕ) (P : Trace) → MayHaveChanged p c P → OwnAt p c (Playing (Halting reply) i) P
 cut_halting p (Has k) reply i P h = h
-cut_halting p (Add k) reply i P h = h
-cut_halting p (Remove k) reply i P h = h
+cut_halting p _ reply i P h = h
 
 pub cut_halted : (p : ℕ) (c : Command) (P : Trace) → MayHaveChanged p c P → OwnAt p c (Answering Halted) P
 cut_halted p (Has k) P h = h
-cut_halted p (Add k) P h = h
-cut_halted p (Remove k) P h = h
+cut_halted p _ P h = h
 
 pub cut_device : (p : ℕ) (c : Command) (P : Trace) → MayHaveChanged p c P → OwnAt p c (Answering Device) P
 cut_device p (Has k) P h = h
-cut_device p (Add k) P h = h
-cut_device p (Remove k) P h = h
+cut_device p _ P h = h
 
 pub worn_none : (p : ℕ) (c : Command) (P : Trace) → P ≡ [] → OwnAt p c (Answering Worn) P
 worn_none p (Has k) P h = h
-worn_none p (Add k) P h = h
-worn_none p (Remove k) P h = h
+worn_none p _ P h = h
 
 pub full_none : (p : ℕ) (c : Command) (counts : Counts) (P : Trace) → P ≡ [] → OwnAt p c (Answering (Full counts)) P
 full_none p (Has k) counts P h = h
-full_none p (Add k) counts P h = h
-full_none p (Remove k) counts P h = h
+full_none p _ counts P h = h
 
 pub old_none : (p : ℕ) (c : Command) (P : Trace) → P ≡ [] → OwnAt p c (Answering OldFile) P
 old_none p (Has k) P h = h
-old_none p (Add k) P h = h
-old_none p (Remove k) P h = h
+old_none p _ P h = h
 
--- a settling is made for no pass
-pub settling_none : (p : ℕ) (stage : Stage) (s : ℕ) → own p (settling stage s) ≡ []
-settling_none p Open s = refl
-settling_none p Closed s = refl
-settling_none p stage s = refl
-
--- a linking, a marking and an unlinking are
+-- a linking, a marking and an unlinking are made for a pass
 pub own_linked : (p k s : ℕ) → own p (linked k s p ∷ []) ≡ linked k s p ∷ []
 own_linked p k s = rw (eq-eqb p p refl) refl
 

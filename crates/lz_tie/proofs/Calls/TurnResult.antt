@@ -1,7 +1,6 @@
 -- What a turn gives that moves no pin word: it is played, or it is cut off and publishes nothing.
-use Rattle.std.proofs.Common.{◌≡◌, ◌≢◌, ◌⊎◌, inl, inr, ⊎_elim, ℕ, Bool, true, false, not, ◌&&◌, [], refl, sym, ap, ◌∙◌}
+use Rattle.std.proofs.Common.{◌≡◌, ◌≢◌, ◌⊎◌, inl, inr, ⊎_elim, ℕ, Bool, true, false, not, ◌&&◌, [], refl, sym, ap, ◌∙◌, if◌then◌else◌, ◌==◌}
 use mathlib.Core.Bool.{false≢true}
-use Rattle.std.specs.Prelude.{if◌then◌else◌, ◌==◌}
 use Rattle.lz_vault.specs.Vaults.{NoCall}
 use Rattle.lz_machine.specs.declared.event.Event.{Event}
 use Rattle.lz_machine.specs.declared.event.Event.TheVariants.{Pin, Answer, Sync}
@@ -26,11 +25,7 @@ dies_refused y a e is = (ap (λ (k : Course). (line_on k y (actor_at y a) a e).1
 alive_plays : (y : Yard) (a pin : ℕ) (e : Event) → is_pinning e ≡ false → (course_alive y a pin e ≡ Plays) ⊎ (course_alive y a pin e ≡ Dies)
 alive_plays y a pin Pin plain = absurd (false≢true (sym plain))
 alive_plays y a pin Answer plain = absurd (false≢true (sym plain))
-alive_plays y a pin (Sync s) plain = go (not (is_sure y s) && is_spent y)
-  where
-    go : (spent : Bool) → ((if spent then Dies else Plays) ≡ Plays) ⊎ ((if spent then Dies else Plays) ≡ Dies)
-    go true = inr refl
-    go false = inl refl
+alive_plays y a pin (Sync s) plain = elim (not (is_sure y s) && is_spent y) as (λ (spent : Bool). ((if spent then Dies else Plays) ≡ Plays) ⊎ ((if spent then Dies else Plays) ≡ Dies)) [ true ↦ inr refl | false ↦ inl refl ]
 alive_plays y a pin e plain = inl refl
 
 pub played_or_refused : (y : Yard) (a : ℕ) (e : Event) → is_pinning e ≡ false → (line y a e).1 ≢ NotNow → (course y a e ≡ Plays) ⊎ IsRefused y a e

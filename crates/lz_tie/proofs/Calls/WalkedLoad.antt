@@ -1,6 +1,5 @@
 -- A call that walks, apart from its caller: the word that it loads, and where the value leads.
-use Rattle.std.proofs.Common.{◌≡◌, ℕ, sym, ap, ◌∙◌, subst}
-use Rattle.std.specs.Prelude.{Some}
+use Rattle.std.proofs.Common.{◌≡◌, ℕ, sym, ap, ◌∙◌, subst, Some}
 use Rattle.std.proofs.lemmas.Option.{none-some, same_Some}
 use Rattle.lz_list.specs.declared.walk.Look.{Look}
 use Rattle.lz_list.specs.declared.walk.Walk.{Walk}

@@ -1,7 +1,6 @@
 -- Two notes of the pen that no event gives: a pin word that was found, and a call that was made.
-use Rattle.std.proofs.Common.{◌≡◌, ◌≢◌, ◌⊎◌, inl, inr, ⊎_elim, ℕ, zero, suc, ◌+◌, ◌-◌, ◌≤◌, Bool, true, false, List, [], ◌∷◌, ◌++◌, refl, sym, ap, ◌∙◌, subst, arith}
+use Rattle.std.proofs.Common.{◌≡◌, ◌≢◌, ◌⊎◌, inl, inr, ⊎_elim, ℕ, zero, suc, ◌+◌, ◌-◌, ◌≤◌, Bool, true, false, List, [], ◌∷◌, ◌++◌, refl, sym, ap, ◌∙◌, subst, arith, replicate, Option, Some, None, IsNone, IsTrue, is_some}
 use mathlib.Core.Bool.{false≢true}
-use Rattle.std.specs.Prelude.{replicate, Option, Some, None, IsNone, IsTrue, is_some}
 use Rattle.lz_slot.specs.declared.command.Command.{Command}
 use Rattle.lz_slot.specs.Counted.{of_pass, set_of_pass}
 use Rattle.lz_slot.specs.Limits.{largest_key}
@@ -25,6 +24,7 @@ use Rattle.lz_tie.specs.NotedRuns.{TellsStep, viewed, SameButAllPins, IsTied}
 use Rattle.lz_tie.specs.Holds.{sizes_of}
 use Rattle.lz_tie.proofs.Reading.CallPlaces.{Placed, place_reads}
 use Rattle.lz_tie.proofs.Reading.PinWords.{count_pins, pin_in_state, pin_reads}
+use Rattle.lz_tie.proofs.Hold.Alike.{alike_is, alike_then, with_own_pin}
 use Rattle.lz_slot.proofs.Counted.{of_pass_same}
 
 none_from : (x : Option Caller) → viewed x ≡ None → IsNone x
@@ -71,7 +71,7 @@ module _ (opened : Trace) (ns : List Note) (y : Yard) (honest : Bool) (disk : Me
 
   looks_run : (k q : ℕ) → 1 ≤ q → q ≤ y.shape.passes → IsNone (caller_at pl.service.callers q) → pin_of pl.service.yard q + k ≤ last_pin
       → IsRun p (replicate k (Looks q) ++ t.steps) × Looked k q (run p (replicate k (Looks q) ++ t.steps)).state
-  looks_run zero q low high none room = (t.runs, record { after = pl.service; left = pl.disk; at = pl.state; disk_is = refl; callers = refl; own = omega arith; yard = record { shape = refl; heads = refl; links = refl; keys = refl; halt = refl; locks = refl; vault = refl; uses = refl; actors = refl } })
+  looks_run zero q low high none room = (t.runs, record { after = pl.service; left = pl.disk; at = pl.state; disk_is = refl; callers = refl; own = omega arith; yard = alike_is refl })
   looks_run (suc k) q low high none room =
       let r = looks_run k q low high none (omega (arith, room)) in
       let l = r.1 in
@@ -105,7 +105,7 @@ module _ (opened : Trace) (ns : List Note) (y : Yard) (honest : Bool) (disk : Me
   found_by k q v low high worn sum idle =
       let pin = pin_is q low high in
       let looks = ⊎_elim
-      (λ (nothing : k ≡ 0). subst (λ k. IsRun p (replicate k (Looks q) ++ t.steps) × Looked k q (run p (replicate k (Looks q) ++ t.steps)).state) (sym nothing) (t.runs, record { after = pl.service; left = pl.disk; at = pl.state; disk_is = refl; callers = refl; own = omega arith; yard = record { shape = refl; heads = refl; links = refl; keys = refl; halt = refl; locks = refl; vault = refl; uses = refl; actors = refl } }))
+      (λ (nothing : k ≡ 0). subst (λ k. IsRun p (replicate k (Looks q) ++ t.steps) × Looked k q (run p (replicate k (Looks q) ++ t.steps)).state) (sym nothing) (t.runs, record { after = pl.service; left = pl.disk; at = pl.state; disk_is = refl; callers = refl; own = omega arith; yard = alike_is refl }))
       (λ none. looks_run k q low high none (omega (arith, worn, sum, pin)))
       idle in
       let l = looks.1 in
@@ -119,17 +119,7 @@ module _ (opened : Trace) (ns : List Note) (y : Yard) (honest : Bool) (disk : Me
         reads = (replicate k (Looks q), t.steps, refl, (refl, refl, record { looks = k; steps = refl; found = λ service medium is. let here : pin_of service.yard q ≡ pin_of pl.service.yard q = ap (λ w. pin_in_state t.start t.starts w q) (sym is ∙ pl.state) in omega (arith, here, pin, sum) }), t.reads);
         begins = t.begins;
         state = l.at;
-        yard = record {
-          shape = same_yard.shape ∙ l.yard.shape;
-          heads = same_yard.heads ∙ l.yard.heads;
-          links = same_yard.links ∙ l.yard.links;
-          keys = same_yard.keys ∙ l.yard.keys;
-          halt = same_yard.halt ∙ l.yard.halt;
-          locks = same_yard.locks ∙ l.yard.locks;
-          vault = same_yard.vault ∙ l.yard.vault;
-          uses = same_yard.uses ∙ l.yard.uses;
-          actors = same_yard.actors ∙ l.yard.actors;
-        };
+        yard = alike_then same_yard l.yard;
         device = λ h. t.device h ∙ sym medium_is ∙ sym l.disk_is;
       }
 
@@ -153,18 +143,7 @@ module _ (opened : Trace) (ns : List Note) (y : Yard) (honest : Bool) (disk : Me
     trace = (run p t.steps).trace;
     reached = record { steps = t.steps; starts = t.starts; runs = t.runs; state = pl.state; marks = refl; trace = refl };
     next = idle_is a low idle;
-    yard = record {
-      shape = same_yard.shape;
-      heads = same_yard.heads;
-      links = same_yard.links;
-      keys = same_yard.keys;
-      halt = same_yard.halt;
-      pin = pin ∙ sym (pin_is a low high);
-      locks = same_yard.locks;
-      vault = same_yard.vault;
-      uses = same_yard.uses;
-      actors = same_yard.actors;
-    };
+    yard = with_own_pin a same_yard (pin ∙ sym (pin_is a low high));
     device = λ h. t.device h ∙ sym medium_is;
   }
 

@@ -5,7 +5,7 @@ use Rattle.lz_vault.specs.Vaults.{DeviceCall, NoCall, SyncAll, Succeeds}
 use Rattle.lz_list.specs.declared.word.Word.TheVariants.{Pin as pin_at}
 use Rattle.lz_list.specs.Words.{set}
 use Rattle.lz_machine.specs.declared.course.Course.{Course}
-use Rattle.lz_machine.specs.declared.course.Course.TheVariants.{Refused, Dies, Plays}
+use Rattle.lz_machine.specs.declared.course.Course.TheVariants.{Plays}
 use Rattle.lz_machine.specs.declared.event.Event.{Event}
 use Rattle.lz_machine.specs.declared.event.Event.TheVariants.{Sync}
 use Rattle.lz_machine.specs.declared.event.Outcome.{Outcome}
@@ -23,8 +23,7 @@ calls_none y a s sure = go (course y a (Sync s))
   where
     go : (k : Course) → call_on k y (actor_at y a) (Sync s) ≡ NoCall
     go Plays = ap (λ (b : Bool). if b then NoCall else SyncAll) sure
-    go Dies = refl
-    go (Refused o) = refl
+    go _ = refl
 
 -- Played over a device once the yard's copy of a pin word was set, which touches no slot.
 pub spares : (y was : Yard) (p pin : ℕ) → was ≡ with_words y (set y.words (pin_at p) pin) → (a : ℕ) (e : Event) (o : Outcome) (new : Yard) (told : Told) (first before after : Device) → before ≡ first → Played was a e o new told before after

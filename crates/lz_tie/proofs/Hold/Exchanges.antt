@@ -1,6 +1,5 @@
 -- The exchange on the board that goes with a turn's note.
-use Rattle.std.proofs.Common.{◌≡◌, ◌≢◌, ℕ, refl, sym, ap, ◌∙◌, subst}
-use Rattle.std.specs.Prelude.{Option, Some, None}
+use Rattle.std.proofs.Common.{◌≡◌, ◌≢◌, ℕ, refl, sym, ap, ◌∙◌, subst, Option, Some, None}
 use Rattle.lz_list.specs.declared.word.Word.{Word}
 use Rattle.lz_list.specs.declared.word.Word.TheVariants.{Head, Link, Key, Pin as pin_at, Halt as halt_word}
 use Rattle.lz_list.specs.Words.{Words, get}

@@ -1,6 +1,5 @@
 -- What a pass that joins the pen brings into a hold.
-use Rattle.std.specs.Prelude.{Option}
-use Rattle.std.proofs.Common.{◌≡◌, ◌+◌, ◌<◌, List, sym, ◌∙◌, subst, arith}
+use Rattle.std.proofs.Common.{◌≡◌, ◌+◌, ◌<◌, List, sym, ◌∙◌, subst, arith, Option}
 use Rattle.lz_disk.specs.Devices.{Device}
 use Rattle.lz_slot.specs.declared.command.Command.{Command}
 use Rattle.lz_list.specs.declared.publishing.Publishing.{Publishing}

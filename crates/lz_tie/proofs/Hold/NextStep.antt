@@ -1,7 +1,6 @@
 -- One hold: what it plays may be played, and its notes are read as a run whose last state is the yard's again.
-use Rattle.std.proofs.Common.{◌≡◌, ◌≢◌, inl, ⊎_elim, ℕ, suc, ◌≤◌, ◌%◌, Bool, true, false, List, [], ◌∷◌, ◌++◌, map, length, refl, sym, ap, ◌∙◌, subst, arith}
+use Rattle.std.proofs.Common.{◌≡◌, ◌≢◌, inl, ⊎_elim, ℕ, suc, ◌≤◌, ◌%◌, Bool, true, false, List, [], ◌∷◌, ◌++◌, map, length, refl, sym, ap, ◌∙◌, subst, arith, Option, Some, None, IsTrue, is_some}
 use mathlib.Core.Bool.{false≢true}
-use Rattle.std.specs.Prelude.{Option, Some, None, IsTrue, is_some}
 use Rattle.lz_slot.specs.declared.command.Command.{Command}
 use Rattle.lz_slot.specs.Counted.{of_pass}
 use Rattle.lz_disk.specs.Images.{Medium}
@@ -43,6 +42,7 @@ use Rattle.lz_tie.proofs.Reading.PinWords.{pin_in_state, pin_reads}
 use Rattle.lz_tie.proofs.Reading.StandingCall.{call_relies}
 use Rattle.lz_tie.proofs.Hold.OtherPins.{with_pins, SameLine, line_same}
 use Rattle.lz_tie.proofs.Splicing.LoadSplice.{Spliced, splice_reads}
+use Rattle.lz_tie.proofs.Hold.Alike.{alike_is, alike_then, with_own_pin}
 
 -- a caller's next event, by what its pass has seen of pin words
 seen_is : (words : Words) (pins : ℕ → ℕ) (passes : ℕ) (e : Event) → HasPass passes e → ((q : ℕ) → 1 ≤ q → q ≤ passes → of_pass words.pins q 0 ≡ pins q) → loaded words e ≡ seen_event pins e
@@ -168,18 +168,7 @@ module _ (opened : Trace) (ns : List Note) (y : Yard) (dev : Device) (t : IsTied
         ∙ sym is
 
     same : SameButPins a z s
-    same = record {
-      shape = alike.shape ∙ t.yard.shape ∙ ap (λ (y : Yard). y.shape) both.0;
-      heads = alike.heads ∙ t.yard.heads ∙ ap (λ (y : Yard). y.words.heads) both.0;
-      links = alike.links ∙ t.yard.links ∙ ap (λ (y : Yard). y.words.links) both.0;
-      keys = alike.keys ∙ t.yard.keys ∙ ap (λ (y : Yard). y.words.keys) both.0;
-      halt = alike.halt ∙ t.yard.halt ∙ ap (λ (y : Yard). y.words.halt) both.0;
-      pin = pin ∙ sym (pins_are a low in_range);
-      locks = alike.locks ∙ t.yard.locks ∙ ap (λ (y : Yard). y.locks) both.0;
-      vault = alike.vault ∙ t.yard.vault ∙ ap (λ (y : Yard). y.vault) both.0;
-      uses = alike.uses ∙ t.yard.uses ∙ ap (λ (y : Yard). y.uses) both.0;
-      actors = alike.actors ∙ t.yard.actors ∙ ap (λ (y : Yard). y.actors) both.0;
-    }
+    same = with_own_pin a (alike_then alike (alike_then t.yard (alike_is both.0))) (pin ∙ sym (pins_are a low in_range))
 
     device_is : IsTrue dev.honest → dev.medium ≡ pl.disk
     device_is h = t.device h ∙ both.1

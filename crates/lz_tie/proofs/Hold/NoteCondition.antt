@@ -1,8 +1,7 @@
 -- What the tie before a hold and after it say of the board: the words, and that the store of a hold publishes what its note
 -- says.
-use Rattle.std.proofs.Common.{◌≡◌, ◌≢◌, ⊎_elim, ℕ, List, ◌∷◌, ◌++◌, refl, sym, ap, ◌∙◌, subst, arith, ne_eqb}
+use Rattle.std.proofs.Common.{◌≡◌, ◌≢◌, ⊎_elim, ℕ, List, ◌∷◌, ◌++◌, refl, sym, ap, ◌∙◌, subst, arith, ne_eqb, Bool, true, false, ◌==◌, length, if◌then◌else◌, [], Option, Some, None, option_to_list}
 use mathlib.Core.Bool.{false≢true}
-use Rattle.std.specs.Prelude.{Bool, true, false, ◌==◌, length, if◌then◌else◌, [], Option, Some, None, option_to_list}
 use Rattle.std.proofs.lemmas.Bool.{eq-eqb, cases_eq, cases_lt}
 use Rattle.std.proofs.lemmas.List.{get_or_past}
 use Rattle.lz_slot.specs.Counted.{of_pass}
@@ -34,6 +33,7 @@ use Rattle.lz_tie.specs.Holds.{sizes_of}
 use Rattle.lz_tie.proofs.Reading.TraceNotes.{trace_reads}
 use Rattle.lz_tie.proofs.Splicing.LoadInsertion.{words_shown}
 use Rattle.lz_tie.proofs.Hold.OneWord.{IsWalked}
+use Rattle.lz_tie.proofs.Hold.Alike.{alike_then}
 
 -- what was told of a publishing, as a list
 pub listed_is : (x : Option Publishing) → as_list x ≡ option_to_list x
@@ -60,17 +60,7 @@ alike_tied opened ns y z dev t same = record {
   reads = t.reads;
   begins = t.begins;
   state = t.state;
-  yard = record {
-    shape = same.shape ∙ t.yard.shape;
-    heads = same.heads ∙ t.yard.heads;
-    links = same.links ∙ t.yard.links;
-    keys = same.keys ∙ t.yard.keys;
-    halt = same.halt ∙ t.yard.halt;
-    locks = same.locks ∙ t.yard.locks;
-    vault = same.vault ∙ t.yard.vault;
-    uses = same.uses ∙ t.yard.uses;
-    actors = same.actors ∙ t.yard.actors;
-  };
+  yard = alike_then same t.yard;
   device = t.device;
 }
 

@@ -1,6 +1,5 @@
 -- What a hold has once the step of its pass is noted, whichever event that plays.
-use Rattle.std.proofs.Common.{◌≡◌, ◌∷◌, ◌++◌, ℕ, suc, List, map, refl, sym, ap, ◌∙◌, subst, arith, eq-eqb, ne_eqb}
-use Rattle.std.specs.Prelude.{if◌then◌else◌, Some, None}
+use Rattle.std.proofs.Common.{◌≡◌, ◌∷◌, ◌++◌, ℕ, suc, List, map, refl, sym, ap, ◌∙◌, subst, arith, eq-eqb, ne_eqb, if◌then◌else◌, Some, None}
 use Rattle.lz_disk.specs.Devices.{Device}
 use Rattle.lz_list.specs.Traces.{Trace, Lawful}
 use Rattle.lz_list.specs.Pinned.{IsQuiet}

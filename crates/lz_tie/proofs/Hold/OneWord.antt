@@ -1,7 +1,6 @@
 -- What a hold stores on the board is what its event publishes.
-use Rattle.std.proofs.Common.{◌≡◌, ◌≢◌, ℕ, Bool, true, false, [], ◌∷◌, refl, sym, ap, subst, get_or-set_other, ne_eqb, ◌+◌}
+use Rattle.std.proofs.Common.{◌≡◌, ◌≢◌, ℕ, Bool, true, false, [], ◌∷◌, refl, sym, ap, subst, get_or-set_other, ne_eqb, ◌+◌, if◌then◌else◌, Some, None, IfSome, is_some, not}
 use mathlib.Core.Bool.{false≢true}
-use Rattle.std.specs.Prelude.{if◌then◌else◌, Some, None, IfSome, is_some, not}
 use Rattle.lz_slot.proofs.Counted.{of_pass_other}
 use Rattle.lz_vault.specs.declared.vault.Stage.{Stage}
 use Rattle.lz_vault.specs.declared.vault.Stage.TheVariants.{Closed}
@@ -14,7 +13,7 @@ use Rattle.lz_list.specs.declared.publishing.Publishing.TheVariants.{Linked as l
 use Rattle.lz_list.specs.Words.{Words, get, set, redirect, word_of, change_flags}
 use Rattle.lz_flush.specs.Settling.{settle}
 use Rattle.lz_machine.specs.declared.course.Course.{Course}
-use Rattle.lz_machine.specs.declared.course.Course.TheVariants.{Refused, Dies, Plays}
+use Rattle.lz_machine.specs.declared.course.Course.TheVariants.{Plays}
 use Rattle.lz_machine.specs.declared.actor.Actor.{Actor}
 use Rattle.lz_machine.specs.declared.event.Event.{Event}
 use Rattle.lz_machine.specs.declared.event.Event.TheVariants.{Pin, WriteKey, WriteOpen, Link, Mark, Settle, Unlink, Answer, Halt}
@@ -69,11 +68,7 @@ others_stay y actor a _ v away = refl
 changed_walked : (y : Yard) (a : ℕ) (e : Event) → is_counting y a e ≡ false → IfSome (word_changed y (actor_at y a) a e) IsWalked
 changed_walked y a Pin not_one = absurd (false≢true (sym not_one))
 changed_walked y a Link not_one = place_walked (actor_at y a).pred
-changed_walked y a (Settle s) not_one = go (is_sure y s)
-  where
-    go : (b : Bool) → IfSome (if b then Some (link_at s) else None) IsWalked
-    go true = tt
-    go false = tt
+changed_walked y a (Settle s) not_one = elim (is_sure y s) as (λ (b : Bool). IfSome (if b then Some (link_at s) else None) IsWalked) [ true ↦ tt | false ↦ tt ]
 changed_walked y a Unlink not_one = place_walked (actor_at y a).pred
 changed_walked y a Answer not_one = go (stays_out (actor_at y a) (pin_of y a)) not_one
   where
@@ -83,15 +78,14 @@ changed_walked y a Answer not_one = go (stays_out (actor_at y a) (pin_of y a)) n
 changed_walked y a e not_one = tt
 
 on_others : (y : Yard) (a : ℕ) (e : Event) (v : Word) (c : Course) → changed_on c y (actor_at y a) a e ≢ Some v → get (line_on c y (actor_at y a) a e).0.words v ≡ get y.words v
-on_others y a e v (Refused o) away = refl
-on_others y a e v Dies away = refl
 on_others y a e v Plays away = others_stay y (actor_at y a) a e v away
+on_others y a e v _ away = refl
 
 pub line_others : (y : Yard) (a : ℕ) (e : Event) (v : Word) → line_changes y a e ≢ Some v → get (line y a e).0.words v ≡ get y.words v
 line_others y a e v away = on_others y a e v (course y a e) away
 
 -- what an event publishes is published for its actor, or for no pass
-settling_own : (q : ℕ) (stage : Stage) (s : ℕ) → own q (settling stage s) ≡ []
+pub settling_own : (q : ℕ) (stage : Stage) (s : ℕ) → own q (settling stage s) ≡ []
 settling_own q Closed s = refl
 settling_own q _ s = refl
 
@@ -106,17 +100,15 @@ made_own y actor a q Unlink away = none_of q (unlinked (get y.words (key_at (nod
 made_own y actor a q _ away = refl
 
 on_own : (y : Yard) (a q : ℕ) (e : Event) (c : Course) → q ≢ a → own q (published_on c y (actor_at y a) a e) ≡ []
-on_own y a q e (Refused o) away = refl
-on_own y a q e Dies away = refl
 on_own y a q e Plays away = made_own y (actor_at y a) a q e away
+on_own y a q e _ away = refl
 
 pub line_own : (y : Yard) (a q : ℕ) (e : Event) → q ≢ a → own q (line_publishes y a e) ≡ []
 line_own y a q e away = on_own y a q e (course y a e) away
 
 on_pin : (y : Yard) (a q : ℕ) (e : Event) (c : Course) → changed_on c y (actor_at y a) a e ≡ Some (pin_at q) → (c ≡ Plays) × (word_changed y (actor_at y a) a e ≡ Some (pin_at q))
-on_pin y a q e (Refused o) is = absurd (false≢true (ap is_some is))
-on_pin y a q e Dies is = absurd (false≢true (ap is_some is))
 on_pin y a q e Plays is = (refl, is)
+on_pin y a q e _ is = absurd (false≢true (ap is_some is))
 
 -- an event whose line names a pin word is played, and counts its actor's pin word up
 pub pin_changed : (y : Yard) (a q : ℕ) (e : Event) → line_changes y a e ≡ Some (pin_at q) → (is_counting y a e ≡ true) × (course y a e ≡ Plays)
@@ -126,16 +118,19 @@ pin_changed y a q e is = let h = on_pin y a q e (course y a e) is in (go (is_cou
     go true one is = one
     go false not_one is = absurd (subst (λ o. IfSome o IsWalked) is (changed_walked y a e not_one))
 
--- and publishes nothing
+-- an event whose row publishes nothing publishes nothing
+pub line_silent : (y : Yard) (a : ℕ) (e : Event) → publishes y (actor_at y a) a e ≡ [] → line_publishes y a e ≡ []
+line_silent y a e none = on (course y a e)
+  where
+    on : (c : Course) → published_on c y (actor_at y a) a e ≡ []
+    on Plays = none
+    on _ = refl
+
+-- as one that counts a pin word up
 pub counting_silent : (y : Yard) (a : ℕ) (e : Event) → is_counting y a e ≡ true → line_publishes y a e ≡ []
-counting_silent y a e is = on (course y a e)
+counting_silent y a e is = line_silent y a e (none e is)
   where
     none : (e : Event) → is_counting y a e ≡ true → publishes y (actor_at y a) a e ≡ []
     none Pin is = refl
     none Answer is = refl
     none e is = absurd (false≢true is)
-
-    on : (c : Course) → published_on c y (actor_at y a) a e ≡ []
-    on (Refused o) = refl
-    on Dies = refl
-    on Plays = none e is

@@ -1,6 +1,5 @@
 -- Of a yard's copies of pin words an event reads its own actor's alone, but for a load.
-use Rattle.std.proofs.Common.{◌≡◌, ℕ, ◌+◌, Bool, true, false, List, refl, sym, ap, ◌∙◌, subst}
-use Rattle.std.specs.Prelude.{not, ◌&&◌, if◌then◌else◌, Option, Some, None}
+use Rattle.std.proofs.Common.{◌≡◌, ℕ, ◌+◌, Bool, true, false, List, refl, sym, ap, ◌∙◌, subst, not, ◌&&◌, if◌then◌else◌, Option, Some, None}
 use Rattle.lz_slot.specs.Counted.{of_pass}
 use Rattle.lz_allot.specs.Uses.{see_pin}
 use Rattle.lz_list.specs.declared.place.Place.{Place}
@@ -13,7 +12,7 @@ use Rattle.lz_machine.specs.declared.course.Course.TheVariants.{Refused, Dies, P
 use Rattle.lz_machine.specs.declared.actor.Actor.{Actor}
 use Rattle.lz_machine.specs.declared.actor.Hold.TheVariants.{Checked, Locks}
 use Rattle.lz_machine.specs.declared.event.Event.{Event}
-use Rattle.lz_machine.specs.declared.event.Event.TheVariants.{Invoke, Pin, Hop, Reserve, WriteKey, Claim, Check, WriteOpen, Link, WriteClose, Mark, Release, Sync, Settle, Unlink, Retire, SeePin, Answer, Halt}
+use Rattle.lz_machine.specs.declared.event.Event.TheVariants.{Invoke, Hop, Check, Link, Settle, Unlink, Answer}
 use Rattle.lz_machine.specs.declared.event.Outcome.TheVariants.{Dead, NotNow, True, False}
 use Rattle.lz_machine.specs.Yards.{Yard, actor_at}
 use Rattle.lz_machine.specs.Table.{course, course_alive, needs_of, is_played_dead, line, line_on, line_failed, line_call, call_on, call_of, line_publishes, published_on, publishes, yard_done, outcome_of, words_after, given_back, kept_slot, vault_failed, is_sure, set_actor, with_hold, with_slot, pin_of, stays_out, pin_answered}
@@ -69,24 +68,7 @@ module _ (y : Yard) (ps : List ℕ) (a : ℕ) (pin : of_pass ps a 0 ≡ of_pass 
 
   course_same : (e : Event) → course z a e ≡ course y a e
   course_same (Invoke c) = ap (course_at (Invoke c)) pin
-  course_same Pin = ap (course_at Pin) pin
-  course_same (Hop w) = ap (course_at (Hop w)) pin
-  course_same Reserve = ap (course_at Reserve) pin
-  course_same (WriteKey k) = ap (course_at (WriteKey k)) pin
-  course_same (Claim pred curr) = ap (course_at (Claim pred curr)) pin
-  course_same Check = ap (course_at Check) pin
-  course_same WriteOpen = ap (course_at WriteOpen) pin
-  course_same Link = ap (course_at Link) pin
-  course_same WriteClose = ap (course_at WriteClose) pin
-  course_same Mark = ap (course_at Mark) pin
-  course_same Release = ap (course_at Release) pin
-  course_same (Sync s) = ap (course_at (Sync s)) pin
-  course_same (Settle s) = ap (course_at (Settle s)) pin
-  course_same Unlink = ap (course_at Unlink) pin
-  course_same Retire = ap (course_at Retire) pin
-  course_same (SeePin p v) = ap (course_at (SeePin p v)) pin
-  course_same Answer = ap (course_at Answer) pin
-  course_same Halt = ap (course_at Halt) pin
+  course_same x = ap (course_at x) pin
 
   given_same : (slot : Option ℕ) → given_back z slot ≡ given_back y slot
   given_same None = refl
@@ -114,23 +96,9 @@ module _ (y : Yard) (ps : List ℕ) (a : ℕ) (pin : of_pass ps a 0 ≡ of_pass 
   }
 
   words_same : (e : Event) → SameWords (words_after z actor a e) (words_after y actor a e)
-  words_same (Invoke c) = record { heads = refl; links = refl; keys = refl; halt = refl }
-  words_same Pin = record { heads = refl; links = refl; keys = refl; halt = refl }
-  words_same (Hop w) = record { heads = refl; links = refl; keys = refl; halt = refl }
-  words_same Reserve = record { heads = refl; links = refl; keys = refl; halt = refl }
-  words_same (WriteKey k) = record { heads = refl; links = refl; keys = refl; halt = refl }
-  words_same (Claim pred curr) = record { heads = refl; links = refl; keys = refl; halt = refl }
-  words_same Check = record { heads = refl; links = refl; keys = refl; halt = refl }
-  words_same WriteOpen = record { heads = refl; links = refl; keys = refl; halt = refl }
   words_same Link = redirect_same y.words ps actor.pred _
-  words_same WriteClose = record { heads = refl; links = refl; keys = refl; halt = refl }
-  words_same Mark = record { heads = refl; links = refl; keys = refl; halt = refl }
-  words_same Release = record { heads = refl; links = refl; keys = refl; halt = refl }
-  words_same (Sync s) = record { heads = refl; links = refl; keys = refl; halt = refl }
   words_same (Settle s) = if_same (is_sure y s) _ _ _ _ record { heads = refl; links = refl; keys = refl; halt = refl } record { heads = refl; links = refl; keys = refl; halt = refl }
   words_same Unlink = redirect_same y.words ps actor.pred _
-  words_same Retire = record { heads = refl; links = refl; keys = refl; halt = refl }
-  words_same (SeePin p v) = record { heads = refl; links = refl; keys = refl; halt = refl }
   words_same Answer = go (stays_out actor (pin_of z a)) (stays_out actor (pin_of y a))
     where
       go : (one other : Bool) → SameWords (if one then z.words else set z.words (pin_at a) (pin_of z a + 1)) (if other then y.words else set y.words (pin_at a) (pin_of y a + 1))
@@ -138,30 +106,14 @@ module _ (y : Yard) (ps : List ℕ) (a : ℕ) (pin : of_pass ps a 0 ≡ of_pass 
       go true false = record { heads = refl; links = refl; keys = refl; halt = refl }
       go false true = record { heads = refl; links = refl; keys = refl; halt = refl }
       go false false = record { heads = refl; links = refl; keys = refl; halt = refl }
-  words_same Halt = record { heads = refl; links = refl; keys = refl; halt = refl }
+  words_same _ = record { heads = refl; links = refl; keys = refl; halt = refl }
 
   yard_same : (e : Event) → SameButAllPins (yard_done z actor a e) (yard_done y actor a e)
-  yard_same (Invoke c) = with_same _ _ (words_same (Invoke c)) _ _ refl refl refl refl refl refl refl
-  yard_same Pin = with_same _ _ (words_same Pin) _ _ refl refl refl refl refl refl refl
-  yard_same (Hop w) = with_same _ _ (words_same (Hop w)) _ _ refl refl refl refl refl refl refl
-  yard_same Reserve = with_same _ _ (words_same Reserve) _ _ refl refl refl refl refl refl refl
-  yard_same (WriteKey k) = with_same _ _ (words_same (WriteKey k)) _ _ refl refl refl refl refl refl refl
-  yard_same (Claim pred curr) = with_same _ _ (words_same (Claim pred curr)) _ _ refl refl refl refl refl refl refl
   yard_same Check = with_same _ _ (words_same Check) _ _ refl refl refl refl refl refl (ap (λ b. set_actor y a (with_hold actor (if b then Checked else Locks))) (check_same y.words ps actor.pred actor.curr))
-  yard_same WriteOpen = with_same _ _ (words_same WriteOpen) _ _ refl refl refl refl refl refl refl
-  yard_same Link = with_same _ _ (words_same Link) _ _ refl refl refl refl refl refl refl
-  yard_same WriteClose = with_same _ _ (words_same WriteClose) _ _ refl refl refl refl refl refl refl
-  yard_same Mark = with_same _ _ (words_same Mark) _ _ refl refl refl refl refl refl refl
-  yard_same Release = with_same _ _ (words_same Release) _ _ refl refl refl refl refl refl refl
-  yard_same (Sync s) = with_same _ _ (words_same (Sync s)) _ _ refl refl refl refl refl refl refl
-  yard_same (Settle s) = with_same _ _ (words_same (Settle s)) _ _ refl refl refl refl refl refl refl
-  yard_same Unlink = with_same _ _ (words_same Unlink) _ _ refl refl refl refl refl refl refl
-  yard_same Retire = with_same _ _ (words_same Retire) _ _ refl refl refl refl refl refl refl
-  yard_same (SeePin p v) = with_same _ _ (words_same (SeePin p v)) _ _ refl refl refl refl refl refl refl
   yard_same Answer = with_same _ _ (words_same Answer) _ _ refl refl refl refl refl
       (ap (λ v. see_pin a (pin_answered actor v) (given_back z actor.slot)) pin ∙ ap (λ l. see_pin a (pin_answered actor (pin_of y a)) l) (given_same actor.slot))
       (ap (λ s. set_actor y a (with_slot actor s)) (kept_same actor.slot))
-  yard_same Halt = with_same _ _ (words_same Halt) _ _ refl refl refl refl refl refl refl
+  yard_same x = with_same _ _ (words_same x) _ _ refl refl refl refl refl refl refl
 
   outcome_same : (e : Event) → hop_of e ≡ None → outcome_of z actor e ≡ outcome_of y actor e
   outcome_same (Hop w) none = absurd cc

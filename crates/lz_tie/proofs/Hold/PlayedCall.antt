@@ -1,6 +1,5 @@
 -- The Invoke of a pass that has joined the pen, and the call that its note tells.
-use Rattle.std.proofs.Common.{◌≡◌, ◌≢◌, ℕ, ◌%◌, ◌≤◌, ◌==◌, Bool, true, false, List, [], ◌∷◌, length, refl, sym, ap, ◌∙◌, subst, arith, eq-eqb}
-use Rattle.std.specs.Prelude.{if◌then◌else◌, ◌&&◌, Some, None, IsTrue}
+use Rattle.std.proofs.Common.{◌≡◌, ◌≢◌, ℕ, ◌%◌, ◌≤◌, ◌==◌, false, List, [], ◌∷◌, length, refl, sym, ap, ◌∙◌, subst, arith, eq-eqb, Some, None, IsTrue}
 use Rattle.lz_slot.specs.declared.command.Command.{Command}
 use Rattle.lz_slot.proofs.Counted.{of_pass_same, length-set_of_pass}
 use Rattle.lz_disk.specs.Devices.{Device}
@@ -10,13 +9,14 @@ use Rattle.lz_list.specs.declared.word.Word.TheVariants.{Pin as pin_at, Halt as 
 use Rattle.lz_list.specs.Words.{get, set}
 use Rattle.lz_list.specs.Traces.{Lawful}
 use Rattle.lz_machine.specs.declared.course.Course.{Course}
-use Rattle.lz_machine.specs.declared.course.Course.TheVariants.{Plays, Refused}
+use Rattle.lz_machine.specs.declared.course.Course.TheVariants.{Plays}
 use Rattle.lz_machine.specs.declared.event.Event.TheVariants.{Invoke}
 use Rattle.lz_machine.specs.declared.event.Outcome.{Outcome}
-use Rattle.lz_machine.specs.declared.event.Outcome.TheVariants.{Fault, Dead}
+use Rattle.lz_machine.specs.declared.event.Outcome.TheVariants.{Fault}
 use Rattle.lz_machine.specs.Yards.{Shape, Yard, actor_at}
 use Rattle.lz_machine.specs.Table.{changed_on, course, line_on, call_on, pin_of, published_on}
 use Rattle.lz_machine.specs.Runs.{MayPlay, with_words, invoked}
+use Rattle.lz_machine.proofs.Runs.Course.{invoke_plays}
 use Rattle.lz_yard.specs.declared.told.Told.{Told}
 use Rattle.lz_yard.specs.Steps.{Played as PlayedOver}
 use Rattle.lz_board.specs.declared.view.Sizes.{Sizes}
@@ -36,13 +36,6 @@ use Rattle.lz_tie.proofs.Reuse.EventUpkeep.{silent_told, hands_after}
 use Rattle.lz_tie.proofs.Hold.NotedStep.{NotedStep}
 use Rattle.lz_tie.proofs.Hold.NoteCondition.{listed_is, listed_none, alike_tied, tied_lawful, noting_nothing}
 use Rattle.lz_tie.proofs.Hold.CallStart as starting
-
-invoke_course : (y : Yard) (a : ℕ) (c : Command) → course y a (Invoke c) ≡ Plays
-invoke_course y a c = go y.vault.dead
-  where
-    go : (dead : Bool) → (if dead && false then Refused Dead else Plays) ≡ Plays
-    go true = refl
-    go false = refl
 
 module _ (b : BoardId) (ns : List Note) (y : Yard) (dev : Device) (h : Part) (hold : InHold b ns y dev h) (c : Command) (may : MayTurn b.sizes ns h (Invoke c)) where
   abbrev a : ℕ
@@ -71,7 +64,7 @@ module _ (b : BoardId) (ns : List Note) (y : Yard) (dev : Device) (h : Part) (ho
 
   module _ (o : Outcome) (z' : Yard) (told : Told) (dev' : Device) (gave : PlayedOver z a (Invoke c) o z' told dev dev') where
     in_play : course z a (Invoke c) ≡ Plays
-    in_play = invoke_course z a c
+    in_play = invoke_plays z a c
 
     -- its Invoke makes no call of the device
     no_fault : o ≢ Fault

@@ -1,7 +1,6 @@
 -- One turn of a pass that has joined the pen: what it asks of the yard, what its note tells, and what it leaves.
-use Rattle.std.proofs.Common.{◌≡◌, ◌≢◌, ⊎_elim, ℕ, suc, ◌≤◌, ◌<◌, Bool, true, false, List, [], ◌++◌, map, length, refl, sym, ap, ◌∙◌, subst, arith, eq-eqb}
+use Rattle.std.proofs.Common.{◌≡◌, ◌≢◌, ⊎_elim, ℕ, suc, ◌≤◌, ◌<◌, Bool, true, false, List, [], ◌++◌, map, length, refl, sym, ap, ◌∙◌, subst, arith, eq-eqb, is_some, if◌then◌else◌, Option, Some, None, IfSome}
 use mathlib.Core.Bool.{false≢true}
-use Rattle.std.specs.Prelude.{is_some, if◌then◌else◌, Option, Some, None, IfSome}
 use Rattle.std.proofs.lemmas.Bool.{not-true}
 use Rattle.lz_slot.proofs.Counted.{of_pass_same, length-set_of_pass}
 use Rattle.lz_disk.specs.Devices.{Device}
@@ -16,7 +15,7 @@ use Rattle.lz_machine.specs.declared.event.Event.TheVariants.{Pin, Answer, Reser
 use Rattle.lz_machine.specs.declared.event.Outcome.{Outcome}
 use Rattle.lz_machine.specs.declared.event.Outcome.TheVariants.{Done, Fault}
 use Rattle.lz_machine.specs.declared.course.Course.{Course}
-use Rattle.lz_machine.specs.declared.course.Course.TheVariants.{Refused, Dies, Plays}
+use Rattle.lz_machine.specs.declared.course.Course.TheVariants.{Plays}
 use Rattle.lz_machine.specs.Yards.{Shape, Yard, actor_at}
 use Rattle.lz_machine.specs.Table.{course, line, line_on, line_failed, line_publishes, published_on, outcome_of, yard_done, uses_after, actors_after, pin_of, last_pin, stays_out, pin_answered}
 use Rattle.lz_machine.specs.Calls.{event_at}
@@ -215,9 +214,8 @@ module _ (b : BoardId) (ns : List Note) (y : Yard) (dev : Device) (h : Part) (ho
         silent none = silent_told b.sizes b.opened a h.loads ns n z hold.locked.reuse none
 
         by_course : o ≢ Fault → (k : Course) → course z a e ≡ k → ReuseTold b.sizes b.opened (noted b.opened ns h n) (line_on k z (actor_at z a) a e).0.uses (line_on k z (actor_at z a) a e).0.actors
-        by_course ok (Refused r) is = silent (no_publishing (ap (λ (k : Course). published_on k z (actor_at z a) a e) is))
-        by_course ok Dies is = silent (no_publishing (ap (λ (k : Course). published_on k z (actor_at z a) a e) is))
         by_course ok Plays is = played_reuse ok is
+        by_course ok _ is = silent (no_publishing (ap (λ (k : Course). published_on k z (actor_at z a) a e) is))
 
     locked : IsLocked b (noted b.opened ns h n) z' dev'
     locked = record { sizes = hold.locked.sizes ∙ ap sizes_of (sym shape); pins = pins_counted ∙ ap (λ (s : Shape). s.passes) (sym shape); tied = tied; reuse = reuse }

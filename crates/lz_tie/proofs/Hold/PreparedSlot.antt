@@ -1,14 +1,13 @@
 -- The slot that an event prepares is the one in its actor's hand.
-use Rattle.std.proofs.Common.{◌≡◌, ℕ, Bool, true, false, List, ◌∷◌, refl, ap}
+use Rattle.std.proofs.Common.{◌≡◌, ℕ, Bool, true, false, List, ◌∷◌, refl, ap, ◌&&◌, Option, Some, None, is_some, unwrap_or}
 use mathlib.Core.Bool.{false≢true}
-use Rattle.std.specs.Prelude.{◌&&◌, Option, Some, None, is_some, unwrap_or}
 use Rattle.lz_vault.specs.declared.vault.Stage.{Stage}
-use Rattle.lz_vault.specs.declared.vault.Stage.TheVariants.{Closed, KeyLoose, Keyed, Opening, Open, Closing}
+use Rattle.lz_vault.specs.declared.vault.Stage.TheVariants.{Open}
 use Rattle.lz_list.specs.declared.publishing.Publishing.{Publishing}
 use Rattle.lz_list.specs.declared.publishing.Publishing.TheVariants.{KeyPrepared as key_prepared, LinkPrepared as link_prepared}
 use Rattle.lz_list.specs.Traces.{Trace}
 use Rattle.lz_machine.specs.declared.course.Course.{Course}
-use Rattle.lz_machine.specs.declared.course.Course.TheVariants.{Refused, Dies, Plays}
+use Rattle.lz_machine.specs.declared.course.Course.TheVariants.{Plays}
 use Rattle.lz_machine.specs.declared.event.Event.{Event}
 use Rattle.lz_machine.specs.declared.event.Event.TheVariants.{WriteKey, WriteOpen, Settle}
 use Rattle.lz_machine.specs.Yards.{Yard, actor_at, cell_at}
@@ -34,11 +33,7 @@ prepared_hand y a e s is = on (course y a e) refl is
   where
     settles : (stage : Stage) (t : ℕ) → prepared (settling stage t) ≡ Some s → ⊥
     settles Open t is = none_some s is
-    settles Closed t is = none_some s is
-    settles KeyLoose t is = none_some s is
-    settles Keyed t is = none_some s is
-    settles Opening t is = none_some s is
-    settles Closing t is = none_some s is
+    settles _ t is = none_some s is
 
     keyed : (slot : Option ℕ) (c : Bool) → (is_some slot && c) ≡ true → Some (unwrap_or slot 0) ≡ Some s → slot ≡ Some s
     keyed None c needs is = absurd (false≢true needs)
@@ -56,9 +51,8 @@ prepared_hand y a e s is = on (course y a e) refl is
     go e has is = absurd (none_some s is)
 
     on : (c : Course) → course y a e ≡ c → prepared (published_on c y (actor_at y a) a e) ≡ Some s → (actor_at y a).slot ≡ Some s
-    on (Refused o) at is = absurd (none_some s is)
-    on Dies at is = absurd (none_some s is)
     on Plays at is = go e (plays_needs y a e at) is
+    on _ at is = absurd (none_some s is)
 
 -- a slot that each pass has left may be prepared
 pub prepares_left : (z : Sizes) (opened : Trace) (ns : List Note) (x : Option Publishing) → ((s : ℕ) → prepared (as_list x) ≡ Some s → AllLeft z opened ns s) → MayPrepare z opened ns x

@@ -1,10 +1,9 @@
 -- One hold: the file's format stays, and a vault dies only for want of a sync or because the device failed.
-use Rattle.std.proofs.Common.{◌≡◌, ◌≢◌, ◌⊎◌, inl, inr, ⊎_elim, ℕ, ◌+◌, ◌≤◌, ◌<◌, ◌==◌, Bool, true, false, List, not, ◌&&◌, refl, sym, ap, ◌∙◌, subst, arith, le_refl}
-use Rattle.std.specs.Prelude.{if◌then◌else◌}
+use Rattle.std.proofs.Common.{◌≡◌, ◌≢◌, ◌⊎◌, inl, inr, ⊎_elim, ℕ, ◌+◌, ◌≤◌, ◌<◌, ◌==◌, Bool, true, false, List, not, ◌&&◌, refl, sym, ap, ◌∙◌, subst, arith, le_refl, if◌then◌else◌}
 use Rattle.std.proofs.lemmas.Bool.Decides.{nat_tests}
 use Rattle.lz_slot.specs.declared.format.Format.{Format}
 use Rattle.lz_disk.specs.Devices.{Device}
-use Rattle.lz_vault.specs.Vaults.{DeviceCall, NoCall, WriteAt, SyncAll, syncs_after, last_sync, Vaulted}
+use Rattle.lz_vault.specs.Vaults.{DeviceCall, SyncAll, syncs_after, last_sync, Vaulted}
 use Rattle.lz_list.specs.declared.word.Word.TheVariants.{Pin as pin_at}
 use Rattle.lz_list.specs.Words.{set}
 use Rattle.lz_machine.specs.declared.course.Course.{Course}
@@ -49,9 +48,8 @@ dies_spent y a e is = spent_syncs y.vault.syncs (alive_dies y a (pin_of y a) e (
     go false false k dies = absurd cc
 
 more_syncs : (call : DeviceCall) (syncs : ℕ) → syncs ≤ syncs_after call syncs
-more_syncs NoCall syncs = le_refl syncs
-more_syncs (WriteAt at bytes) syncs = le_refl syncs
 more_syncs SyncAll syncs = omega arith
+more_syncs _ syncs = le_refl syncs
 
 -- an event whose device call, if it has one, succeeded
 line_keeps : (y : Yard) (a : ℕ) (e : Event) (old new : Device) → new.honest ≡ old.honest → old.faults ≤ new.faults → (k : Course) → course y a e ≡ k → KeepsLife y old (line_on k y (actor_at y a) a e).0 new

@@ -1,17 +1,16 @@
 -- How many steps of the notes failed: a load is none of them, and a hold's step is one only where the device failed in it.
-use Rattle.std.proofs.Common.{◌≡◌, ◌<◌, ℕ, zero, suc, ◌+◌, ◌≤◌, List, [], ◌∷◌, ◌++◌, refl, sym, ap, ◌∙◌, subst, arith}
-use Rattle.std.specs.Prelude.{replicate, Option, Some, None}
+use Rattle.std.proofs.Common.{◌≡◌, ◌<◌, ℕ, zero, suc, ◌+◌, ◌≤◌, List, [], ◌∷◌, ◌++◌, refl, sym, ap, ◌∙◌, subst, arith, replicate, Option, Some, None}
 use Rattle.lz_disk.specs.Devices.{Device}
 use Rattle.lz_list.specs.Traces.{Trace}
 use Rattle.lz_machine.specs.declared.event.Event.{Event}
 use Rattle.lz_machine.specs.declared.event.Outcome.{Outcome}
 use Rattle.lz_machine.specs.declared.event.Outcome.TheVariants.{Fault}
 use Rattle.lz_machine.specs.Halts.{failed_in, told_device}
-use Rattle.lz_machine.specs.Runs.{State, Up, Down, Service, Caller, Point, Transition, Calls, Turn, Fails, Looks, caller_at, first_point, run}
+use Rattle.lz_machine.specs.Runs.{State, Up, Service, Caller, Point, Transition, Calls, Turn, Fails, Looks, caller_at, first_point, run}
 use Rattle.lz_machine.specs.Yards.{Yard}
 use Rattle.lz_machine.proofs.Theorem.DeviceFailures.{fails_once}
 use Rattle.lz_board.specs.declared.view.What.{What}
-use Rattle.lz_board.specs.declared.view.What.TheVariants.{Called, Played, Found}
+use Rattle.lz_board.specs.declared.view.What.TheVariants.{Played, Found}
 use Rattle.lz_board.specs.declared.view.Note.{Note}
 use Rattle.lz_board.specs.declared.view.Load.{Load}
 use Rattle.lz_board.specs.declared.view.Part.{Part}
@@ -56,8 +55,7 @@ step_failed : (w : State) (n : Note) (step : Transition) (before : List Transiti
 step_failed (Up service disk) n (Calls a c) before faults tells past = let more = more_faults n.what faults in omega (arith, more, past)
 step_failed (Up service disk) n (Turn a) before faults tells past = let more = more_faults n.what faults in omega (arith, more, past)
 step_failed (Up service disk) n (Fails a new) before faults tells past = let is = fault_failed service (caller_at service.callers a) n faults tells.1 in omega (arith, is, past)
-step_failed (Up service disk) n _ before faults tells past = absurd tells
-step_failed (Down shape disk) n _ before faults tells past = absurd tells
+step_failed _ n _ before faults tells past = absurd tells
 
 looks_failed : (k q : ℕ) (before : List Transition) → failed_in (replicate k (Looks q) ++ before) ≡ failed_in before
 looks_failed zero q before = refl
@@ -71,12 +69,11 @@ failed_read p (n ∷ ns) steps (new, before, is, tells, rest) = subst (λ (l : L
     one past t = subst (λ (l : List Transition). failed_in (l ++ before) ≤ faults_with n.what (faults_in ns)) (sym t.steps) (step_failed (run p before).state n t.step before (faults_in ns) t.tells past)
 
     go : (what : What) → failed_in before ≤ faults_in ns → TellsOf (run p before).state n what new → failed_in (new ++ before) ≤ faults_with n.what (faults_in ns)
-    go (Called c format) past t = one past t
-    go (Played e o) past t = one past t
     go (Found q v) past t =
         let none = ap (λ (l : List Transition). failed_in (l ++ before)) t.2.steps ∙ looks_failed t.2.looks q before in
         let more = more_faults n.what (faults_in ns) in
         omega (arith, none, more, past)
+    go _ past t = one past t
 
 -- At most one call is told that the device failed, and only where a step did.
 pub failures_told : (b : BoardId) (ns : List Note) (y : Yard) (dev : Device) → IsLocked b ns y dev

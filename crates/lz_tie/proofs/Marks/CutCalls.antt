@@ -1,8 +1,5 @@
 -- Where a history shows that a call was cut off, it is one of its pass's own calls that was.
-use Rattle.std.proofs.Common.{◌≡◌, ◌≢◌, ◌⊎◌, inl, inr, ⊎_elim, ℕ, ◌≤◌, Bool, true, false, List, [], ◌∷◌, Some, None, refl, sym, ◌∙◌, subst, eq-eqb}
-use Rattle.std.specs.Prelude.{◌==◌, if◌then◌else◌, Option}
-use Rattle.std.proofs.lemmas.Bool.{eqb-true}
-use mathlib.Core.Bool.{true≢false}
+use Rattle.std.proofs.Common.{◌≡◌, ◌≢◌, ◌⊎◌, inl, inr, ⊎_elim, ℕ, ◌≤◌, Bool, true, false, List, [], ◌∷◌, Some, None, refl, sym, ◌∙◌, subst, eq-eqb, ◌==◌, if◌then◌else◌, Option, eqb-true, true≢false}
 use Rattle.lz_slot.specs.declared.command.Command.{Command}
 use Rattle.lz_slot.specs.declared.history.Cut.{Cut as WhyCut}
 use Rattle.lz_slot.specs.declared.history.Mark.{Mark}
@@ -129,10 +126,7 @@ module _ (n : ℕ) where
     after_mark (Answer j answer) may = stays (Answer j answer) (kept j _ may) (λ q stands. h.closed q stands.1)
     after_mark (Refused j why) may = stays (Refused j why) (kept j _ may) (λ q stands. h.closed q stands.1)
     after_mark (Cut j why) may = stays (Cut j why) (kept j _ may) (λ q stands. h.closed q stands.1)
-    after_mark Stop may = stays Stop h.cut (λ q stands. stands)
-    after_mark Crash may = stays Crash h.cut (λ q stands. stands)
-    after_mark (Opened keys) may = stays (Opened keys) h.cut (λ q stands. stands)
-    after_mark (OpenFailed number) may = stays (OpenFailed number) h.cut (λ q stands. stands)
+    after_mark m may = stays m h.cut (λ q stands. stands)
 
   -- a call that is cut off is its pass's own
   cut_now : (M : History) (i : ℕ) (why : WhyCut) → AreOfPasses n M → (p : ℕ) × IsOpenCall M i p → IsCutIn (Cut i why ∷ M)
@@ -152,10 +146,5 @@ module _ (n : ℕ) where
   pub cut_in : (M : History) → IsTold M → AreOfPasses n M → NoneIsCut M ⊎ IsCutIn M
   cut_in [] told of = inl tt
   cut_in (Call j q c ∷ M) told of = ⊎_elim inl (λ h. inr (after_mark M h (Call j q c) told.0)) (cut_in M told.1 of.2)
-  cut_in (Answer j answer ∷ M) told of = ⊎_elim inl (λ h. inr (after_mark M h (Answer j answer) told.0)) (cut_in M told.1 of)
-  cut_in (Refused j why ∷ M) told of = ⊎_elim inl (λ h. inr (after_mark M h (Refused j why) told.0)) (cut_in M told.1 of)
   cut_in (Cut j why ∷ M) told of = inr (cut_now M j why of told.0)
-  cut_in (Stop ∷ M) told of = ⊎_elim inl (λ h. inr (after_mark M h Stop told.0)) (cut_in M told.1 of)
-  cut_in (Crash ∷ M) told of = ⊎_elim inl (λ h. inr (after_mark M h Crash told.0)) (cut_in M told.1 of)
-  cut_in (Opened keys ∷ M) told of = ⊎_elim inl (λ h. inr (after_mark M h (Opened keys) told.0)) (cut_in M told.1 of)
-  cut_in (OpenFailed number ∷ M) told of = ⊎_elim inl (λ h. inr (after_mark M h (OpenFailed number) told.0)) (cut_in M told.1 of)
+  cut_in (m ∷ M) told of = ⊎_elim inl (λ h. inr (after_mark M h m told.0)) (cut_in M told.1 of)

@@ -1,11 +1,10 @@
 -- What notes show is one life: no stop, crash or open stands in it.
-use Rattle.std.proofs.Common.{◌≡◌, ℕ, suc, List, [], ◌∷◌, ◌++◌, refl, ap}
-use Rattle.std.specs.Prelude.{Option, Some, None}
+use Rattle.std.proofs.Common.{◌≡◌, ℕ, suc, List, [], ◌∷◌, ◌++◌, refl, ap, Option, Some, None}
 use Rattle.lz_slot.specs.declared.history.Mark.TheVariants.{Call}
 use Rattle.lz_slot.specs.Histories.{History, Life, lives, with_mark}
 use Rattle.lz_slot.specs.Sets.{Keys}
 use Rattle.lz_machine.specs.declared.event.Reply.{Reply}
-use Rattle.lz_machine.specs.declared.event.Reply.TheVariants.{Yes, No, Full, Worn, OldFile, Halted, Device}
+use Rattle.lz_machine.specs.declared.event.Reply.TheVariants.{Yes}
 use Rattle.lz_machine.specs.Runs.{mark_of, mark_of_turn}
 use Rattle.lz_machine.specs.Yards.{Shape}
 use Rattle.lz_board.specs.declared.view.What.{What}
@@ -21,12 +20,7 @@ module _ (S : Keys) (M : History) (same : lives S M ≡ only_life S M) where
   -- a reply is a mark of the life that goes on
   of_reply : (i : ℕ) (reply : Reply) → lives S (mark_of i reply ∷ M) ≡ only_life S (mark_of i reply ∷ M)
   of_reply i Yes = ap (with_mark (mark_of i Yes)) same
-  of_reply i No = ap (with_mark (mark_of i No)) same
-  of_reply i (Full counts) = ap (with_mark (mark_of i (Full counts))) same
-  of_reply i Worn = ap (with_mark (mark_of i Worn)) same
-  of_reply i OldFile = ap (with_mark (mark_of i OldFile)) same
-  of_reply i Halted = ap (with_mark (mark_of i Halted)) same
-  of_reply i Device = ap (with_mark (mark_of i Device)) same
+  of_reply i x = ap (with_mark (mark_of i x)) same
 
   of_turn : (i : ℕ) (reply : Option Reply) → lives S (mark_of_turn i reply ++ M) ≡ only_life S (mark_of_turn i reply ++ M)
   of_turn i None = same

@@ -1,6 +1,5 @@
 -- A pass's calls in the history that notes show are those of its own steps.
-use Rattle.std.proofs.Common.{◌≡◌, ◌≢◌, ⊎_elim, ℕ, suc, ◌≤◌, Bool, true, false, List, [], ◌∷◌, ◌++◌, map, refl, sym, ap, ◌∙◌, subst, arith, eq-eqb, ne_eqb}
-use Rattle.std.specs.Prelude.{◌==◌, if◌then◌else◌, Option, Some, None}
+use Rattle.std.proofs.Common.{◌≡◌, ◌≢◌, ⊎_elim, ℕ, suc, ◌≤◌, Bool, true, false, List, [], ◌∷◌, ◌++◌, map, refl, sym, ap, ◌∙◌, subst, arith, eq-eqb, ne_eqb, ◌==◌, if◌then◌else◌, Option, Some, None}
 use Rattle.std.proofs.lemmas.Bool.{cases_eq}
 use Rattle.lz_slot.specs.declared.command.Command.{Command}
 use Rattle.lz_slot.specs.declared.format.Format.{Format}
@@ -55,11 +54,7 @@ module _ (i : ℕ) (e : Ending) where
 
   ended_head : (j : ℕ) (calls : List SeenCall) → HeadIs j calls → HeadIs j (ended i e calls)
   ended_head j [] h = tt
-  ended_head j (call ∷ calls) h = go (call.number == i)
-    where
-      go : (b : Bool) → HeadIs j (either b call calls)
-      go true = h
-      go false = h
+  ended_head j (call ∷ calls) h = elim (call.number == i) as (λ (b : Bool). HeadIs j (either b call calls)) [ true ↦ h | false ↦ h ]
 
   -- an ending of another call
   missed : (calls : List SeenCall) → AllNumbers (λ j. j ≢ i) calls → ended i e calls ≡ calls
@@ -101,8 +96,7 @@ number_within p (n ∷ ns) = go n.what (number_within p ns)
 
     go : (what : What) → last_call_number p ns ≤ calls_in ns → number_with p n.by what (calls_in ns) (last_call_number p ns) ≤ calls_with what (calls_in ns)
     go (Called c format) high = of_made high (n.by == p)
-    go (Played e o) high = high
-    go (Found q v) high = high
+    go _ high = high
 
 module _ (shape : Shape) (p : ℕ) where
   abbrev calls_at : List Note → List SeenCall

@@ -1,6 +1,5 @@
 -- The marks of a run are those that its notes show.
-use Rattle.std.proofs.Common.{◌≡◌, ◌≢◌, ⊎_elim, ℕ, zero, suc, ◌≤◌, List, [], ◌∷◌, ◌++◌, length, refl, sym, ap, ◌∙◌, subst, arith, eq-eqb, ne_eqb}
-use Rattle.std.specs.Prelude.{if◌then◌else◌, replicate, Option, Some, None}
+use Rattle.std.proofs.Common.{◌≡◌, ◌≢◌, ⊎_elim, ℕ, zero, suc, ◌≤◌, List, [], ◌∷◌, ◌++◌, length, refl, sym, ap, ◌∙◌, subst, arith, eq-eqb, ne_eqb, if◌then◌else◌, replicate, Option, Some, None}
 use Rattle.std.proofs.lemmas.Bool.{cases_eq}
 use Rattle.std.proofs.lemmas.Option.{same_Some, none-some}
 use Rattle.lz_slot.specs.declared.command.Command.{Command}
@@ -32,8 +31,7 @@ other_number p n ns away = go n.what
   where
     go : (what : What) → number_with p n.by what (calls_in ns) (last_call_number p ns) ≡ last_call_number p ns
     go (Called c format) = ap (λ b. if b then suc (calls_in ns) else last_call_number p ns) (ne_eqb n.by p away)
-    go (Played e o) = refl
-    go (Found q v) = refl
+    go _ = refl
 
 -- the open calls have the numbers that the notes give them
 abbrev HasNumbers : State → List Note → Type 0
@@ -207,11 +205,10 @@ reads_marked start (n ∷ ns) steps runs (new, before, is, tells, rest) =
         }
 
     go : (what : What) → n.what ≡ what → Placed start (run (first_point start) before) ns → Marked start (run (first_point start) before) ns → TellsOf (run (first_point start) before).state n what new → Marked start (run (first_point start) (new ++ before)) (n ∷ ns)
-    go (Called c format) same h m t = one h m t
-    go (Played e o) same h m t = one h m t
     go (Found q v) same h m t =
         subst (λ (l : List Transition). Marked start (run (first_point start) (l ++ before)) (n ∷ ns)) (sym t.2.steps)
         (found_marked start (run (first_point start) (replicate t.2.looks (Looks q) ++ before)) n ns q v same (looks_marked start (first_point start) t.2.looks q before ns m))
+    go _ same h m t = one h m t
 
 -- the marks of the run are those of the notes, and so is the count of its calls
 pub marks_read : (start : Start) (ns : List Note) (steps : List Transition) → IsRun (first_point start) steps → ReadsAs (first_point start) ns steps

@@ -1,6 +1,5 @@
 -- A call that was answered is the newest that its pass's own steps tell, with its reply.
-use Rattle.std.proofs.Common.{◌≡◌, ℕ, List, [], ◌∷◌, ◌++◌, refl, ap, ◌∙◌, append_assoc}
-use Rattle.std.specs.Prelude.{Option, Some, None}
+use Rattle.std.proofs.Common.{◌≡◌, ℕ, List, [], ◌∷◌, ◌++◌, refl, ap, ◌∙◌, append_assoc, Option, Some, None}
 use Rattle.lz_slot.specs.declared.command.Command.{Command}
 use Rattle.lz_slot.specs.declared.format.Format.{Format}
 use Rattle.lz_machine.specs.declared.caller.Progress.{Progress}
@@ -14,7 +13,7 @@ use Rattle.lz_machine.specs.Calls.{progress_after}
 use Rattle.lz_machine.specs.Runs.{reply_at}
 use Rattle.lz_machine.specs.Yards.{Shape}
 use Rattle.lz_board.specs.declared.view.What.{What}
-use Rattle.lz_board.specs.declared.view.What.TheVariants.{Called, Played, Found}
+use Rattle.lz_board.specs.declared.view.What.TheVariants.{Called, Played}
 use Rattle.lz_board.specs.declared.view.Note.{Note}
 use Rattle.lz_board.specs.declared.view.Part.{Part}
 use Rattle.lz_board.specs.Notes.{note_by, unless_replied, place, placed, shape_of_sizes}
@@ -44,11 +43,10 @@ module _ (shape : Shape) (p : ℕ) (format : Format) (c : Command) (rest : List 
       step : (what : What) → IsWithin what → placed shape what (place shape (since within)) ≡ Some call
           → ((was : Command × Progress) → place shape (since within) ≡ Some was → told shape (since within) ≡ (c, None) ∷ told shape rest)
           → told_with what (reply_in (place shape (since within))) (told shape (since within)) ≡ (c, None) ∷ told shape rest
-      step (Called d f) is at before = absurd is
-      step (Found q v) is at before = absurd is
       step (Played e o) is at before =
           let r = unreplied shape e o (place shape (since within)) call at in
           ap (λ x. told_with (Played e o) x (told shape (since within))) r.0 ∙ before r.1.0 r.1.1
+      step _ is at before = absurd is
 
   -- and its Answer gives it its reply
   pub told_call : (reply : Reply) (new : List Note) → IsOneCall shape p format c reply new → told shape (new ++ rest) ≡ (c, Some reply) ∷ told shape rest

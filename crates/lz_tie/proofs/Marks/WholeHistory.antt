@@ -1,11 +1,10 @@
 -- The history that the lock's notes show is that of a run, and each of its calls was made by a pass of the board.
-use Rattle.std.proofs.Common.{◌≡◌, ℕ, ◌≤◌, List, [], ◌∷◌, ◌++◌, length, refl, sym, ap, ◌∙◌, subst}
-use Rattle.std.specs.Prelude.{Option, Some, None}
+use Rattle.std.proofs.Common.{◌≡◌, ◌⊎◌, inl, inr, ⊎_elim, ℕ, ◌≤◌, List, [], ◌∷◌, ◌++◌, length, refl, sym, ap, ◌∙◌, subst, Option, Some, None}
 use Rattle.lz_disk.specs.Devices.{Device}
 use Rattle.lz_disk.specs.Images.{Medium}
 use Rattle.lz_slot.specs.Histories.{History}
 use Rattle.lz_machine.specs.declared.event.Reply.{Reply}
-use Rattle.lz_machine.specs.declared.event.Reply.TheVariants.{Yes, No, Full, Worn, OldFile, Halted, Device as device_failed}
+use Rattle.lz_machine.specs.declared.event.Reply.TheVariants.{Yes}
 use Rattle.lz_machine.specs.Halts.{HaltLasts}
 use Rattle.lz_machine.specs.Marks.{IsTold}
 use Rattle.lz_machine.specs.Runs.{Start, State, Up, Service, Caller, Transition, Calls, Turn, Fails, run, IsRun, MayStep, first_point, caller_at, mark_of, mark_of_turn}
@@ -21,12 +20,17 @@ use Rattle.lz_board.specs.Seats.{BoardId}
 use Rattle.lz_tie.specs.NotedRuns.{TellsTurn, TellsFault, TellsStep, TellsOne, TellsOf, ReadsAs}
 use Rattle.lz_tie.specs.Holds.{IsLocked}
 use Rattle.lz_tie.specs.Marks.{last_call_number, reply_in, marks_with, marks_in, AreOfPasses}
-use Rattle.lz_tie.proofs.Reading.CallPlaces.{Placed, place_reads, run_before}
+use Rattle.lz_tie.proofs.Reading.CallPlaces.{place_reads, run_before}
 use Rattle.lz_tie.proofs.Marks.RunningSet.{locked_reached, locked_sizes}
 
 -- the note is by one of the passes
-abbrev InRange : ℕ → Note → Type 0
+abbrev pub InRange : ℕ → Note → Type 0
 InRange passes n = (1 ≤ n.by) × (n.by ≤ passes)
+
+-- or it is of a pin word that was found
+abbrev pub AreByPasses : ℕ → List Note → Type 0
+AreByPasses passes [] = Unit {0}
+AreByPasses passes (n ∷ ns) = (InRange passes n ⊎ ((q : ℕ) × (v : ℕ) × (n.what ≡ Found q v))) × AreByPasses passes ns
 
 -- a step that a note tells is one of an actor
 module _ (service : Service) (disk : Medium) (n : Note) (count : length service.callers ≡ service.yard.shape.passes) where
@@ -54,37 +58,40 @@ module _ (service : Service) (disk : Medium) (n : Note) (count : length service.
 module _ (passes : ℕ) (M : History) (are : AreOfPasses passes M) where
   reply_of_passes : (i : ℕ) (reply : Reply) → AreOfPasses passes (mark_of i reply ∷ M)
   reply_of_passes i Yes = are
-  reply_of_passes i No = are
-  reply_of_passes i (Full counts) = are
-  reply_of_passes i Worn = are
-  reply_of_passes i OldFile = are
-  reply_of_passes i Halted = are
-  reply_of_passes i device_failed = are
+  reply_of_passes i _ = are
 
   turn_of_passes : (i : ℕ) (reply : Option Reply) → AreOfPasses passes (mark_of_turn i reply ++ M)
   turn_of_passes i None = are
   turn_of_passes i (Some reply) = reply_of_passes i reply
 
-passes_read : (start : Start) (ns : List Note) (steps : List Transition) → IsRun (first_point start) steps → ReadsAs (first_point start) ns steps → AreOfPasses start.shape.passes (marks_in start.shape ns)
-passes_read start [] steps runs reads = tt
-passes_read start (n ∷ ns) steps runs (new, before, is, tells, rest) =
-    let p = first_point start in
-    let past = run_before p new before (subst (IsRun p) is runs) in
-    go n.what (place_reads start ns before past rest) (passes_read start ns before past rest) tells
+pub notes_by_passes : (start : Start) (ns : List Note) (steps : List Transition) → IsRun (first_point start) steps → ReadsAs (first_point start) ns steps → AreByPasses start.shape.passes ns
+notes_by_passes start [] steps runs reads = tt
+notes_by_passes start (n ∷ ns) steps runs (new, before, is, tells, rest) = (go n.what refl tells, notes_by_passes start ns before past rest)
   where
-    made : Placed start (run (first_point start) before) ns → TellsOne (run (first_point start) before).state n new → InRange start.shape.passes n
-    made h t =
+    past : IsRun (first_point start) before
+    past = run_before (first_point start) new before (subst (IsRun (first_point start)) is runs)
+
+    made : TellsOne (run (first_point start) before).state n new → InRange start.shape.passes n
+    made t =
         let p = first_point start in
+        let h = place_reads start ns before past rest in
         let all : IsRun p (t.step ∷ before) = subst (λ (l : List Transition). IsRun p (l ++ before)) t.steps (subst (IsRun p) is runs) in
         let may = subst (λ (w : State). MayStep w t.step) h.state all.0 in
         let told = subst (λ (w : State). TellsStep w n t.step) h.state t.tells in
         subst (λ (s : Shape). InRange s.passes n) h.shape (step_by h.service h.disk n (h.count ∙ ap (λ (s : Shape). s.passes) (sym h.shape)) t.step may told)
 
-    go : (what : What) → Placed start (run (first_point start) before) ns → AreOfPasses start.shape.passes (marks_in start.shape ns) → TellsOf (run (first_point start) before).state n what new
-        → AreOfPasses start.shape.passes (marks_with start.shape n.by what ns ++ marks_in start.shape ns)
-    go (Called c format) h are t = let range = made h t in (range.0, range.1, are)
-    go (Played e o) h are t = turn_of_passes start.shape.passes (marks_in start.shape ns) are (last_call_number n.by ns) (reply_in (place start.shape (steps_of n.by ns)))
-    go (Found q v) h are t = are
+    go : (what : What) → n.what ≡ what → TellsOf (run (first_point start) before).state n what new → InRange start.shape.passes n ⊎ ((q : ℕ) × (v : ℕ) × (n.what ≡ Found q v))
+    go (Found q v) same t = inr (q, v, same)
+    go _ same t = inl (made t)
+
+passes_read : (shape : Shape) (passes : ℕ) (ns : List Note) → AreByPasses passes ns → AreOfPasses passes (marks_in shape ns)
+passes_read shape passes [] are = tt
+passes_read shape passes (n ∷ ns) are = go n.what refl (passes_read shape passes ns are.1)
+  where
+    go : (what : What) → n.what ≡ what → AreOfPasses passes (marks_in shape ns) → AreOfPasses passes (marks_with shape n.by what ns ++ marks_in shape ns)
+    go (Called c format) same rest = ⊎_elim (λ range. (range.0, range.1, rest)) (λ (q, v, found). absurd (let e : Called c format ≡ Found q v = sym same ∙ found in cc)) are.0
+    go (Played e o) same rest = turn_of_passes passes (marks_in shape ns) rest (last_call_number n.by ns) (reply_in (place shape (steps_of n.by ns)))
+    go (Found q v) same rest = rest
 
 module _ (b : BoardId) (ns : List Note) (y : Yard) (dev : Device) (locked : IsLocked b ns y dev) where
   shape_is : locked.tied.start.shape ≡ shape_of_sizes b.sizes
@@ -102,4 +109,4 @@ module _ (b : BoardId) (ns : List Note) (y : Yard) (dev : Device) (locked : IsLo
   pub history_passes : AreOfPasses b.sizes.passes (marks_in (shape_of_sizes b.sizes) ns)
   history_passes =
       let tie = locked.tied in
-      subst (λ (s : Shape). AreOfPasses s.passes (marks_in s ns)) shape_is (passes_read tie.start ns tie.steps tie.runs tie.reads)
+      subst (λ (s : Shape). AreOfPasses s.passes (marks_in s ns)) shape_is (passes_read tie.start.shape tie.start.shape.passes ns (notes_by_passes tie.start ns tie.steps tie.runs tie.reads))

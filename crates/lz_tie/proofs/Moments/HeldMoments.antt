@@ -1,6 +1,5 @@
 -- One hold: what a crash might have left in it is left by the notes before it or by those after it.
-use Rattle.std.proofs.Common.{◌≡◌, ◌⊎◌, ◌≤◌, inl, inr, ⊎_elim, ℕ, List, [], ◌∷◌, ◌++◌, length, refl, sym, ap, ◌∙◌, subst, le_refl}
-use Rattle.std.specs.Prelude.{IsTrue}
+use Rattle.std.proofs.Common.{◌≡◌, ◌⊎◌, ◌≤◌, inl, inr, ⊎_elim, ℕ, List, [], ◌∷◌, ◌++◌, length, refl, sym, ap, ◌∙◌, subst, le_refl, IsTrue}
 use Rattle.lz_disk.specs.Images.{IsImage}
 use Rattle.lz_disk.specs.Devices.{Device, IsTimely}
 use Rattle.lz_disk.proofs.Moments.{leaves_then, leaves_more}

@@ -1,6 +1,5 @@
 -- A reply that was noted stays over each later hold.
-use Rattle.std.proofs.Common.{◌≡◌, ◌≤◌, ⊎_elim, ℕ, List, [], ◌∷◌, ◌++◌, length, refl, sym, ap, ◌∙◌, subst, append_assoc, arith}
-use Rattle.std.specs.Prelude.{IsTrue}
+use Rattle.std.proofs.Common.{◌≡◌, ◌≤◌, ⊎_elim, ℕ, List, [], ◌∷◌, ◌++◌, length, refl, sym, ap, ◌∙◌, subst, append_assoc, arith, IsTrue}
 use Rattle.lz_disk.specs.Devices.{Device, IsTimely}
 use Rattle.lz_disk.specs.Images.{IsImage}
 use Rattle.lz_vault.specs.Vaults.{LeavesEither}
@@ -8,7 +7,7 @@ use Rattle.lz_machine.specs.Yards.{Shape}
 use Rattle.lz_board.specs.declared.view.Load.{Load}
 use Rattle.lz_board.specs.declared.view.Note.{Note}
 use Rattle.lz_board.specs.declared.view.What.{What}
-use Rattle.lz_board.specs.declared.view.What.TheVariants.{Called, Played, Found}
+use Rattle.lz_board.specs.declared.view.What.TheVariants.{Played}
 use Rattle.lz_board.specs.Notes.{as_list, steps_of, insert_load, splice, Quiet, InOrder, place, shape_of_sizes, stamp_of, trace_of}
 use Rattle.lz_board.specs.Seats.{BoardId}
 use Rattle.lz_board.proofs.Upkeep.Splice.{at_place, other_step, quiet_splice, steps_splice, trace_insert}
@@ -21,9 +20,8 @@ use Rattle.lz_tie.proofs.Moments.GrownNotes.{grows_on, grows_then, later_from, s
 
 -- a reply is noted with the moment at which it is made
 pub stamp_now : (w : What) (m : ℕ) → IsReply w → stamp_of w m ≡ m
-stamp_now (Called c format) m reply = absurd reply
 stamp_now (Played e o) m reply = refl
-stamp_now (Found q v) m reply = absurd reply
+stamp_now _ m reply = absurd reply
 
 -- A pass's loads are put among the notes.
 module _ (b : BoardId) (d : Device) (all : List Note) (p : ℕ) where

@@ -1,6 +1,5 @@
 -- The place of a call in a run is that which its pass's own notes give.
-use Rattle.std.proofs.Common.{◌≡◌, ◌≢◌, ⊎_elim, ℕ, zero, suc, ◌≤◌, List, [], ◌∷◌, ◌++◌, length, refl, sym, ap, ◌∙◌, subst, arith}
-use Rattle.std.specs.Prelude.{replicate, Option, Some, None}
+use Rattle.std.proofs.Common.{◌≡◌, ◌≢◌, ⊎_elim, ℕ, zero, suc, ◌≤◌, List, [], ◌∷◌, ◌++◌, length, refl, sym, ap, ◌∙◌, subst, arith, replicate, Option, Some, None}
 use Rattle.std.proofs.lemmas.Bool.{cases_eq}
 use Rattle.std.proofs.lemmas.List.{length-replicate}
 use Rattle.lz_slot.specs.declared.command.Command.{Command}
@@ -19,7 +18,7 @@ use Rattle.lz_machine.specs.Runs.{Start, State, Up, Service, Caller, Transition,
 use Rattle.lz_machine.proofs.Runs.Shape.{line_keeps_shape}
 use Rattle.lz_machine.proofs.Frames.OneActor.{caller_range}
 use Rattle.lz_board.specs.declared.view.What.{What}
-use Rattle.lz_board.specs.declared.view.What.TheVariants.{Called, Played, Found}
+use Rattle.lz_board.specs.declared.view.What.TheVariants.{Played, Found}
 use Rattle.lz_board.specs.declared.view.Note.{Note}
 use Rattle.lz_board.specs.Notes.{steps_of, place, placed, unless_replied}
 use Rattle.lz_board.proofs.Upkeep.Splice.{own_step, other_step}
@@ -178,8 +177,7 @@ place_reads start (n ∷ ns) steps runs (new, before, is, tells, rest) =
         }
 
     go : (what : What) → n.what ≡ what → Placed start (run (first_point start) before) ns → TellsOf (run (first_point start) before).state n what new → Placed start (run (first_point start) (new ++ before)) (n ∷ ns)
-    go (Called c format) same h t = one h t
-    go (Played e o) same h t = one h t
     go (Found q v) same h t =
         subst (λ (l : List Transition). Placed start (run (first_point start) (l ++ before)) (n ∷ ns)) (sym t.2.steps)
         (looks_stand start (first_point start) t.2.looks q before n ns (λ at. ap (λ w. placed start.shape w at) same) h)
+    go _ same h t = one h t

@@ -1,6 +1,5 @@
 -- In a set of one pass nothing is published but for it, and so it has seen the whole trace.
-use Rattle.std.proofs.Common.{◌≡◌, ◌⊎◌, inl, inr, ⊎_elim, ℕ, ◌≤◌, List, [], ◌∷◌, ◌++◌, length, length-append, refl, sym, ap, ◌∙◌, subst, arith, append_assoc}
-use Rattle.std.specs.Prelude.{Option, Some, None}
+use Rattle.std.proofs.Common.{◌≡◌, ◌⊎◌, inl, inr, ⊎_elim, ℕ, ◌≤◌, List, [], ◌∷◌, ◌++◌, length, length-append, refl, sym, ap, ◌∙◌, subst, arith, append_assoc, Option, Some, None}
 use Rattle.lz_disk.specs.Images.{Medium}
 use Rattle.lz_disk.specs.Devices.{Device}
 use Rattle.lz_list.specs.declared.publishing.Publishing.{Publishing}
@@ -19,7 +18,7 @@ use Rattle.lz_machine.proofs.Frames.OneActor.{caller_range}
 use Rattle.lz_machine.proofs.Runs.Shape.{run_keeps_shape}
 use Rattle.lz_board.specs.declared.view.Sizes.{Sizes}
 use Rattle.lz_board.specs.declared.view.What.{What}
-use Rattle.lz_board.specs.declared.view.What.TheVariants.{Called, Played, Found}
+use Rattle.lz_board.specs.declared.view.What.TheVariants.{Found}
 use Rattle.lz_board.specs.declared.view.Note.{Note}
 use Rattle.lz_board.specs.declared.view.Part.{Part}
 use Rattle.lz_board.specs.Notes.{Extends, as_list, trace_of, Quiet}
@@ -87,13 +86,10 @@ passes_read start (n ∷ ns) steps runs (new, before, is, tells, rest) = (one n.
     past = run_before (first_point start) new before (subst (IsRun (first_point start)) is runs)
 
     one : (what : What) → TellsOf (run (first_point start) before).state n what new → IsByPass start.shape.passes n
-    one (Called c format) t =
-        let h = place_reads start ns before past rest in
-        subst (λ (k : ℕ). IsByPass k n) h.count (step_by h.service h.disk n t.step (subst (λ (w : State). TellsStep w n t.step) h.state t.tells))
-    one (Played e o) t =
-        let h = place_reads start ns before past rest in
-        subst (λ (k : ℕ). IsByPass k n) h.count (step_by h.service h.disk n t.step (subst (λ (w : State). TellsStep w n t.step) h.state t.tells))
     one (Found q v) t = inl t.1
+    one _ t =
+        let h = place_reads start ns before past rest in
+        subst (λ (k : ℕ). IsByPass k n) h.count (step_by h.service h.disk n t.step (subst (λ (w : State). TellsStep w n t.step) h.state t.tells))
 
 -- where all steps of the one pass come before the trace is longer than n, it isn't
 one_long : (opened : Trace) (n : ℕ) (ns : List Note) → AreByPasses 1 ns → Quiet opened 1 n ns → length opened ≤ n → length (trace_of opened ns) ≤ n

@@ -1,18 +1,15 @@
 -- The pin words of a run are those that the notes give.
-use Rattle.std.proofs.Common.{◌≡◌, ◌≢◌, ◌⊎◌, inl, inr, ⊎_elim, ℕ, zero, suc, ◌+◌, ◌≤◌, ◌==◌, Bool, true, false, List, [], ◌∷◌, ◌++◌, length, refl, sym, ap, ◌∙◌, subst, arith, eq-eqb, ne_eqb}
-use Rattle.std.specs.Prelude.{replicate, Option, Some, None, if◌then◌else◌, not, ◌||◌}
+use Rattle.std.proofs.Common.{◌≡◌, ◌≢◌, ◌⊎◌, inl, inr, ⊎_elim, ℕ, zero, suc, ◌+◌, ◌≤◌, ◌==◌, Bool, true, false, List, [], ◌∷◌, ◌++◌, length, refl, sym, ap, ◌∙◌, subst, arith, eq-eqb, ne_eqb, replicate, Option, Some, None, if◌then◌else◌, not, ◌||◌}
 use Rattle.std.proofs.lemmas.Bool.{cases_eq, not-true}
 use mathlib.Core.Bool.{false≢true}
 use Rattle.lz_slot.specs.Counted.{of_pass, set_of_pass}
 use Rattle.lz_slot.proofs.Counted.{of_pass_same, of_pass_other, length-set_of_pass}
 use Rattle.lz_disk.specs.Images.{Medium}
 use Rattle.lz_allot.specs.Uses.{is_outside}
-use Rattle.lz_list.specs.declared.place.Place.{Place}
-use Rattle.lz_list.specs.declared.place.Place.TheVariants.{Bucket, Node}
 use Rattle.lz_list.specs.declared.word.Word.TheVariants.{Pin as pin_word}
-use Rattle.lz_list.specs.Words.{Words, get, set, redirect}
+use Rattle.lz_list.specs.Words.{Words, get, set}
 use Rattle.lz_machine.specs.declared.course.Course.{Course}
-use Rattle.lz_machine.specs.declared.course.Course.TheVariants.{Refused, Dies, Plays}
+use Rattle.lz_machine.specs.declared.course.Course.TheVariants.{Refused, Plays}
 use Rattle.lz_machine.specs.declared.actor.Actor.{Actor}
 use Rattle.lz_machine.specs.declared.event.Event.{Event}
 use Rattle.lz_machine.specs.declared.event.Event.TheVariants.{Invoke, Pin, Link, Settle, Unlink, Answer}
@@ -25,8 +22,9 @@ use Rattle.lz_machine.proofs.Runs.Course.{answer_plays}
 use Rattle.lz_machine.proofs.Theorem.Reached.{reached_sound, up_at}
 use Rattle.lz_machine.proofs.Frames.OneActor.{caller_range}
 use Rattle.lz_machine.proofs.Frames.Outside.{out_even, answered_pin, answered_other, outside_even}
+use Rattle.lz_machine.proofs.Steps.Unlink.{redirect_pins}
 use Rattle.lz_board.specs.declared.view.What.{What}
-use Rattle.lz_board.specs.declared.view.What.TheVariants.{Called, Played, Found}
+use Rattle.lz_board.specs.declared.view.What.TheVariants.{Played, Found}
 use Rattle.lz_board.specs.declared.view.Note.{Note}
 use Rattle.lz_board.specs.Notes.{pin_after_played, pin_after_what, pin_after}
 use Rattle.lz_tie.specs.NotedRuns.{TellsTurn, TellsFault, TellsStep, TellsOne, TellsOf, ReadsAs}
@@ -44,10 +42,6 @@ is_counting y a Pin = true
 is_counting y a Answer = not (stays_out (actor_at y a) (pin_of y a))
 is_counting y a e = false
 
-redirect_pins : (w : Words) (place : Place) (next : ℕ) → (redirect w place next).pins ≡ w.pins
-redirect_pins w (Bucket b) next = refl
-redirect_pins w (Node s) next = refl
-
 if_pins : (b : Bool) (x y : Words) (ps : List ℕ) → x.pins ≡ ps → y.pins ≡ ps → (if b then x else y).pins ≡ ps
 if_pins true x y ps one other = one
 if_pins false x y ps one other = other
@@ -62,8 +56,6 @@ words_pins y actor a _ not_one = refl
 
 -- there are as many pin words as before
 pub line_count : (y : Yard) (a : ℕ) (e : Event) (c : Course) → length (line_on c y (actor_at y a) a e).0.words.pins ≡ length y.words.pins
-line_count y a e (Refused o) = refl
-line_count y a e Dies = refl
 line_count y a Pin Plays = length-set_of_pass y.words.pins a (get y.words (pin_word a) + 1)
 line_count y a Answer Plays = go (stays_out (actor_at y a) (pin_of y a))
   where
@@ -71,11 +63,11 @@ line_count y a Answer Plays = go (stays_out (actor_at y a) (pin_of y a))
     go true = refl
     go false = length-set_of_pass y.words.pins a (pin_of y a + 1)
 line_count y a e Plays = ap length (words_pins y (actor_at y a) a e refl)
+line_count y a e _ = refl
 
 pub line_pins : (y : Yard) (a : ℕ) (e : Event) → is_pinning e ≡ false → (c : Course) → (line_on c y (actor_at y a) a e).0.words.pins ≡ y.words.pins
-line_pins y a e not_one (Refused o) = refl
-line_pins y a e not_one Dies = refl
 line_pins y a e not_one Plays = words_pins y (actor_at y a) a e not_one
+line_pins y a e not_one _ = refl
 
 pub fault_pin : (e : Event) (pin : ℕ) → pin_after_played e Fault pin ≡ pin
 fault_pin (Invoke c) pin = refl
@@ -265,8 +257,6 @@ module _ (start : Start) (starts : IsStart start) where
           ∙ step_pins (suc (run p before).calls) service disk n ns t.step count (subst (λ w. TellsStep w n t.step) at t.tells) q now
 
       go : (service : Service) (disk : Medium) → (run p before).state ≡ Up service disk → length service.yard.words.pins ≡ length service.callers → pin_of service.yard q ≡ pin_after q ns → IsRun p (new ++ before) → (what : What) → n.what ≡ what → TellsOf (run p before).state n what new → pin_in_state (run p (new ++ before)).state q ≡ pin_after q (n ∷ ns)
-      go service disk at count now runs (Called c format) same t = one service disk at count now t
-      go service disk at count now runs (Played e o) same t = one service disk at count now t
       go service disk at count now runs (Found r v) same t =
           let l = looks_pins t.2.looks r before service disk (subst (λ l. IsRun p (l ++ before)) t.2.steps runs) at in
           ap (λ l. pin_in_state (run p (l ++ before)).state q) t.2.steps ∙ ap (λ w. pin_in_state w q) l.at
@@ -275,3 +265,4 @@ module _ (start : Start) (starts : IsStart start) where
           (λ (away : r ≢ q). l.others q (λ is. away (sym is)) ∙ now ∙ ap (λ c. if c then v else pin_after q ns) (sym (ne_eqb r q away)))
           (cases_eq r q)
           ∙ ap (λ w. pin_after_what q n.by w (pin_after q ns)) (sym same)
+      go service disk at count now runs _ same t = one service disk at count now t

@@ -1,10 +1,9 @@
 -- What notes tell of the run that they are read as.
-use Rattle.std.proofs.Common.{◌≡◌, ℕ, zero, suc, List, [], ◌∷◌, ◌++◌, refl, sym, ap, ◌∙◌}
-use Rattle.std.specs.Prelude.{replicate, Option, Some, None}
+use Rattle.std.proofs.Common.{◌≡◌, ℕ, zero, suc, List, [], ◌∷◌, ◌++◌, refl, sym, ap, ◌∙◌, replicate, Option, Some, None}
 use Rattle.lz_list.specs.Traces.{Trace}
 use Rattle.lz_machine.specs.Runs.{State, Up, Down, Service, Caller, Transition, Calls, Turn, Fails, Looks, Point, run, caller_at, trace_after, turn_publishes}
 use Rattle.lz_board.specs.declared.view.What.{What}
-use Rattle.lz_board.specs.declared.view.What.TheVariants.{Called, Played, Found}
+use Rattle.lz_board.specs.declared.view.What.TheVariants.{Found}
 use Rattle.lz_board.specs.declared.view.Note.{Note}
 use Rattle.lz_board.specs.Notes.{as_list, trace_of}
 use Rattle.lz_tie.specs.NotedRuns.{TellsTurn, TellsFault, TellsStep, TellsOne, TellsOf, NoteTells, ReadsAs}
@@ -39,9 +38,8 @@ note_trace p n new before t = go n.what t
     one t = ap (λ l. (run p (l ++ before)).trace) t.steps ∙ step_trace (run p before).state (run p before).trace n t.step t.tells
 
     go : (what : What) → TellsOf (run p before).state n what new → (run p (new ++ before)).trace ≡ as_list n.published ++ (run p before).trace
-    go (Called c format) t = one t
-    go (Played e o) t = one t
     go (Found q v) t = ap (λ l. (run p (l ++ before)).trace) t.2.steps ∙ looks_trace p t.2.looks q before ∙ ap (λ x. as_list x ++ (run p before).trace) (sym t.1)
+    go _ t = one t
 
 -- the trace of the run is that of the notes
 pub trace_reads : (p : Point) (ns : List Note) (steps : List Transition) → ReadsAs p ns steps → (run p steps).trace ≡ trace_of p.trace ns

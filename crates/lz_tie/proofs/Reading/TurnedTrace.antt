@@ -1,6 +1,5 @@
 -- The trace at which a pass of a run went in is that before the last change of its pin word in the notes.
-use Rattle.std.proofs.Common.{◌≡◌, ◌≢◌, ◌⊎◌, inl, inr, ⊎_elim, ℕ, zero, suc, ◌+◌, ◌%◌, ◌≤◌, ◌==◌, Bool, true, false, List, [], ◌∷◌, ◌++◌, refl, sym, ap, ◌∙◌, subst, arith, eq-eqb, ne_eqb}
-use Rattle.std.specs.Prelude.{replicate, if◌then◌else◌}
+use Rattle.std.proofs.Common.{◌≡◌, ◌≢◌, ◌⊎◌, inl, inr, ⊎_elim, ℕ, zero, suc, ◌+◌, ◌%◌, ◌≤◌, ◌==◌, Bool, true, false, List, [], ◌∷◌, ◌++◌, refl, sym, ap, ◌∙◌, subst, arith, eq-eqb, ne_eqb, replicate, if◌then◌else◌}
 use Rattle.std.proofs.lemmas.Bool.{cases_eq}
 use Rattle.lz_disk.specs.Images.{Medium}
 use Rattle.lz_list.specs.Traces.{Trace}
@@ -25,11 +24,7 @@ use Rattle.lz_tie.proofs.Reading.PinWords.{still_pin, pin_in_state, looks_pins, 
 played_pin : (e : Event) (o : Outcome) (pin : ℕ) → (pin_after_played e o pin ≡ pin) ⊎ (pin_after_played e o pin ≡ suc pin)
 played_pin Pin Done pin = inr refl
 played_pin Pin o pin = inl refl
-played_pin Answer Done pin = go (pin % 2 == 0)
-  where
-    go : (b : Bool) → ((if b then pin else suc pin) ≡ pin) ⊎ ((if b then pin else suc pin) ≡ suc pin)
-    go true = inl refl
-    go false = inr refl
+played_pin Answer Done pin = elim (pin % 2 == 0) as (λ (b : Bool). ((if b then pin else suc pin) ≡ pin) ⊎ ((if b then pin else suc pin) ≡ suc pin)) [ true ↦ inl refl | false ↦ inr refl ]
 played_pin Answer o pin = inl refl
 played_pin e o pin = inl (still_pin e o pin refl)
 
@@ -153,6 +148,5 @@ module _ (start : Start) (starts : IsStart start) where
               ∙ sym (turned_now q p.trace n ns (λ same. let b = was in absurd (omega (arith, count, same, b))))
 
       go : Earlier → (service : Service) (disk : Medium) → (run p before).state ≡ Up service disk → pin_at (Up service disk) q ≡ pin_after q ns → IsRun p (new ++ before) → pin_at (run p (new ++ before)).state q ≡ pin_after q (n ∷ ns) → (what : What) → n.what ≡ what → TellsOf (run p before).state n what new → Goal
-      go earlier service disk at was runs now (Called c format) same t = one earlier (ap (λ w. pin_at w q) at ∙ was) now (subst IsStep (sym same) tt) t
-      go earlier service disk at was runs now (Played e o) same t = one earlier (ap (λ w. pin_at w q) at ∙ was) now (subst IsStep (sym same) tt) t
       go earlier service disk at was runs now (Found r v) same t = found earlier service disk at was runs r v same t.2
+      go earlier service disk at was runs now _ same t = one earlier (ap (λ w. pin_at w q) at ∙ was) now (subst IsStep (sym same) tt) t

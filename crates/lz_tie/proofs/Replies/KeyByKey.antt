@@ -1,9 +1,8 @@
 -- What is told of keys that nobody else changes is, key by key, what a plain set tells.
-use Rattle.std.proofs.Common.{◌≡◌, inl, inr, ℕ, ◌==◌, if◌then◌else◌, Bool, true, false, List, [], ◌∷◌, ◌++◌, map, refl, sym, ap, ◌∙◌, subst, eq-eqb}
-use mathlib.Core.Bool.{true≢false}
+use Rattle.std.proofs.Common.{◌≡◌, inl, inr, ℕ, ◌==◌, if◌then◌else◌, Bool, true, false, List, [], ◌∷◌, ◌++◌, map, refl, sym, ap, ◌∙◌, subst, eq-eqb, true≢false}
 use Rattle.std.proofs.lemmas.Bool.Decides.{eqb_tells}
 use Rattle.lz_slot.specs.declared.command.Command.{Command}
-use Rattle.lz_slot.specs.declared.command.Command.TheVariants.{Add, Remove, Has}
+use Rattle.lz_slot.specs.declared.command.Command.TheVariants.{Add}
 use Rattle.lz_slot.specs.declared.format.Format.{Format}
 use Rattle.lz_slot.specs.Sets.{Keys, Same, after, key_of, moved, replies, reply, set_after}
 use Rattle.lz_slot.proofs.Sets.{after_at, after_same, moved_other}
@@ -16,7 +15,7 @@ use Rattle.lz_tie.specs.Sessions.{AnsweredCalls, cuts_off, NoneCut}
 use Rattle.lz_tie.proofs.Replies.OneKey.{one_key}
 use Rattle.lz_tie.proofs.Sessions.PlainRows.{after_told}
 
-leaves : (k : ℕ) (since P : Trace) → AreFor (λ q. ⊥) k since → member k (since ++ P) ≡ member k P
+pub leaves : (k : ℕ) (since P : Trace) → AreFor (λ q. ⊥) k since → member k (since ++ P) ≡ member k P
 leaves k [] P none = refl
 leaves k (linked j s q ∷ since) P none = elim (eqb_tells j k) [
   | inl t ↦ absurd (none.0 t.1)
@@ -70,28 +69,26 @@ own_keys F (call ∷ calls) P Q served =
     )
 
 -- a key's row and all other keys are the set's
-whole : (c : Command) (S U : Keys) → U (key_of c) ≡ moved (key_of c) c (S (key_of c)) → SameBut (key_of c) S U → Same U (after c S)
+pub whole : (c : Command) (S U : Keys) → U (key_of c) ≡ moved (key_of c) c (S (key_of c)) → SameBut (key_of c) S U → Same U (after c S)
 whole c S U it others j = elim (eqb_tells j (key_of c)) [
   | inl t ↦ subst (λ (q : ℕ). U q ≡ after c S q) (sym t.1) (it ∙ sym (after_at c S (key_of c)))
   | inr f ↦ others j f.1 ∙ sym (moved_other c j (S j) (λ same. f.1 (sym same))) ∙ sym (after_at c S j)
 ]
 
-unmoved : (k : ℕ) (S U : Keys) → U k ≡ S k → SameBut k S U → Same U S
+pub unmoved : (k : ℕ) (S U : Keys) → U k ≡ S k → SameBut k S U → Same U S
 unmoved k S U it others j = elim (eqb_tells j k) [
   | inl t ↦ subst (λ (q : ℕ). U q ≡ S q) (sym t.1) it
   | inr f ↦ others j f.1
 ]
 
 leaves_set : (c : Command) (told : Reply) (S U : Keys) → cuts_off told ≡ false → KeyRow c told (S (key_of c)) (U (key_of c)) → SameBut (key_of c) S U → Same U (after_told c told S)
-leaves_set c Yes S U kept row others = whole c S U row.1 others
-leaves_set c No S U kept row others = whole c S U row.1 others
 leaves_set (Add k) (Full counts) S U kept row others = unmoved k S U row.1 others
-leaves_set (Remove k) (Full counts) S U kept row others = absurd row
-leaves_set (Has k) (Full counts) S U kept row others = absurd row
 leaves_set c Worn S U kept row others = unmoved (key_of c) S U row others
 leaves_set c OldFile S U kept row others = unmoved (key_of c) S U row others
 leaves_set c Halted S U kept row others = absurd (true≢false kept)
 leaves_set c Device S U kept row others = absurd (true≢false kept)
+leaves_set _ (Full counts) S U kept row others = absurd row
+leaves_set c _ S U kept row others = whole c S U row.1 others
 
 abbrev AreReplies : List (Command × Bool) → Keys → Keys → Type 0
 AreReplies asked S T = (map (λ call. call.1) asked ≡ replies S (map (λ call. call.0) asked)) × Same T (set_after S (map (λ call. call.0) asked))

@@ -1,13 +1,12 @@
 -- The turn of an Answer: it is done, publishes nothing, and leaves the pass outside.
-use Rattle.std.proofs.Common.{◌≡◌, ◌≢◌, ⊎_elim, ℕ, suc, ◌%◌, ◌==◌, if◌then◌else◌, List, [], length, refl, sym, ap, ◌∙◌, subst, arith, eq-eqb}
-use Rattle.std.specs.Prelude.{Option, Some, None}
+use Rattle.std.proofs.Common.{◌≡◌, ◌≢◌, ⊎_elim, ℕ, suc, ◌%◌, ◌==◌, if◌then◌else◌, List, [], length, refl, sym, ap, ◌∙◌, subst, arith, eq-eqb, Option, Some, None}
 use Rattle.std.proofs.lemmas.Bool.Decides.{nat_tests}
 use Rattle.lz_slot.specs.declared.command.Command.{Command}
 use Rattle.lz_vault.specs.Vaults.{NoCall}
 use Rattle.lz_list.specs.declared.publishing.Publishing.{Publishing}
 use Rattle.lz_list.specs.Traces.{Trace}
 use Rattle.lz_machine.specs.declared.course.Course.{Course}
-use Rattle.lz_machine.specs.declared.course.Course.TheVariants.{Refused, Dies, Plays}
+use Rattle.lz_machine.specs.declared.course.Course.TheVariants.{Refused}
 use Rattle.lz_machine.specs.declared.event.Event.TheVariants.{Answer}
 use Rattle.lz_machine.specs.declared.event.Outcome.{Outcome}
 use Rattle.lz_machine.specs.declared.event.Outcome.TheVariants.{Done, NotNow, Fault}
@@ -26,8 +25,9 @@ use Rattle.lz_machine.proofs.Theorem.Timeliness.{never_late}
 use Rattle.lz_board.specs.declared.view.What.TheVariants.{Played}
 use Rattle.lz_board.specs.declared.view.Note.{Note}
 use Rattle.lz_board.specs.declared.view.Part.{Part}
-use Rattle.lz_board.specs.Notes.{as_list, trace_of, pin_after_what, pin_after_played}
+use Rattle.lz_board.specs.Notes.{trace_of, pin_after_what, pin_after_played}
 use Rattle.lz_tie.specs.Holds.{Turned}
+use Rattle.lz_tie.proofs.Hold.NoteCondition.{listed_none}
 
 done_in_time : (y : Yard) (a : ℕ) → (line y a Answer).1 ≢ NotNow → (line y a Answer).1 ≡ Done
 done_in_time y a now = ⊎_elim
@@ -37,17 +37,11 @@ done_in_time y a now = ⊎_elim
 
 publishes_nothing : (y : Yard) (a : ℕ) (c : Course) → published_on c y (actor_at y a) a Answer ≡ []
 publishes_nothing y a (Refused o) = refl
-publishes_nothing y a Dies = refl
-publishes_nothing y a Plays = refl
+publishes_nothing y a _ = refl
 
 makes_no_call : (y : Yard) (a : ℕ) (c : Course) → call_on c y (actor_at y a) Answer ≡ NoCall
 makes_no_call y a (Refused o) = refl
-makes_no_call y a Dies = refl
-makes_no_call y a Plays = refl
-
-nothing_listed : (x : Option Publishing) → as_list x ≡ [] → x ≡ None
-nothing_listed None is = refl
-nothing_listed (Some e) is = absurd cc
+makes_no_call y a _ = refl
 
 -- the pin word after an Answer: it stays where the pass is outside, and is counted up where it is inside
 pub answer_pin : (p pin : ℕ) → pin_after_what p p (Played Answer Done) pin ≡ (if pin % 2 == 0 then pin else suc pin)
@@ -70,7 +64,7 @@ module _ (opened : Trace) (ns : List Note) (h : Part) (c : Command) (reply : Rep
   answer_done = (turned.done no_fault).0 ∙ done_in_time turned.service.yard h.number in_time
 
   pub answer_silent : x ≡ None
-  answer_silent = nothing_listed x ((turned.done no_fault).1 ∙ publishes_nothing turned.service.yard h.number (course turned.service.yard h.number Answer))
+  answer_silent = listed_none x ((turned.done no_fault).1 ∙ publishes_nothing turned.service.yard h.number (course turned.service.yard h.number Answer))
 
   -- a call is told that its pass is worn at the last pin
   pub worn_pin : reply ≡ Worn → h.pin ≡ last_pin

@@ -1,6 +1,5 @@
 -- Where all calls that name a key were made one after the other, nobody else changed it meanwhile.
-use Rattle.std.proofs.Common.{◌≡◌, inl, inr, ℕ, ◌==◌, if◌then◌else◌, Bool, true, false, List, [], ◌∷◌, filter, refl, sym, ap, subst}
-use Rattle.std.proofs.lemmas.Bool.{eqb-true}
+use Rattle.std.proofs.Common.{◌≡◌, inl, inr, ℕ, ◌==◌, if◌then◌else◌, Bool, true, false, List, [], ◌∷◌, filter, refl, sym, ap, subst, eqb-true}
 use Rattle.std.proofs.lemmas.Bool.Decides.{eqb_tells}
 use Rattle.lz_slot.specs.declared.command.Command.{Command}
 use Rattle.lz_slot.specs.declared.command.Command.TheVariants.{Add, Remove, Has}
@@ -42,13 +41,12 @@ none_since : (p k : ℕ) (P Q : Trace) → Since p Q P → ChangedFor (λ q. ¬ 
 none_since p k P Q h = record { since = h.0; goes_on = h.1; all = not_own p k h.0 (subst (AreFor (λ q. ⊥) k) (sym h.2) tt) }
 
 -- a call changes no key but its own
-no_other_key : (p : ℕ) (c : Command) (own : Trace) (k : ℕ) → (key_of c ≡ k → ⊥) → MayHaveChanged p c own → AreFor (λ q. ⊥) k own
+pub no_other_key : (p : ℕ) (c : Command) (own : Trace) (k : ℕ) → (key_of c ≡ k → ⊥) → MayHaveChanged p c own → AreFor (λ q. ⊥) k own
 no_other_key p (Has j) own k other none = subst (AreFor (λ q. ⊥) k) (sym none) tt
-no_other_key p (Add j) own k other (inl none) = subst (AreFor (λ q. ⊥) k) (sym none) tt
 no_other_key p (Add j) own k other (inr (s, is)) = subst (AreFor (λ q. ⊥) k) (sym is) (other, tt)
-no_other_key p (Remove j) own k other (inl none) = subst (AreFor (λ q. ⊥) k) (sym none) tt
 no_other_key p (Remove j) own k other (inr (s, inl is)) = subst (AreFor (λ q. ⊥) k) (sym is) (other, tt)
 no_other_key p (Remove j) own k other (inr (s, inr is)) = subst (AreFor (λ q. ⊥) k) (sym is) (other, tt)
+no_other_key p _ own k other (inl none) = subst (AreFor (λ q. ⊥) k) (sym none) tt
 
 abbrev WasAnswered : Format → MadeCall → Type 0
 WasAnswered F m = Answers F m.command m.reply m.before m.after

@@ -1,7 +1,6 @@
 -- An answer tells of an old file exactly where the file can't hold the key of an adding.
-use Rattle.std.proofs.Common.{◌≡◌, ◌⊎◌, ⊎_elim, inl, inr, ℕ, if◌then◌else◌, Bool, true, false, List, [], ◌∷◌, ◌++◌, sym, ap, ◌∙◌}
+use Rattle.std.proofs.Common.{◌≡◌, ◌⊎◌, ⊎_elim, inl, inr, ℕ, if◌then◌else◌, Bool, true, false, List, [], ◌∷◌, ◌++◌, sym, ap, ◌∙◌, Option, Some, None}
 use mathlib.Core.Bool.{false≢true}
-use Rattle.std.specs.Prelude.{Option, Some, None}
 use Rattle.std.specs.Cmp.{both_ways}
 use Rattle.std.proofs.lemmas.Option.{none-some}
 use Rattle.lz_slot.specs.declared.command.Command.{Command}
@@ -16,7 +15,7 @@ use Rattle.lz_machine.specs.Calls.{first_progress}
 use Rattle.lz_machine.specs.Table.{is_old}
 use Rattle.lz_machine.specs.Yards.{Shape}
 use Rattle.lz_board.specs.declared.view.What.{What}
-use Rattle.lz_board.specs.declared.view.What.TheVariants.{Called, Played, Found}
+use Rattle.lz_board.specs.declared.view.What.TheVariants.{Called, Played}
 use Rattle.lz_board.specs.declared.view.Note.{Note}
 use Rattle.lz_board.specs.declared.view.Part.{Part}
 use Rattle.lz_board.specs.Notes.{note_by, place, placed, shape_of_sizes}
@@ -37,10 +36,9 @@ module _ (shape : Shape) (p : ℕ) (F : Format) (c : Command) where
   IsToldAt at = (at ≡ Some (c, Answering OldFile)) ⊎ (at ≡ None)
 
   told_later : (w : What) (at : Option (Command × Progress)) → IsWithin w → IsToldAt at → IsToldAt (placed shape w at)
-  told_later (Called d format) at within h = absurd within
-  told_later (Found q v) at within h = absurd within
   told_later (Played e o) at within (inl is) = inr (ap (placed shape (Played e o)) is)
   told_later (Played e o) at within (inr is) = inr (ap (placed shape (Played e o)) is)
+  told_later _ at within h = absurd within
 
   told_at : (within : List Note) → AreWithin within → is_old F c ≡ true → IsToldAt (place shape (within ++ called ∷ []))
   told_at [] are old = inl (ap (λ (b : Bool). Some (c, if b then Answering OldFile else first_progress)) old)

@@ -151,7 +151,6 @@ module _ (shape : Shape) (p : ℕ) (F : Format) (pin : ℕ) (new : List Note) (P
   row : (c : Command) (told : Reply) → OnlyOwnOf p (key_of c) P Q → Promises shape p F c told pin new P Q → KeyRow c told (member (key_of c) P) (member (key_of c) Q)
   row (Has k) Yes only h = (rested_yes p k P Q only h.0 h.1, unchanged p k P Q only h.1)
   row (Has k) No only h = (rested_no p k P Q only h.0 h.1, unchanged p k P Q only h.1)
-  row (Has k) (Full counts) only h = absurd h
   row (Add k) Yes only h = (ap not (added_to p k P Q only shape.buckets shape.slots law h), changed_of p k P Q (linked k h.slot p ∷ []) only h.changes)
   row (Add k) No only h =
       let has = rested_yes p k P Q only h.0 h.1 in
@@ -161,19 +160,15 @@ module _ (shape : Shape) (p : ℕ) (F : Format) (pin : ℕ) (new : List Note) (P
   row (Remove k) No only h =
       let lacks = rested_no p k P Q only h.0 h.1 in
       (lacks, unchanged p k P Q only h.1 ∙ removed_already (k == k) (member k P) lacks)
-  row (Remove k) (Full counts) only h = absurd h
   row (Has k) Worn only h = unchanged p k P Q only h.1
   row (Add k) Worn only h = unchanged p k P Q only h.1
   row (Remove k) Worn only h = unchanged p k P Q only h.1
   row (Has k) OldFile only h = unchanged p k P Q only h.1
   row (Add k) OldFile only h = unchanged p k P Q only h.1
   row (Remove k) OldFile only h = unchanged p k P Q only h.1
-  row (Has k) Halted only h = cut p P Q (Has k) only h
-  row (Add k) Halted only h = cut p P Q (Add k) only h
-  row (Remove k) Halted only h = cut p P Q (Remove k) only h
-  row (Has k) Device only h = cut p P Q (Has k) only h
-  row (Add k) Device only h = cut p P Q (Add k) only h
-  row (Remove k) Device only h = cut p P Q (Remove k) only h
+  row c Halted only h = cut p P Q c only h
+  row c Device only h = cut p P Q c only h
+  row _ (Full counts) only h = absurd h
 
 pub one_key : OneKeyIsPlain
 one_key F c told before after answers only = record {

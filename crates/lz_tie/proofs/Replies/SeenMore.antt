@@ -6,7 +6,7 @@ use Rattle.lz_slot.specs.declared.format.Format.{Format}
 use Rattle.lz_list.specs.declared.publishing.Publishing.TheVariants.{Linked as linked, Marked as marked, Unlinked as unlinked}
 use Rattle.lz_list.specs.Traces.{Trace}
 use Rattle.lz_machine.specs.declared.event.Reply.{Reply}
-use Rattle.lz_machine.specs.declared.event.Reply.TheVariants.{Yes, No, Full, Worn, OldFile, Halted, Device}
+use Rattle.lz_machine.specs.declared.event.Reply.TheVariants.{Yes, Full, Halted, Device}
 use Rattle.lz_machine.specs.Yards.{Shape}
 use Rattle.lz_board.specs.declared.view.Note.{Note}
 use Rattle.lz_board.specs.declared.view.Part.{Part}
@@ -26,18 +26,14 @@ none p c made = record { own = []; changes = made; may = none_cut p c [] refl }
 
 promised : (shape : Shape) (p : ℕ) (F : Format) (c : Command) (r : Reply) (pin : ℕ) (new : List Note) (P Q : Trace) → Promises shape p F c r pin new P Q → OwnOf p c P Q
 promised shape p F (Has k) Yes pin new P Q h = none p (Has k) h.1
-promised shape p F (Has k) No pin new P Q h = none p (Has k) h.1
 promised shape p F (Add k) Yes pin new P Q h = record { own = linked k h.slot p ∷ []; changes = h.changes; may = inr (h.slot, refl) }
-promised shape p F (Add k) No pin new P Q h = none p (Add k) h.1
 promised shape p F (Remove k) Yes pin new P Q h = record { own = unlinked k h.slot p ∷ marked k h.slot p ∷ []; changes = h.changes; may = inr (h.slot, inr refl) }
-promised shape p F (Remove k) No pin new P Q h = none p (Remove k) h.1
 promised shape p F (Add k) (Full counts) pin new P Q h = none p (Add k) h.changes
 promised shape p F (Remove k) (Full counts) pin new P Q h = absurd h
 promised shape p F (Has k) (Full counts) pin new P Q h = absurd h
-promised shape p F c Worn pin new P Q h = none p c h.1
-promised shape p F c OldFile pin new P Q h = none p c h.1
 promised shape p F c Halted pin new P Q h = record { own = h.own; changes = h.changes; may = h.may }
 promised shape p F c Device pin new P Q h = record { own = h.own; changes = h.changes; may = h.may }
+promised shape p F c _ pin new P Q h = none p c h.1
 
 pub own_of_call : (F : Format) (c : Command) (reply : Reply) (before after : Part) → Answers F c reply before after → OwnOf before.number c before.known after.known
 own_of_call F c reply before after answers = promised _ _ F c reply _ _ before.known after.known answers.promises

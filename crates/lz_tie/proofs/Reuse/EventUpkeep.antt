@@ -1,7 +1,6 @@
 -- What the notes show of slots and hands stays right through each event.
-use Rattle.std.proofs.Common.{◌≡◌, ◌≢◌, ◌⊎◌, inl, inr, ⊎_elim, ℕ, zero, suc, ◌≤◌, Bool, true, false, List, [], ◌∷◌, ◌++◌, refl, sym, ap, ◌∙◌, subst}
+use Rattle.std.proofs.Common.{◌≡◌, ◌≢◌, ◌⊎◌, inl, inr, ⊎_elim, ℕ, zero, suc, ◌≤◌, Bool, true, false, List, [], ◌∷◌, ◌++◌, refl, sym, ap, ◌∙◌, subst, if◌then◌else◌, replicate, slice_set, slice_index_or, Option, Some, None, is_some}
 use mathlib.Core.Bool.{false≢true}
-use Rattle.std.specs.Prelude.{if◌then◌else◌, replicate, slice_set, slice_index_or, Option, Some, None, is_some}
 use Rattle.std.proofs.lemmas.List.Quantifiers.{position-Some}
 use Rattle.lz_slot.specs.Counted.{of_pass, set_of_pass}
 use Rattle.lz_allot.specs.declared.sight.Sight.{Sight}
@@ -11,12 +10,10 @@ use Rattle.lz_list.specs.Locks.{check, is_pair_free}
 use Rattle.lz_list.specs.Traces.{Trace, IsLoose}
 use Rattle.lz_machine.specs.declared.actor.Actor.{Actor}
 use Rattle.lz_machine.specs.declared.actor.Hold.TheVariants.{Nothing, Locks, Checked, GateOpened, Linked, GateClosed, Marked, Unlinked}
-use Rattle.lz_machine.specs.declared.course.Course.{Course}
-use Rattle.lz_machine.specs.declared.course.Course.TheVariants.{Refused, Dies, Plays}
 use Rattle.lz_machine.specs.declared.event.Event.{Event}
-use Rattle.lz_machine.specs.declared.event.Event.TheVariants.{Invoke, Pin, Hop, Reserve, WriteKey, Claim, Check, WriteOpen, Link, WriteClose, Mark, Release, Sync, Settle, Unlink, Retire, SeePin, Answer, Halt}
+use Rattle.lz_machine.specs.declared.event.Event.TheVariants.{Invoke, Reserve, Claim, Check, WriteOpen, Link, WriteClose, Mark, Release, Unlink, Retire, SeePin, Answer}
 use Rattle.lz_machine.specs.Yards.{Yard, actor_at, cell_at, idle_actor}
-use Rattle.lz_machine.specs.Table.{course, line_publishes, published_on, publishes, uses_after, actors_after, given_back, kept_slot, is_unused, is_old, node_of, set_actor, with_hold, with_slot, released, reserved, pin_of, pin_answered}
+use Rattle.lz_machine.specs.Table.{line_publishes, publishes, uses_after, actors_after, given_back, kept_slot, is_unused, is_old, node_of, set_actor, with_hold, with_slot, released, reserved, pin_of, pin_answered}
 use Rattle.lz_machine.proofs.Frames.Uses.{use_map}
 use Rattle.lz_board.specs.declared.view.Sizes.{Sizes}
 use Rattle.lz_board.specs.declared.view.Note.{Note}
@@ -26,6 +23,7 @@ use Rattle.lz_board.specs.Noting.{Sighting, AllLeft}
 use Rattle.lz_board.proofs.Upkeep.Splice.{trace_splice}
 use Rattle.lz_tie.specs.Reuse.{UseTold, ReuseTold}
 use Rattle.lz_tie.proofs.Reuse.SightUpkeep.{silent_stays, loose_stays, all_left_more, use_more}
+use Rattle.lz_tie.proofs.Hold.OneWord.{line_silent}
 use Rattle.lz_tie.proofs.Reuse.UseUpkeep.{set_use, collect_told, retire_told, see_told}
 
 -- events that change what slots are used for
@@ -38,7 +36,7 @@ is_reusing e = false
 
 -- they publish nothing
 pub reusing_silent : (y : Yard) (a : ℕ) (e : Event) → is_reusing e ≡ true → line_publishes y a e ≡ []
-reusing_silent y a e is = on (course y a e)
+reusing_silent y a e is = line_silent y a e (none e is)
   where
     none : (e : Event) → is_reusing e ≡ true → publishes y (actor_at y a) a e ≡ []
     none Reserve is = refl
@@ -46,11 +44,6 @@ reusing_silent y a e is = on (course y a e)
     none (SeePin q v) is = refl
     none Answer is = refl
     none e is = absurd (false≢true is)
-
-    on : (c : Course) → published_on c y (actor_at y a) a e ≡ []
-    on (Refused o) = refl
-    on Dies = refl
-    on Plays = none e is
 
 -- and no other event changes a use
 pub leaves : (y : Yard) (a : ℕ) (e : Event) → is_reusing e ≡ false → uses_after y (actor_at y a) a e ≡ y.uses
@@ -114,13 +107,7 @@ module _ (y : Yard) (a : ℕ) where
   hands_after Unlink other b s is = set_slot y.actors a (with_hold (actor_at y a) Unlinked) (λ t held. held) b s is
   hands_after Retire other b s is = set_slot y.actors a (with_hold (actor_at y a) Nothing) (λ t held. held) b s is
   hands_after Answer other b s is = set_slot y.actors a (with_slot (actor_at y a) (kept_slot y (actor_at y a).slot)) (λ t held. kept (actor_at y a).slot t held) b s is
-  hands_after Pin other b s is = is
-  hands_after (Hop w) other b s is = is
-  hands_after (WriteKey k) other b s is = is
-  hands_after (Sync t) other b s is = is
-  hands_after (Settle t) other b s is = is
-  hands_after (SeePin q v) other b s is = is
-  hands_after Halt other b s is = is
+  hands_after _ other b s is = is
 
 -- what holds of a taken slot is nothing
 not_taken : (u : Use) → u ≡ Free → u ≢ Taken
@@ -189,8 +176,7 @@ module _ (z : Sizes) (opened : Trace) (a : ℕ) (hs : List Load) (ns : List Note
 
         as_free : (s : ℕ) (u : Use) → is_free u ≡ true → UseTold z opened now s u → AllLeft z opened now s
         as_free s Free is told = told
-        as_free s Taken is told = absurd (false≢true is)
-        as_free s (Limbo sights) is told = absurd (false≢true is)
+        as_free s _ is told = absurd (false≢true is)
 
         free : (s : ℕ) → lowest_free (collect y.uses) ≡ Some s → AllLeft z opened now s
         free s found = as_free s (use_of (collect y.uses) s) (position-Some is_free (collect y.uses) s Taken found).1 (collected s)

@@ -1,6 +1,5 @@
 -- What the notes show of pin words stays shown, and a slot that passes have left stays left while it stands on no chain.
-use Rattle.std.proofs.Common.{◌≡◌, inl, inr, ⊎_elim, ℕ, ◌%◌, ◌≤◌, true, List, [], ◌∷◌, ◌++◌, length, refl, sym, ap, ◌∙◌, subst, true≢false}
-use Rattle.std.specs.Prelude.{Option, Some, None}
+use Rattle.std.proofs.Common.{◌≡◌, inl, inr, ⊎_elim, ℕ, ◌%◌, ◌≤◌, true, List, [], ◌∷◌, ◌++◌, length, refl, sym, ap, ◌∙◌, subst, true≢false, Option, Some, None}
 use Rattle.lz_slot.specs.Counted.{of_pass}
 use Rattle.lz_allot.specs.Uses.{Use, Free, Taken, Limbo}
 use Rattle.lz_allot.specs.declared.sight.Sight.{Sight}

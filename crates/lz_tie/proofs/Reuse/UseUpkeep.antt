@@ -1,7 +1,6 @@
 -- What the notes show of slots stays right as the uses of the slots change.
-use Rattle.std.proofs.Common.{◌≡◌, ◌≢◌, ◌⊎◌, inl, inr, ⊎_elim, ℕ, zero, suc, ◌%◌, ◌≤◌, ◌==◌, Bool, true, false, List, [], ◌∷◌, ◌++◌, length, refl, sym, ap, ◌∙◌, subst, arith, le_refl, length-append, true≢false, eq-eqb}
+use Rattle.std.proofs.Common.{◌≡◌, ◌≢◌, ◌⊎◌, inl, inr, ⊎_elim, ℕ, zero, suc, ◌%◌, ◌≤◌, ◌==◌, Bool, true, false, List, [], ◌∷◌, ◌++◌, length, refl, sym, ap, ◌∙◌, subst, arith, le_refl, length-append, true≢false, eq-eqb, if◌then◌else◌, replicate, slice_set}
 use mathlib.Core.Bool.{false≢true}
-use Rattle.std.specs.Prelude.{if◌then◌else◌, replicate, slice_set}
 use Rattle.std.specs.List.{list_all}
 use Rattle.std.proofs.lemmas.Bool.{cases_eq}
 use Rattle.std.proofs.lemmas.Bool.Decides.{eqb_tells}
@@ -10,7 +9,7 @@ use Rattle.lz_slot.specs.Counted.{of_pass, set_of_pass}
 use Rattle.lz_slot.proofs.Counted.{of_pass_same, of_pass_other, length-set_of_pass}
 use Rattle.lz_allot.specs.declared.sight.Sight.{Sight}
 use Rattle.lz_allot.specs.declared.sight.Sight.TheVariants.{Unseen, Inside, Left}
-use Rattle.lz_allot.specs.Uses.{Use, Free, Taken, Limbo, use_of, has_left, collect_at, see_pin_at, sight_after, is_outside}
+use Rattle.lz_allot.specs.Uses.{Use, Free, Limbo, use_of, has_left, collect_at, see_pin_at, sight_after, is_outside}
 use Rattle.lz_list.specs.Traces.{Trace, IsLoose}
 use Rattle.lz_machine.specs.Limbo.{IsAway}
 use Rattle.lz_machine.proofs.Frames.Limbo.{away_new}
@@ -44,13 +43,12 @@ shorter_rest opened (m ∷ more) rest = let l = length-append (as_list m.publish
 module _ (z : Sizes) (opened : Trace) (ms : List Note) (s : ℕ) where
   -- a slot in limbo that every pass has left is free
   pub collect_told : (u : Use) → UseTold z opened ms s u → UseTold z opened ms s (collect_at u)
-  collect_told Free told = told
-  collect_told Taken told = told
   collect_told (Limbo sights) told = go (list_all has_left sights) refl
     where
       go : (b : Bool) → list_all has_left sights ≡ b → UseTold z opened ms s (if b then Free else Limbo sights)
       go true all = inr (λ q one most. subst (SightTold z opened ms q s) (left_of sights q all) (told.1 q one most))
       go false some = told
+  collect_told _ told = told
 
   -- a slot that goes to limbo now
   pub retire_told : (n : ℕ) → n ≡ z.passes → UseTold z opened ms s (Limbo (replicate n Unseen))
@@ -87,8 +85,6 @@ module _ (z : Sizes) (opened : Trace) (ms : List Note) (s : ℕ) where
     sight_told loose Left told = told
 
     pub see_told : (u : Use) → ((sights : List Sight) → u ≡ Limbo sights → IsLoose z.buckets s (trace_of opened ms)) → UseTold z opened ms s u → UseTold z opened ms s (see_pin_at p v u)
-    see_told Free loose told = told
-    see_told Taken loose told = told
     see_told (Limbo sights) loose told = let count = told.0 in (
       length-set_of_pass sights p (sight_after v (of_pass sights p Left)) ∙ told.0,
       λ q one most. ⊎_elim
@@ -97,3 +93,4 @@ module _ (z : Sizes) (opened : Trace) (ms : List Note) (s : ℕ) where
           (λ (away : q ≢ p). subst (SightTold z opened ms q s) (sym (of_pass_other sights p q (sight_after v (of_pass sights p Left)) Left away)) (told.1 q one most))
           (cases_eq q p),
     )
+    see_told _ loose told = told

@@ -25,40 +25,28 @@ pub row_leaves : (N : ℕ) (c : Command) (told : Reply) (S T : Keys) → cuts_of
 row_leaves N (Add k) Yes S T whole row = row.2
 row_leaves N (Remove k) Yes S T whole row = row.1
 row_leaves N (Has k) Yes S T whole row = row.1
-row_leaves N (Add k) No S T whole row = row.1
-row_leaves N (Remove k) No S T whole row = row.1
-row_leaves N (Has k) No S T whole row = row.1
 row_leaves N (Add k) (Full counts) S T whole row = row.2
 row_leaves N (Remove k) (Full counts) S T whole row = absurd row
 row_leaves N (Has k) (Full counts) S T whole row = absurd row
-row_leaves N (Add k) Worn S T whole row = row
-row_leaves N (Remove k) Worn S T whole row = row
-row_leaves N (Has k) Worn S T whole row = row
-row_leaves N (Add k) OldFile S T whole row = row
-row_leaves N (Remove k) OldFile S T whole row = row
-row_leaves N (Has k) OldFile S T whole row = row
 row_leaves N c Halted S T whole row = absurd (true≢false whole)
 row_leaves N c Device S T whole row = absurd (true≢false whole)
+row_leaves N _ No S T whole row = row.1
+row_leaves N _ Worn S T whole row = row
+row_leaves N _ OldFile S T whole row = row
 
 -- and so does any set with the same keys
 pub row_same : (N : ℕ) (c : Command) (told : Reply) (S T U : Keys) → cuts_off told ≡ false → PlainRow N c told S T → Same U (after_told c told S) → PlainRow N c told S U
 row_same N (Add k) Yes S T U whole row same = (row.0, row.1, same)
 row_same N (Remove k) Yes S T U whole row same = (row.0, same)
 row_same N (Has k) Yes S T U whole row same = (row.0, same)
-row_same N (Add k) No S T U whole row same = (row.0, same)
-row_same N (Remove k) No S T U whole row same = (row.0, same)
-row_same N (Has k) No S T U whole row same = (row.0, same)
 row_same N (Add k) (Full counts) S T U whole row same = (row.0, row.1, same)
 row_same N (Remove k) (Full counts) S T U whole row same = absurd row
 row_same N (Has k) (Full counts) S T U whole row same = absurd row
-row_same N (Add k) Worn S T U whole row same = same
-row_same N (Remove k) Worn S T U whole row same = same
-row_same N (Has k) Worn S T U whole row same = same
-row_same N (Add k) OldFile S T U whole row same = same
-row_same N (Remove k) OldFile S T U whole row same = same
-row_same N (Has k) OldFile S T U whole row same = same
 row_same N c Halted S T U whole row same = absurd (true≢false whole)
 row_same N c Device S T U whole row same = absurd (true≢false whole)
+row_same N _ No S T U whole row same = (row.0, same)
+row_same N _ Worn S T U whole row same = same
+row_same N _ OldFile S T U whole row same = same
 
 -- one that was cut off leaves the set with it or without it
 pub row_cut : (N : ℕ) (c : Command) (told : Reply) (S T : Keys) → cuts_off told ≡ true → Same T S ⊎ Same T (after c S) → PlainRow N c told S T
@@ -99,10 +87,6 @@ module _ (S0 : Keys) (n p : ℕ) (c : Command) (M : History) (S : Keys) (past : 
 
 -- no cut comes with a reply that isn't one
 pub no_cut : (n p : ℕ) (c : Command) (told : Reply) (M : History) → cuts_off told ≡ false → has_cut M ≡ false → has_cut (mark_of n told ∷ Call n p c ∷ M) ≡ false
-no_cut n p c Yes M whole clean = clean
-no_cut n p c No M whole clean = clean
-no_cut n p c (Full counts) M whole clean = clean
-no_cut n p c Worn M whole clean = clean
-no_cut n p c OldFile M whole clean = clean
 no_cut n p c Halted M whole clean = absurd (true≢false whole)
 no_cut n p c Device M whole clean = absurd (true≢false whole)
+no_cut n p c _ M whole clean = clean

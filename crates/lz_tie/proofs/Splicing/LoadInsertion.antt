@@ -1,9 +1,9 @@
 -- A pass's load may be put into the notes: they are read as a run then too, by the law that walks move.
-use Rattle.std.proofs.Common.{◌≡◌, ◌≢◌, ◌⊎◌, inl, inr, ⊎_elim, ℕ, zero, suc, ◌+◌, ◌<◌, ◌≤◌, Bool, true, false, ◌||◌, List, [], ◌∷◌, ◌++◌, length, refl, sym, ap, ◌∙◌, subst, arith, append_assoc, length-append, ne_eqb}
+use Rattle.std.proofs.Common.{◌≡◌, ◌≢◌, ◌⊎◌, inl, inr, ⊎_elim, ℕ, zero, suc, ◌+◌, ◌<◌, ◌≤◌, Bool, true, false, ◌||◌, List, [], ◌∷◌, ◌++◌, length, refl, sym, ap, ◌∙◌, subst, arith, append_assoc, length-append, ne_eqb, replicate, Option, Some, None, IsSome, IsNone}
 use mathlib.Core.Bool.{false≢true}
-use Rattle.std.specs.Prelude.{replicate, Option, Some, None, IsSome, IsNone}
 use Rattle.std.specs.List.{list_any}
 use Rattle.std.proofs.lemmas.Bool.{cases_Bool, cases_eq}
+use Rattle.std.proofs.lemmas.List.Folds.{list_any-append}
 use Rattle.lz_disk.specs.Images.{Medium}
 use Rattle.lz_allot.specs.Uses.{is_outside}
 use Rattle.lz_list.specs.declared.word.Word.{Word}
@@ -66,12 +66,7 @@ shorter (Some z) t seen ([], e) lt = let n = ap length e in absurd (omega arith)
 shorter (Some z) t seen (y ∷ ys, e) lt = (ys, ap (tail_or t) e)
 
 any_append : (f : Transition → Bool) (xs ys : List Transition) → list_any f xs ≡ false → list_any f ys ≡ false → list_any f (xs ++ ys) ≡ false
-any_append f [] ys none rest = rest
-any_append f (x ∷ xs) ys none rest = go (λ n. any_append f xs ys n rest) (f x) refl
-  where
-    go : (list_any f xs ≡ false → list_any f (xs ++ ys) ≡ false) → (b : Bool) → f x ≡ b → list_any f (x ∷ (xs ++ ys)) ≡ false
-    go next true e = absurd (false≢true (sym none ∙ ap (λ b. b || list_any f xs) e))
-    go next false e = ap (λ b. b || list_any f (xs ++ ys)) e ∙ next (sym (ap (λ b. b || list_any f xs) e) ∙ none)
+any_append f xs ys none rest = list_any-append f xs ys ∙ ap (λ b. b || list_any f ys) none ∙ rest
 
 -- what a note tells of one state it tells of another that differs in another actor's call
 same_turn : (a : ℕ) (one other : Service) (b : ℕ) (n : Note) (q q' : Option Caller) → one.yard ≡ other.yard → q ≡ q' → TellsTurn one b q n → TellsTurn other b q' n
@@ -118,9 +113,8 @@ tells_same : (a : ℕ) (w w' : State) (n : Note) (new : List Transition) → n.b
 tells_same a w w' n new away same t = go n.what t
   where
     go : (what : What) → TellsOf w n what new → TellsOf w' n what new
-    go (Called c format) t = record { step = t.step; steps = t.steps; tells = same_step a w w' n t.step away same t.tells }
-    go (Played e o) t = record { step = t.step; steps = t.steps; tells = same_step a w w' n t.step away same t.tells }
     go (Found q v) t = (t.0, t.1, same_looks a q v w w' new same t.2)
+    go _ t = record { step = t.step; steps = t.steps; tells = same_step a w w' n t.step away same t.tells }
 
 -- a step of another actor
 other_of : (a : ℕ) (w : State) (n : Note) (step : Transition) → n.by ≢ a → TellsStep w n step → is_of a step ≡ false
@@ -249,6 +243,5 @@ module _ (start : Start) (starts : IsStart start) (a : ℕ) (low : 1 ≤ a) (h :
           some_call (Some caller) is = refl
 
           others : (what : What) (service : Service) (disk : Medium) → (run p before).state ≡ Up service disk → IsSome (caller_at service.callers a) → IsRun p (new ++ before) → x.by ≢ a → TellsOf (run p before).state x what new → list_any (is_of a) new ≡ false
-          others (Called c format) service disk at calls runs away t = ap (list_any (is_of a)) t.steps ∙ ap (λ b. b || false) (other_of a (run p before).state x t.step away t.tells)
-          others (Played e o) service disk at calls runs away t = ap (list_any (is_of a)) t.steps ∙ ap (λ b. b || false) (other_of a (run p before).state x t.step away t.tells)
           others (Found q v) service disk at calls runs away t = ap (list_any (is_of a)) t.2.steps ∙ looks_away p service disk a t.2.looks q before at calls (subst (λ l. IsRun p (l ++ before)) t.2.steps runs)
+          others _ service disk at calls runs away t = ap (list_any (is_of a)) t.steps ∙ ap (λ b. b || false) (other_of a (run p before).state x t.step away t.tells)

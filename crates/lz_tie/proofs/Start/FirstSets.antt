@@ -1,7 +1,5 @@
 -- A set begins with the members that the text holds which its open read, and such a text explains what was seen before the first call.
-use Rattle.std.proofs.Common.{◌≡◌, inl, ℕ, List, [], ◌∷◌, refl, sym, ap, ◌∙◌, subst, le_refl}
-use Rattle.std.proofs.lemmas.List.{append-nil}
-use Rattle.std.specs.Prelude.{IsTrue}
+use Rattle.std.proofs.Common.{◌≡◌, inl, ℕ, List, [], ◌∷◌, refl, sym, ap, ◌∙◌, subst, le_refl, append-nil, IsTrue}
 use Rattle.lz_slot.specs.Sets.{Keys, Same}
 use Rattle.lz_slot.specs.Histories.{Runs}
 use Rattle.lz_slot.specs.Bytes.{Holds}

@@ -1,6 +1,5 @@
 -- What a crash might have left since the disk was handed to an open, as the lock's invariant asks where nothing was noted yet.
-use Rattle.std.proofs.Common.{◌⊎◌, inl, List}
-use Rattle.std.specs.Prelude.{IsTrue}
+use Rattle.std.proofs.Common.{◌⊎◌, inl, List, IsTrue}
 use Rattle.lz_disk.specs.Devices.{Device, IsTimely}
 use Rattle.lz_disk.specs.Images.{IsImage}
 use Rattle.lz_disk.proofs.Moments.{quiet}

@@ -1,20 +1,17 @@
 -- A yard that was just opened is tied to a board of its words that has no notes, as the lock's invariant asks.
-use Rattle.std.proofs.Common.{◌≡◌, ◌≢◌, inl, Bool, false, List, [], ◌∷◌, map, length, zero, suc, refl, sym, ap, ◌∙◌, subst}
+use Rattle.std.proofs.Common.{◌≡◌, ◌≢◌, inl, Bool, false, List, [], length, zero, suc, refl, sym, ap, ◌∙◌, subst, ℕ, Some, None, is_some, IsTrue, replicate}
 use Rattle.std.proofs.lemmas.List.{length-replicate}
 use mathlib.Core.Bool.{false≢true}
-use Rattle.std.specs.Prelude.{ℕ, Some, None, is_some, IsTrue, replicate}
-use Rattle.lz_slot.specs.declared.slot.SlotRead.{SlotRead}
-use Rattle.lz_slot.specs.declared.slot.SlotRead.TheVariants.{Member}
 use Rattle.lz_slot.specs.Counted.{of_pass}
 use Rattle.lz_disk.specs.Devices.{Device}
 use Rattle.lz_disk.specs.Images.{Medium, at_rest}
-use Rattle.lz_allot.specs.declared.sight.Sight.{Sight}
 use Rattle.lz_allot.specs.Uses.{Use, Free, Taken, Limbo, use_of}
 use Rattle.lz_list.specs.Traces.{Trace}
 use Rattle.lz_list.proofs.Tables.WordTable.{length-table}
-use Rattle.lz_machine.specs.Yards.{Yard, opened_yard, first_trace, idle_actor, slots_read, use_read}
+use Rattle.lz_machine.specs.Yards.{Yard, opened_yard, first_trace, idle_actor, slots_read}
 use Rattle.lz_machine.specs.Runs.{IsStart, opened_service}
 use Rattle.lz_machine.proofs.Frames.Limbo.{away_new}
+use Rattle.lz_machine.proofs.Alone.Room.{no_limbo_read}
 use Rattle.lz_yard.specs.Filling.{OpensYard}
 use Rattle.lz_board.specs.declared.view.Sizes.{Sizes}
 use Rattle.lz_board.specs.declared.view.Note.{Note}
@@ -25,6 +22,7 @@ use Rattle.lz_tie.specs.NotedRuns.{IsTied}
 use Rattle.lz_tie.specs.Holds.{sizes_of, IsLocked}
 use Rattle.lz_tie.specs.Reuse.{UseTold, ReuseTold}
 use Rattle.lz_tie.proofs.Hold.NoteCondition.{sound, tied_loose}
+use Rattle.lz_tie.proofs.Hold.Alike.{alike_is}
 
 module _ {bytewise : Bool} (y : Yard) (t : List ℕ) (starts : IsStart (record { bytewise = bytewise; shape = y.shape; text = t })) (is : y ≡ opened_yard y.shape t) where
   opens : AreOpened y.words × (opened_by y.words ≡ first_trace y.shape t)
@@ -45,17 +43,7 @@ module _ {bytewise : Bool} (y : Yard) (t : List ℕ) (starts : IsStart (record {
     reads = refl;
     begins = opens.1;
     state = refl;
-    yard = record {
-      shape = refl;
-      heads = ap (λ (x : Yard). x.words.heads) is;
-      links = ap (λ (x : Yard). x.words.links) is;
-      keys = ap (λ (x : Yard). x.words.keys) is;
-      halt = ap (λ (x : Yard). x.words.halt) is;
-      locks = ap (λ (x : Yard). x.locks) is;
-      vault = ap (λ (x : Yard). x.vault) is;
-      uses = ap (λ (x : Yard). x.uses) is;
-      actors = ap (λ (x : Yard). x.actors) is;
-    };
+    yard = alike_is is;
     device = device;
   }
 
@@ -78,12 +66,6 @@ module _ {bytewise : Bool} (y : Yard) (t : List ℕ) (starts : IsStart (record {
       idle (suc n) (suc zero) = refl
       idle (suc n) (suc (suc i)) = idle n (suc i)
 
-      no_limbo : (reads : List SlotRead) (s : ℕ) (sights : List Sight) → use_of (map use_read reads) s ≡ Limbo sights → ⊥
-      no_limbo [] s sights same = absurd cc
-      no_limbo (Member k ∷ reads) zero sights same = absurd cc
-      no_limbo (r ∷ reads) zero sights same = absurd cc
-      no_limbo (r ∷ reads) (suc s) sights same = no_limbo reads s sights same
-
       free : (s : ℕ) → use_of y.uses s ≡ Free → use_of y.uses s ≢ Taken
       free s same taken = absurd (clash (sym same ∙ taken))
         where
@@ -93,7 +75,7 @@ module _ {bytewise : Bool} (y : Yard) (t : List ℕ) (starts : IsStart (record {
       by_use : (s : ℕ) (u : Use) → use_of y.uses s ≡ u → UseTold (sizes_of y.shape) (opened_by y.words) [] s u
       by_use s Taken same = tt
       by_use s Free same = inl (away_new y.shape.buckets s (opened_by y.words) (tied_loose (opened_by y.words) [] y false (at_rest bytewise t) tied s (free s same)))
-      by_use s (Limbo sights) same = absurd (no_limbo (slots_read t y.shape.slots) s sights (ap (λ (x : Yard). use_of x.uses s) (sym is) ∙ same))
+      by_use s (Limbo sights) same = absurd (no_limbo_read (slots_read t y.shape.slots) s sights (ap (λ (x : Yard). use_of x.uses s) (sym is) ∙ same))
 
   -- its tables are as large as its shape says
   pub opened_sizes : sizes_in y.words ≡ sizes_of y.shape

@@ -1,6 +1,4 @@
-use Rattle.std.proofs.Common.{List, sym, subst, take}
-use Rattle.std.specs.Prelude.{reverse}
-use Rattle.std.proofs.lemmas.List.{take_all}
+use Rattle.std.proofs.Common.{List, sym, subst, take, reverse, take_all}
 use Rattle.lz_judge.specs.declared.history.Point.{Point}
 use Rattle.lz_judge.specs.Readings.{HasPlaces}
 use Rattle.lz_judge.proofs.Readings.NextMark.{newest_at}

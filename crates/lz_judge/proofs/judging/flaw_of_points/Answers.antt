@@ -1,5 +1,4 @@
-use Rattle.std.proofs.Common.{◌≡◌, ◌∙◌, sym, Some, None, true, false}
-use Rattle.std.specs.Prelude.{reverse}
+use Rattle.std.proofs.Common.{◌≡◌, ◌∙◌, sym, Some, None, true, false, reverse}
 use Rattle.lz_judge.proofs.Lives.FirstFlaw.{first_refused, first_stranger, first_twin, first_unlisted}
 use Rattle.lz_judge.proofs.Lives.GoodVerdict.{is_made_tells}
 use Rattle.lz_judge.proofs.Readings.ReadingTable.{made_is, only_place, place_point, point_place}

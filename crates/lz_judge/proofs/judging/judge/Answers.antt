@@ -1,5 +1,4 @@
-use Rattle.std.proofs.Common.{sym, subst, List, []}
-use Rattle.std.specs.Prelude.{reverse}
+use Rattle.std.proofs.Common.{sym, subst, List, [], reverse}
 use Rattle.lz_slot.specs.Sets.{members}
 use Rattle.lz_slot.specs.Histories.{ChainTo, lives}
 use Rattle.lz_slot.specs.declared.history.Mark.{Mark}

@@ -1,5 +1,4 @@
-use Rattle.std.proofs.Common.{◌≡◌, ◌++◌, length}
-use Rattle.std.specs.Prelude.{option_map}
+use Rattle.std.proofs.Common.{◌≡◌, ◌++◌, length, option_map}
 use Rattle.lz_judge.specs.LinesRead.{keys_from, words_behind}
 use Rattle.lz_judge.proofs.line.read_keys.Given as goal
 

@@ -1,5 +1,4 @@
-use Rattle.std.proofs.Common.{take}
-use Rattle.std.specs.Prelude.{reverse}
+use Rattle.std.proofs.Common.{take, reverse}
 use Rattle.lz_judge.specs.Readings.{UnlistedOnes}
 use Rattle.lz_judge.proofs.listing.unlisted.Given as goal
 

@@ -1,6 +1,5 @@
-use Rattle.std.proofs.Common.{◌∙◌, sym, ap, ℕ, subst}
+use Rattle.std.proofs.Common.{◌∙◌, sym, ap, ℕ, subst, nat_cmp}
 use Rattle.std.specs.BTreeSet as set
-use Rattle.std.specs.Ordering.{nat_cmp}
 use Rattle.lz_judge.proofs.Readings.NextMark.{strangers_called, strangers_uncalled, IsLesser}
 use Rattle.lz_judge.proofs.listing.with_stranger.Goals as goal
 

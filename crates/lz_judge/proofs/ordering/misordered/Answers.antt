@@ -1,5 +1,4 @@
-use Rattle.std.proofs.Common.{sym, subst, List, take, ◌+◌}
-use Rattle.std.specs.Prelude.{reverse}
+use Rattle.std.proofs.Common.{sym, subst, List, take, ◌+◌, reverse}
 use Rattle.lz_slot.specs.declared.history.Mark.{Mark}
 use Rattle.lz_judge.specs.Records.{IsLawful}
 use Rattle.lz_judge.specs.Readings.{Floored}

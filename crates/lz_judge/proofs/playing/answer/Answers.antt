@@ -1,6 +1,5 @@
-use Rattle.std.proofs.Common.{◌≢◌, ◌⊎◌, inl, inr, refl, ℕ, Bool}
+use Rattle.std.proofs.Common.{◌≢◌, ◌⊎◌, inl, inr, refl, ℕ, Bool, nat_cmp}
 use Rattle.std.specs.BTreeMap as tree
-use Rattle.std.specs.Ordering.{nat_cmp}
 use Rattle.std.specs.Cmp.{booleans_Decides}
 use Rattle.std.proofs.lemmas.Bool.{both_ways}
 use Rattle.lz_slot.specs.Sets.{key_of, reply}

@@ -1,5 +1,4 @@
-use Rattle.std.proofs.Common.{sym, subst, arith, ◌∙◌, List, take, ◌+◌}
-use Rattle.std.specs.Prelude.{reverse}
+use Rattle.std.proofs.Common.{sym, subst, arith, ◌∙◌, List, take, ◌+◌, reverse}
 use Rattle.std.proofs.lemmas.List.{length-reverse, length-take, take_all}
 use Rattle.lz_slot.specs.declared.history.Mark.{Mark}
 use Rattle.lz_judge.specs.Plays.{Compared, IsKnown, Played, Ran}

@@ -1,5 +1,4 @@
-use Rattle.std.proofs.Common.{take}
-use Rattle.std.specs.Prelude.{reverse}
+use Rattle.std.proofs.Common.{take, reverse}
 use Rattle.lz_judge.specs.Plays.{Compared, Played, Ran}
 use Rattle.lz_judge.proofs.playing.play_lives.Given as goal
 

@@ -1,5 +1,4 @@
-use Rattle.std.proofs.Common.{take}
-use Rattle.std.specs.Prelude.{All, map}
+use Rattle.std.proofs.Common.{take, All, map}
 use Rattle.lz_judge.specs.Places.{IsTable}
 use Rattle.lz_judge.specs.Renewals.{IsWithin}
 use Rattle.lz_judge.specs.Surveys.{finding_key, found_keys}

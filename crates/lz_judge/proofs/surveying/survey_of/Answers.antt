@@ -1,5 +1,4 @@
-use Rattle.std.proofs.Common.{◌≡◌, ◌<◌, length, take, arith, subst, take_all}
-use Rattle.std.proofs.lemmas.List.{length-take-le}
+use Rattle.std.proofs.Common.{◌≡◌, ◌<◌, length, take, arith, subst, take_all, length-take-le}
 use Rattle.std.specs.Io.KnownBytes.{Consumes}
 use Rattle.lz_judge.proofs.Surveys.PieceReads.{read_fault, read_part}
 use Rattle.lz_judge.proofs.surveying.survey_of.Goals as goal

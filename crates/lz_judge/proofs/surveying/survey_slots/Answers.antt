@@ -1,5 +1,4 @@
-use Rattle.std.proofs.Common.{rules, ◌≡◌, ◌*◌, Bool, length, length-append, drop, arith, subst}
-use Rattle.std.proofs.lemmas.List.{length-drop, length-take}
+use Rattle.std.proofs.Common.{rules, ◌≡◌, ◌*◌, Bool, length, length-append, drop, arith, subst, length-drop, length-take}
 use Rattle.lz_judge.specs.Scans.{EndsWithin, GivesPiece, HadMore, TakesPiece}
 use Rattle.lz_judge.proofs.Surveys.PieceReads.{read_longer, read_more, read_none, read_short, read_whole}
 use Rattle.lz_judge.proofs.surveying.survey_slots.Goals as goal

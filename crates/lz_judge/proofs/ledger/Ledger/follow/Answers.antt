@@ -1,5 +1,4 @@
-use Rattle.std.proofs.Common.{◌≡◌, sym, subst, false}
-use Rattle.std.specs.Prelude.{IfOk}
+use Rattle.std.proofs.Common.{◌≡◌, sym, subst, false, IfOk}
 use Rattle.lz_slot.specs.declared.history.Mark.{Mark}
 use Rattle.lz_judge.specs.Records.{MayFollow}
 use Rattle.lz_judge.proofs.ledger.Ledger.follow.Goals as goal

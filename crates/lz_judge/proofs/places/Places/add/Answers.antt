@@ -1,5 +1,4 @@
-use Rattle.std.proofs.Common.{ℕ, ◌++◌, ◌∷◌, [], List, Option, arith, ◌∙◌, subst, sym}
-use Rattle.std.specs.Prelude.{OnOk}
+use Rattle.std.proofs.Common.{ℕ, ◌++◌, ◌∷◌, [], List, Option, arith, ◌∙◌, subst, sym, OnOk}
 use Rattle.lz_judge.specs.Places.{IsTable}
 use Rattle.lz_judge.proofs.PlaceTables.{last_key, one_longer}
 use Rattle.lz_judge.proofs.places.Places.add.Goals as goal

@@ -1,5 +1,4 @@
-use Rattle.std.proofs.Common.{◌≡◌, ℕ, length, arith, rules, ap, sym, ◌∙◌, slice_index}
-use Rattle.std.specs.Prelude.{map}
+use Rattle.std.proofs.Common.{◌≡◌, ℕ, length, arith, rules, ap, sym, ◌∙◌, slice_index, map}
 use Rattle.lz_judge.specs.Places.{place_of}
 use Rattle.lz_judge.proofs.PlaceTables.{absent_all, absent_free}
 use Rattle.lz_judge.proofs.places.Places.find.Goals as goal

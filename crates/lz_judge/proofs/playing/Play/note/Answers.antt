@@ -1,7 +1,4 @@
-use Rattle.std.proofs.Common.{◌≡◌, ◌∙◌, inl, inr, ⊎_elim, sym, subst, List, ◌∷◌, Option, ℕ, suc, arith}
-use Rattle.std.specs.Prelude.{OnOk}
-use Rattle.std.specs.BTreeMap.{BTreeMap}
-use Rattle.std.specs.BTreeSet.{BTreeSet}
+use Rattle.std.proofs.Common.{◌≡◌, ◌∙◌, inl, inr, ⊎_elim, sym, subst, List, ◌∷◌, Option, ℕ, suc, arith, OnOk, BTreeMap, BTreeSet}
 use Rattle.lz_slot.specs.Sets.{Same, members}
 use Rattle.lz_slot.specs.declared.history.Mark.{Mark}
 use Rattle.lz_slot.specs.declared.history.Mark.TheVariants.{Call, Opened}

@@ -1,5 +1,4 @@
-use Rattle.std.proofs.Common.{◌≡◌, ◌≤◌, [], ◌∷◌, None, Option, Some, sym, refl, ap, subst, ◌∙◌}
-use Rattle.std.specs.Prelude.{IfSome, reverse}
+use Rattle.std.proofs.Common.{◌≡◌, ◌≤◌, [], ◌∷◌, None, Option, Some, sym, refl, ap, subst, ◌∙◌, IfSome, reverse}
 use Rattle.std.proofs.lemmas.List.{reverse-append}
 use Rattle.lz_judge.specs.Limits.{largest_place}
 use Rattle.lz_judge.specs.Lines.{IsLow}

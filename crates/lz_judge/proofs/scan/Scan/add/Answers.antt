@@ -1,5 +1,4 @@
-use Rattle.std.proofs.Common.{List, ◌∷◌, [], ◌∙◌, ap, subst}
-use Rattle.std.specs.Prelude.{OnOk, map}
+use Rattle.std.proofs.Common.{List, ◌∷◌, [], ◌∙◌, ap, subst, OnOk, map}
 use Rattle.std.proofs.lemmas.List.{map-append}
 use Rattle.lz_judge.specs.Places.{IsTable}
 use Rattle.lz_judge.specs.Surveys.{finding_key}

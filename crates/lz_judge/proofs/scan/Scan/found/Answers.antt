@@ -1,5 +1,4 @@
-use Rattle.std.proofs.Common.{◌≡◌, ◌<◌, List, ◌∙◌, None, Some, ap, get_or, length, refl, subst, sym}
-use Rattle.std.specs.Prelude.{map}
+use Rattle.std.proofs.Common.{◌≡◌, ◌<◌, List, ◌∙◌, None, Some, ap, get_or, length, refl, subst, sym, map}
 use Rattle.lz_judge.specs.Places.{IsTable}
 use Rattle.lz_judge.specs.Surveys.{finding_key}
 use Rattle.lz_judge.specs.declared.finding.Finding.{Finding}

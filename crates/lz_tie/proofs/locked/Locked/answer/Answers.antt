@@ -11,29 +11,25 @@ use Rattle.lz_tie.proofs.Calls.CountedMoves.{answers_so, end_shows, next_answer,
 use Rattle.lz_tie.proofs.Hold.FoundEvent.{Finds, may, others, played}
 use Rattle.lz_tie.proofs.Hold.OneHold.{Stepped, explains, keeps}
 use Rattle.lz_tie.proofs.locked.Locked.answer.Given.{Over}
-use Rattle.lz_tie.proofs.locked.Locked.answer.Goals.{After-cut}
+use Rattle.lz_tie.proofs.locked.Locked.answer.Goals.{After-cut, After-play_joined-arg-3-1}
 use Rattle.lz_tie.proofs.locked.Locked.answer.Goals as goal
 
 no_look : (q o : ℕ) → Answer ≢ SeePin q o
 no_look q o is = cc
 
-pub play_joined-turn-requires-clause-hold : goal.play_joined-turn-requires-clause-hold
-play_joined-turn-requires-clause-hold g c =
-    let f : Finds (id_of c.args.board.now) (notes c.self.inside.pen) (notes c.join.new.pen) c.self.inside.yard.yard (g.D.Disk.device c.self.inside.yard.disk) (part c.args.pass.now) (carried c.join.new.pen) c.args.caller.now Answer =
+-- what was found, before it is played
+finds : (g : Over) (c : After-play_joined-arg-3-1 g) → Finds (id_of c.args.board.now) (notes c.self.inside.pen) (notes c.join.new.pen) c.self.inside.yard.yard (g.D.Disk.device c.self.inside.yard.disk) (part c.args.pass.now) (carried c.join.new.pen) c.args.caller.now Answer
+finds g c =
     let n = c.requires.counted in
     others g.N.Named.board (id_of c.args.board.now) c.requires.board (notes c.self.inside.pen) (notes c.join.new.pen) c.self.inside.yard.yard (g.D.Disk.device c.self.inside.yard.disk) (part c.args.pass.now) (carried c.join.new.pen)
     c.self.invariant.1 c.join.ensures.knows c.join.ensures.told c.join.ensures.notes c.join.ensures.carried c.args.caller.now Answer
-    (next_answer g.N.Named.board n.0 n.1 n.2 c.args.caller.now (part c.args.pass.now) n.3 c.args._reply c.requires.reply) no_look (λ d is. false≢true (ap is_invoke is)) in
-    f.hold
+    (next_answer g.N.Named.board n.0 n.1 n.2 c.args.caller.now (part c.args.pass.now) n.3 c.args._reply c.requires.reply) no_look (λ d is. false≢true (ap is_invoke is))
+
+pub play_joined-turn-requires-clause-hold : goal.play_joined-turn-requires-clause-hold
+play_joined-turn-requires-clause-hold g c = (finds g c).hold
 
 pub play_joined-turn-requires-clause-may : goal.play_joined-turn-requires-clause-may
-play_joined-turn-requires-clause-may g c =
-    let f : Finds (id_of c.args.board.now) (notes c.self.inside.pen) (notes c.join.new.pen) c.self.inside.yard.yard (g.D.Disk.device c.self.inside.yard.disk) (part c.args.pass.now) (carried c.join.new.pen) c.args.caller.now Answer =
-    let n = c.requires.counted in
-    others g.N.Named.board (id_of c.args.board.now) c.requires.board (notes c.self.inside.pen) (notes c.join.new.pen) c.self.inside.yard.yard (g.D.Disk.device c.self.inside.yard.disk) (part c.args.pass.now) (carried c.join.new.pen)
-    c.self.invariant.1 c.join.ensures.knows c.join.ensures.told c.join.ensures.notes c.join.ensures.carried c.args.caller.now Answer
-    (next_answer g.N.Named.board n.0 n.1 n.2 c.args.caller.now (part c.args.pass.now) n.3 c.args._reply c.requires.reply) no_look (λ d is. false≢true (ap is_invoke is)) in
-    may _ _ _ _ _ _ _ _ _ f
+play_joined-turn-requires-clause-may g c = may _ _ _ _ _ _ _ _ _ (finds g c)
 
 found : (g : Over) (c : After-cut g) → Finds (id_of c.args.board.now) (notes c.self.inside.pen) (notes c.join.new.pen) c.self.inside.yard.yard (g.D.Disk.device c.self.inside.yard.disk) (part c.args.pass.now) (carried c.join.new.pen) c.args.caller.now Answer
 found g c =

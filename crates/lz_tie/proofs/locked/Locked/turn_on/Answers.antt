@@ -13,14 +13,14 @@ use Rattle.lz_tie.proofs.Calls.CountedMoves.{counted_on, is_next, no_end_shows, 
 use Rattle.lz_tie.proofs.Hold.FoundEvent.{Finds, looks, may, others, played}
 use Rattle.lz_tie.proofs.Hold.OneHold.{Stepped, explains, keeps}
 use Rattle.lz_tie.proofs.locked.Locked.turn_on.Given.{Over}
-use Rattle.lz_tie.proofs.locked.Locked.turn_on.Goals.{After-take, in-SeePin, in_default}
+use Rattle.lz_tie.proofs.locked.Locked.turn_on.Goals.{After-play_joined-arg-3-1, After-take, in-SeePin, in_default}
 use Rattle.lz_tie.proofs.locked.Locked.turn_on.Goals as goal
 
-pub play_joined-turn-requires-clause-hold : goal.play_joined-turn-requires-clause-hold
-play_joined-turn-requires-clause-hold g c =
+-- what was found, before it is played
+finds : (g : Over) (c : After-play_joined-arg-3-1 g) → Finds (id_of c.args.board.now) (notes c.self.inside.pen) (notes c.match-event.self-inside.pen) c.match-event.self-inside.yard.yard (g.D.Disk.device c.match-event.self-inside.yard.disk) (part c.args.pass.now) (carried c.match-event.self-inside.pen) c.args.caller.now c.match-event.found
+finds g c =
     let n = c.requires.counted in
     let next = is_next g.N.Named.board n.0 n.1 n.2 c.args.caller.now (part c.args.pass.now) n.3 c.args.event c.requires.event (ap hop_of (sym c.requires.event) ∙ c.requires.load) in
-    let f : Finds (id_of c.args.board.now) (notes c.self.inside.pen) (notes c.match-event.self-inside.pen) c.match-event.self-inside.yard.yard (g.D.Disk.device c.match-event.self-inside.yard.disk) (part c.args.pass.now) (carried c.match-event.self-inside.pen) c.args.caller.now c.match-event.found =
     (elim c.match-event.branch [
       | in-SeePin w ↦ subst (λ (q : Inside g.row.N.Denot g.row.D.Denot × Event). Finds (id_of c.args.board.now) (notes c.self.inside.pen) (notes q.0.pen) q.0.yard.yard (g.D.Disk.device q.0.yard.disk) (part c.args.pass.now) (carried q.0.pen) c.args.caller.now q.1)
           (λ i. (sym w.self-inside-is i, sym w.found-is i))
@@ -33,28 +33,13 @@ play_joined-turn-requires-clause-hold g c =
           (others g.N.Named.board (id_of c.args.board.now) c.requires.board (notes c.self.inside.pen) (notes c.join.new.pen) c.self.inside.yard.yard (g.D.Disk.device c.self.inside.yard.disk) (part c.args.pass.now) (carried c.join.new.pen)
           c.self.invariant.1 c.join.ensures.knows c.join.ensures.told c.join.ensures.notes c.join.ensures.carried c.args.caller.now c.args.event next
           w.in_default.not-SeePin (no_invoke g.N.Named.board n.0 n.1 n.2 c.args.caller.now (part c.args.pass.now) n.3 c.args.event c.requires.event))
-    ]) in
-    f.hold
+    ])
+
+pub play_joined-turn-requires-clause-hold : goal.play_joined-turn-requires-clause-hold
+play_joined-turn-requires-clause-hold g c = (finds g c).hold
 
 pub play_joined-turn-requires-clause-may : goal.play_joined-turn-requires-clause-may
-play_joined-turn-requires-clause-may g c =
-    let n = c.requires.counted in
-    let next = is_next g.N.Named.board n.0 n.1 n.2 c.args.caller.now (part c.args.pass.now) n.3 c.args.event c.requires.event (ap hop_of (sym c.requires.event) ∙ c.requires.load) in
-    let f : Finds (id_of c.args.board.now) (notes c.self.inside.pen) (notes c.match-event.self-inside.pen) c.match-event.self-inside.yard.yard (g.D.Disk.device c.match-event.self-inside.yard.disk) (part c.args.pass.now) (carried c.match-event.self-inside.pen) c.args.caller.now c.match-event.found =
-    (elim c.match-event.branch [
-      | in-SeePin w ↦ subst (λ (q : Inside g.row.N.Denot g.row.D.Denot × Event). Finds (id_of c.args.board.now) (notes c.self.inside.pen) (notes q.0.pen) q.0.yard.yard (g.D.Disk.device q.0.yard.disk) (part c.args.pass.now) (carried q.0.pen) c.args.caller.now q.1)
-          (λ i. (sym w.self-inside-is i, sym w.found-is i))
-          (looks g.N.Named.board (id_of c.args.board.now) c.requires.board (notes c.self.inside.pen) (notes c.join.new.pen) c.self.inside.yard.yard (g.D.Disk.device c.self.inside.yard.disk) (part c.args.pass.now) (carried c.join.new.pen)
-          c.self.invariant.1 c.join.ensures.knows c.join.ensures.told c.join.ensures.notes c.join.ensures.carried c.args.caller.now c.args.event next
-          (c.requires.pass.2.sized ∙ ap (λ (b : BoardId). b.sizes) (sym c.requires.board)) (notes w.load_pin-value.new.pen) (carried w.load_pin-value.new.pen) w.in-SeePin.seen _ w.load_pin-value.result w.in-SeePin.is
-          w.load_pin-value.ensures.told w.load_pin-value.ensures.own w.load_pin-value.ensures.notes w.load_pin-value.ensures.carried)
-      | in_default w ↦ subst (λ (q : Inside g.row.N.Denot g.row.D.Denot × Event). Finds (id_of c.args.board.now) (notes c.self.inside.pen) (notes q.0.pen) q.0.yard.yard (g.D.Disk.device q.0.yard.disk) (part c.args.pass.now) (carried q.0.pen) c.args.caller.now q.1)
-          (λ i. (sym w.self-inside-is i, sym w.found-is i))
-          (others g.N.Named.board (id_of c.args.board.now) c.requires.board (notes c.self.inside.pen) (notes c.join.new.pen) c.self.inside.yard.yard (g.D.Disk.device c.self.inside.yard.disk) (part c.args.pass.now) (carried c.join.new.pen)
-          c.self.invariant.1 c.join.ensures.knows c.join.ensures.told c.join.ensures.notes c.join.ensures.carried c.args.caller.now c.args.event next
-          w.in_default.not-SeePin (no_invoke g.N.Named.board n.0 n.1 n.2 c.args.caller.now (part c.args.pass.now) n.3 c.args.event c.requires.event))
-    ]) in
-    may _ _ _ _ _ _ _ _ _ f
+play_joined-turn-requires-clause-may g c = may _ _ _ _ _ _ _ _ _ (finds g c)
 
 -- what was found, in the same yard
 found : (g : Over) (c : After-take g) → Finds (id_of c.args.board.now) (notes c.self.inside.pen) (notes c.match-event.self-inside.pen) c.match-event.self-inside.yard.yard (g.D.Disk.device c.match-event.self-inside.yard.disk) (part c.args.pass.now) (carried c.match-event.self-inside.pen) c.args.caller.now c.match-event.found
