@@ -49,7 +49,7 @@ def try_locks(program: Program, folder: str) -> None:
         expect(os.path.exists(new), False, "whether that made a file")
         for words, told in READINGS:
             expect(program.run_loud(words, file), (Ended(told, 0), beside(file)), words)
-        expect(program.run_loud("check", other, "--of", file), (Ended("lost 1\n", 2), beside(file)), "a check of another file")
+        expect(program.run_loud("check", other, "--of", file), (Ended("good\nflaw 9 0\n", 4), beside(file)), "a check beside the file that is served")
         expect(bytes_in(file), before, "the file's bytes")
         expect(ask(service.port, "has 1", "add 2"), "yes\nyes\n", "replies")
     expect(program.run("run", file, lines="has 1\nhas 2\n"), Ended("yes\nyes\n", 0), "a run after the service")
