@@ -3,6 +3,7 @@
 #![tactic(auto)]
 
 ghost use Rattle.std.specs.Prelude.{◌≡◌, ◌↔◌, true, All, IsTrue, List, Ok};
+ghost use Rattle.lz_vault.specs.Opens.{MayOpen};
 ghost use Rattle.lz_board.specs.Seats.{part};
 ghost use Rattle.lz_board.specs.declared.view.Note.{Note};
 ghost use Rattle.lz_set.specs.Blanks.{MayBeNamed};
@@ -133,6 +134,7 @@ fn filter_events<D, R>(rt: &R, disk: D) -> io::Result<D>
 where
     D: Disk + Send + Drop,
     R: Threads + Wait + Print + AllocGlobal + Sync,
+    requires { MayOpen (D.device disk) }
 {
     match Set::open(rt.alloc(), disk, NoGate, BUCKETS, THREADS) {
         Ok(blank) => {

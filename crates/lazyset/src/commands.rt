@@ -223,22 +223,25 @@ where
     Ok(after_making(rt, new, was_absent, status))
 }
 
-// The file as a disk. More buckets than its format allows are refused as the command line refuses a number that is out of range; its
-// head is asked only for more than each format allows.
+// The file as a disk. More buckets than its format allows are refused as the command line refuses a number that is out of range. In
+// format 4 no write waits for a sync of another, so those of slots side by side are gathered: a kill of the process loses what no
+// sync has covered, as a crash does.
 fn open_for<R>(rt: &R, file: &str, buckets: usize) -> Result<FileDisk, Fault>
 where
     R: Files<File = File> + Eprint + Clock + AllocGlobal,
 {
     let mut disk = open(rt, file, Lock::Exclusive)?;
-    if buckets > Format::Two.most_buckets()
-        && let Some(Header { format, .. }) = header_on(&mut disk)
-        && buckets > format.most_buckets()
-    {
-        let _ = eprintln!(rt;
-            "lazyset: {file}: a file of format 3 may have more buckets: renew it with --format 3"
-        );
-        let refusal = too_many_buckets(rt.alloc(), buckets as u64, format);
-        return Err(Fault::of_refusal(refusal));
+    if let Some(Header { format, .. }) = header_on(&mut disk) {
+        if buckets > format.most_buckets() {
+            let _ = eprintln!(rt;
+                "lazyset: {file}: a file of format 3 or 4 may have more buckets: renew it with --format 3"
+            );
+            let refusal = too_many_buckets(rt.alloc(), buckets as u64, format);
+            return Err(Fault::of_refusal(refusal));
+        }
+        if format == Format::Four {
+            disk.gather(rt.alloc());
+        }
     }
     disk.watch();
     Ok(disk)

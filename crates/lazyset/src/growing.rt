@@ -9,7 +9,7 @@ use crate::files::{header_on, no_file, open, say_cause, take_lock};
 use crate::over_disk::grow_over;
 use lazyset_commands::{Shelf, Standing, Status};
 use lz_disk::{DeviceFault, Disk, FileDisk, Lock};
-use lz_slot::{Format, Header};
+use lz_slot::{Format, Header, LAST_ROOM};
 use std::fs::{File, Metadata, OpenOptions};
 use std::io;
 use std::io::{ErrorKind, Write};
@@ -120,12 +120,7 @@ fn roomy_format<D: Disk>(disk: &mut D) -> Format
     ensures nothing { IsTrue (D.device disk.old).honest → WritesNothing (D.device disk.old) (D.device disk.new) }
 {
     match header_on(disk) {
-        Some(
-            Header {
-                format: Format::Three,
-                ..
-            },
-        ) => Format::Three,
+        Some(Header { format, .. }) if format.last_room() == LAST_ROOM => format,
         _ => Format::Two,
     }
 }

@@ -394,5 +394,6 @@ fn number_of(format: Format) -> usize {
         Format::One => 1,
         Format::Two => 2,
         Format::Three => 3,
+        Format::Four => 4,
     }
 }

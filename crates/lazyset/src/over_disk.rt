@@ -8,6 +8,7 @@ ghost use Rattle.lz_slot.specs.Sets.{Keys, members};
 ghost use Rattle.lz_disk.specs.Images.{IsImage};
 ghost use Rattle.lz_disk.specs.Devices.{LeavesOnly};
 ghost use Rattle.lz_vault.specs.Makes.{IsUnmadeOrHolds};
+ghost use Rattle.lz_vault.specs.Opens.{MayOpen};
 ghost use Rattle.lazyset_offline.specs.Growths.{IsLeftOrHolds, MayBeLeft};
 ghost use Rattle.lazyset_offline.specs.Listings.{LeavesListed};
 ghost use Rattle.lazyset_offline.specs.Refusals.{FailedOpen};
@@ -136,7 +137,8 @@ where
     I: Read + Drop,
     W: Write + Drop,
     D: Disk,
-    requires { (1 ≤ buckets) × (buckets ≤ most_buckets) }
+    requires buckets { (1 ≤ buckets) × (buckets ≤ most_buckets) }
+    requires medium { MayOpen (D.device disk) }
     ensures { (N : ℕ) (S : Keys) → IsTrue (D.device disk).honest → Holds (D.device disk).medium.seen N S
         → SessionOfSet (PassMayAnswer (format_of (D.device disk).medium.seen) N) N S result.0 (I.remaining reader.old) (I.remaining reader.new) (W.contents writer.old) (W.contents writer.new) (D.device disk) (D.device result.1)
         ⊎ FailedOpen result.0 (W.contents writer.old) (W.contents writer.new) (D.device disk) (D.device result.1) }

@@ -58,9 +58,10 @@ fn words_of_making(number: u8, format: Format) -> Option<&'static str> {
 fn words_of_slots(format: Format) -> &'static str {
     match format {
         Format::One | Format::Two => {
-            "a file has 1 to 65536 slots; with --format 3 it has up to 16777216"
+            "a file has 1 to 65536 slots; with --format 3 or 4 it has up to 16777216"
         }
         Format::Three => "a file of format 3 has 1 to 16777216 slots",
+        Format::Four => "a file of format 4 has 1 to 16777216 slots",
     }
 }
 

@@ -348,6 +348,7 @@ fn format_of(matches: &ArgMatches<'_>) -> Option<Format> {
         1 => Some(Format::One),
         2 => Some(Format::Two),
         3 => Some(Format::Three),
+        4 => Some(Format::Four),
         _ => None,
     }
 }

@@ -203,7 +203,7 @@ const SLOTS: Word = Word {
     form: Form::Number,
     default: None,
     beside: Beside::Anything,
-    help: "How many keys the file has room for, 1 to 65536, or to 16777216 with format 3",
+    help: "How many keys the file has room for, 1 to 65536, or to 16777216 with format 3 or 4",
 };
 
 const REHEARSED: Word = Word {
@@ -218,28 +218,28 @@ const REHEARSED: Word = Word {
 const FORMAT: Word = Word {
     id: "format",
     value_name: Some("F"),
-    form: Form::Within(1, 3),
+    form: Form::Within(1, 4),
     default: Some("2"),
     beside: Beside::Anything,
-    help: "The format of the file: 2, whose keys are in the rooms 0 to 15, 3, which is the same with more slots, or the older 1, whose keys are all in room 0",
+    help: "The format of the file: 2, whose keys are in the rooms 0 to 15, 3, which is the same with more slots, 4, with as many, whose additions need one write and one sync of a device that keeps each byte old or new, or the older 1, whose keys are all in room 0",
 };
 
 const ROOMY_FORMAT: Word = Word {
     id: "format",
     value_name: Some("F"),
-    form: Form::Within(2, 3),
+    form: Form::Within(2, 4),
     default: Some("2"),
     beside: Beside::Anything,
-    help: "The format of the new file: 2, or 3, which has more slots",
+    help: "The format of the new file: 2, 3, which has more slots, or 4, with as many and one sync an addition",
 };
 
 const GROWN_FORMAT: Word = Word {
     id: "format",
     value_name: Some("F"),
-    form: Form::Within(2, 3),
+    form: Form::Within(2, 4),
     default: None,
     beside: Beside::Anything,
-    help: "The format of the new file: 2, or 3, which has more slots; that of FILE where none is named, and 2 for one of format 1",
+    help: "The format of the new file: 2, 3, which has more slots, or 4, with as many and one sync an addition; that of FILE where none is named, and 2 for one of format 1",
 };
 
 const BUCKETS: Word = Word {
@@ -248,12 +248,12 @@ const BUCKETS: Word = Word {
     form: Form::Within(1, MOST_BUCKETS as i64),
     default: Some("1"),
     beside: Beside::Anything,
-    help: "The number of hash buckets, 1 to 4096, or to 1048576 with format 3: choose about the number of members",
+    help: "The number of hash buckets, 1 to 4096, or to 1048576 with format 3 or 4: choose about the number of members",
 };
 
 const SERVED_BUCKETS: Word = Word {
     default: None,
-    help: "The number of hash buckets, 1 to 4096, or to 1048576 with format 3: choose about the number of members. Where it isn't given 1, and with --connections as many as the file has slots, or as its format allows",
+    help: "The number of hash buckets, 1 to 4096, or to 1048576 with format 3 or 4: choose about the number of members. Where it isn't given 1, and with --connections as many as the file has slots, or as its format allows",
     ..BUCKETS
 };
 

@@ -3,6 +3,7 @@ ghost use Rattle.std.specs.Prelude.{◌≡◌, ◌⊎◌, ◌≤◌, ℕ, List, 
 ghost use Rattle.lz_slot.specs.Bytes.{Holds, format_of};
 ghost use Rattle.lz_slot.specs.Limits.{most_buckets};
 ghost use Rattle.lz_slot.specs.Sets.{Keys};
+ghost use Rattle.lz_vault.specs.Opens.{MayOpen};
 ghost use Rattle.lz_board.specs.Seats.{IsNew};
 ghost use Rattle.lz_set.specs.Blanks.{MayBeNamed};
 ghost use Rattle.lz_set.specs.Names.{MayCall};
@@ -37,7 +38,8 @@ where
     R: Read + Drop,
     W: Write + Drop,
     D: Disk,
-    requires { (1 ≤ buckets) × (buckets ≤ most_buckets) }
+    requires buckets { (1 ≤ buckets) × (buckets ≤ most_buckets) }
+    requires medium { MayOpen (D.device disk) }
     // Either a session was served by the one pass of the set that was opened, or the open was refused; the status is that of how it ended.
     ensures ran { RanSeat D.device buckets result.0 (R.remaining reader.old) (R.remaining reader.new) (W.contents writer.old) (W.contents writer.new) disk result.1
         ⊎ RefusedOpen D.device result.0 (R.remaining reader.old) (R.remaining reader.new) (W.contents writer.old) (W.contents writer.new) disk result.1 }

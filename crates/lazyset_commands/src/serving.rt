@@ -2,6 +2,7 @@
 ghost use Rattle.std.specs.Prelude.{◌≡◌, ◌⊎◌, ◌≤◌, ◌==◌, ◌∷◌, ◌++◌, [], ℕ, All, Ok, Err, true, false, option_map, vec_len};
 ghost use Rattle.std.specs.List.{Any, list_any};
 ghost use Rattle.lz_slot.specs.Limits.{most_buckets, most_passes};
+ghost use Rattle.lz_vault.specs.Opens.{MayOpen};
 ghost use Rattle.lz_board.specs.Seats.{part};
 ghost use Rattle.lz_set.specs.Blanks.{AreNew, MayBeNamed};
 ghost use Rattle.lz_set.specs.Names.{MayCall};
@@ -58,6 +59,7 @@ where
     D: Disk + Send,
     requires passes { (1 ≤ options.passes) × (options.passes ≤ most_passes) }
     requires buckets { (1 ≤ options.buckets) × (options.buckets ≤ most_buckets) }
+    requires medium { MayOpen (D.device disk) }
     // Either the passes of the set that was opened were served, or there was no place to listen, or the open was refused.
     ensures ran { RanService D.device options.buckets options.passes (option_map (λ p. p.now) place.entry.path) result.0 (W.contents writer.old) (W.contents writer.new) disk result.1
         ⊎ RefusedService D.device result.0 (W.contents writer.old) (W.contents writer.new) disk result.1 }

@@ -30,10 +30,9 @@ module _ (t : List ℕ) where
   IsNodeBelow n node = (node.1 < n) × (says node.1 ≡ read.Member node.0)
 
   nodes_said : (n : ℕ) (said : SlotRead) → says n ≡ said → All (IsNodeBelow n) (held t n) → All (IsNodeBelow (suc n)) (held t n ++ held_key said n)
-  nodes_said n read.Closed is nodes = rw (append-nil (held t n)) (All-weaker (IsNodeBelow n) (IsNodeBelow (suc n)) (λ node (low, there). (omega (arith, low), there)) (held t n) nodes)
-  nodes_said n read.BadKey is nodes = rw (append-nil (held t n)) (All-weaker (IsNodeBelow n) (IsNodeBelow (suc n)) (λ node (low, there). (omega (arith, low), there)) (held t n) nodes)
   nodes_said n (read.Member k) is nodes =
       All-push (IsNodeBelow (suc n)) (held t n) (k, n) (All-weaker (IsNodeBelow n) (IsNodeBelow (suc n)) (λ node (low, there). (omega (arith, low), there)) (held t n) nodes) (omega arith, is)
+  nodes_said n _ is nodes = rw (append-nil (held t n)) (All-weaker (IsNodeBelow n) (IsNodeBelow (suc n)) (λ node (low, there). (omega (arith, low), there)) (held t n) nodes)
 
   pub nodes : (n : ℕ) → All (IsNodeBelow n) (held t n)
   nodes zero = All-nil (IsNodeBelow 0)
@@ -110,11 +109,10 @@ module _ (t : List ℕ) where
         (cases_eq k node.0)
 
     once_said : (n : ℕ) (said : SlotRead) → n < N → says n ≡ said → IsDistinct nat_eq (keys n) → IsDistinct nat_eq (map (λ (node : ℕ × ℕ). node.0) (held t n ++ held_key said n))
-    once_said n read.Closed small is once = rw (append-nil (held t n)) once
-    once_said n read.BadKey small is once = rw (append-nil (held t n)) once
     once_said n (read.Member k) small is once =
         subst (IsDistinct nat_eq) (sym (keys_said n (read.Member k)))
         (IsDistinct-push nat_eq_equiv (keys n) k once (no_node k (held t n) (All-weaker (IsNodeBelow n) (λ node. nat_eq k node.0 ≡ false) (differs n k small is) (held t n) (nodes n))))
+    once_said n _ small is once = rw (append-nil (held t n)) once
 
     once_below : (n : ℕ) → n ≤ N → IsDistinct nat_eq (keys n)
     once_below zero le = none_twice

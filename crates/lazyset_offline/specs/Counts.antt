@@ -1,7 +1,7 @@
 -- The counts of what a file holds.
 use Rattle.std.specs.Prelude.{ℕ, ◌-◌, List, [], ◌∷◌, ◌++◌, codes, count_by, decimal, length}
 use Rattle.lz_slot.specs.declared.format.Format.{Format}
-use Rattle.lz_slot.specs.declared.format.Format.TheVariants.{One, Two, Three}
+use Rattle.lz_slot.specs.declared.format.Format.TheVariants.{One, Two, Three, Four}
 use Rattle.lz_judge.specs.Surveys.{is_sound}
 use Rattle.lz_judge.specs.declared.finding.Finding.{Finding}
 
@@ -10,6 +10,7 @@ abbrev pub format_number : Format → ℕ
 format_number One = 1
 format_number Two = 2
 format_number Three = 3
+format_number Four = 4
 
 -- the line of a count
 abbrev pub count_text : List ℕ → ℕ → List ℕ

@@ -45,5 +45,6 @@ fn number_of(format: Format) -> u64
         Format::One => 1,
         Format::Two => 2,
         Format::Three => 3,
+        Format::Four => 4,
     }
 }

@@ -1,2 +1,3 @@
 pub mod OpenedWorld
 pub mod RefusedOpen
+pub mod SuitedDisk

@@ -1,13 +1,34 @@
 //! The disk of a world, under an open service or by itself.
-ghost use Rattle.std.specs.Prelude.{◌≡◌, OnOk, OnErr};
+ghost use Rattle.std.specs.Prelude.{◌≡◌, IfOk, OnOk, OnErr};
 ghost use Rattle.lz_disk.specs.Images.{IsImage, at_rest};
 ghost use Rattle.lz_disk.specs.Picks.{left_by};
+ghost use Rattle.lz_disk.specs.Records.{device_of};
+ghost use Rattle.lz_vault.specs.Makes.{IsFresh};
+ghost use Rattle.lz_vault.specs.Opens.{MayOpen};
 ghost use Rattle.lz_machine.specs.Runs.{Down};
 ghost use Rattle.lz_core.specs.Worlds.{HasOne, armed, armed_yard, disk_shown, state_shown};
 
 use lz_disk::{MemoryDisk, Pick};
+use lz_slot::Format;
+use lz_vault::{make, suit};
 use lz_yard::Yard;
-use std::alloc::AllocError;
+use std::alloc::{AllocError, Global};
+
+// A disk on which a file of this format was made: a bytewise one, where the format asks for it.
+pub(crate) fn made_disk(
+    alloc: Global,
+    format: Format,
+    slots: usize,
+) -> Result<MemoryDisk, AllocError>
+    ensures { IfOk result (λ disk. IsFresh (device_of disk).medium format slots × MayOpen (device_of disk)) }
+{
+    let mut disk = MemoryDisk::new(alloc, Vec::new(alloc))?;
+    if make(&mut disk, format, slots as u64).is_err() {
+        return Err(AllocError);
+    }
+    suit(&mut disk);
+    Ok(disk)
+}
 
 // Where the disk of an open yard was tripped, its next call is to fail.
 pub(crate) fn arm_yard(yard: &mut Option<Yard<MemoryDisk>>, tripped: bool)

@@ -2,7 +2,7 @@
 ghost use Rattle.std.specs.Prelude.{◌≡◌, ◌≤◌, IfOk, IfErr};
 ghost use Rattle.lz_disk.specs.Records.{device_of};
 ghost use Rattle.lz_slot.specs.Limits.{most_buckets};
-ghost use Rattle.lz_vault.specs.Opens.{IsRefusedFor};
+ghost use Rattle.lz_vault.specs.Opens.{IsRefusedFor, MayOpen};
 ghost use Rattle.lz_yard.specs.Filling.{OpensYard};
 ghost use Rattle.lz_machine.specs.Runs.{keys_found};
 ghost use Rattle.lz_judge.specs.MarkLines.{AscendFrom};
@@ -29,7 +29,8 @@ pub(crate) fn open_again(
     disk: MemoryDisk,
     buckets: usize,
 ) -> Result<Opened, Refused<MemoryDisk>>
-    requires { (1 ≤ buckets) × (buckets ≤ most_buckets) }
+    requires buckets { (1 ≤ buckets) × (buckets ≤ most_buckets) }
+    requires disk { MayOpen (device_of disk) }
     ensures ok { IfOk result (λ opened. OpensYard (device_of disk) (device_of opened.yard.disk) buckets 64 opened.yard.yard) }
     ensures keys { IfOk result (λ opened. opened.keys.items ≡ keys_found (device_of disk).medium.seen opened.yard.yard.shape.slots) }
     ensures ascending { IfOk result (λ opened. AscendFrom 0 opened.keys.items) }

@@ -6,7 +6,7 @@ ghost use Rattle.lz_slot.specs.Counted.{of_pass};
 ghost use Rattle.lz_core.specs.Worlds.{Ascend, IsChain, IsLawful, IsNew, IsOutcome, IsTold, IsUp, MayCall, LacksMemory, MayStepOn, PlaysOn, Shows, StepsOn, StopsAt, StopsEarly, TakesTurn, event_asked, event_loaded, mark_list, next_of};
 ghost use Rattle.lz_machine.specs.Kinds.{kind_of};
 
-use crate::disks::{arm_yard, armed, crash_disk, stop_disk};
+use crate::disks::{arm_yard, armed, crash_disk, made_disk, stop_disk};
 use crate::open_calls::{OpenCall, next_of_call, no_calls, take_outcome};
 use crate::play::Step;
 use crate::reopening::{fault_told, open_again};
@@ -15,7 +15,6 @@ use lz_caller::Caller;
 use lz_disk::{MemoryDisk, Pick};
 use lz_machine::{Event, Kind, Outcome};
 use lz_slot::{Command, Format, Found, Key, MOST_ACTORS, Mark};
-use lz_vault::make;
 use lz_yard::Yard;
 use std::alloc::{AllocError, Global};
 use std::marker::Model;
@@ -94,10 +93,7 @@ impl World {
         ensures { IfOk result (λ world. IsNew (record { slots = slots; buckets = buckets; passes = 64 }) format world) }
     {
         let callers = no_calls(alloc)?;
-        let mut disk = MemoryDisk::new(alloc, Vec::new(alloc))?;
-        if make(&mut disk, format, slots as u64).is_err() {
-            return Err(AllocError);
-        }
+        let disk = made_disk(alloc, format, slots)?;
         match Yard::open(alloc, disk, buckets, ACTORS) {
             Ok(yard) => Ok(World {
                 slots,

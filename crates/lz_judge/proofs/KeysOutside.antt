@@ -14,7 +14,7 @@ use Rattle.lz_judge.specs.declared.finding.Finding.{Finding}
 use Rattle.lz_judge.specs.declared.finding.Finding.TheVariants.{Key}
 use Rattle.lz_judge.specs.Surveys.{IsFinding, IsFirst, finding_key, found_keys, is_sound, open_slot, open_slots, slot_of}
 use Rattle.lz_judge.specs.Renewals.{AreHeld, IsFirstOutside, IsLowestOutside, IsWithin}
-use Rattle.lz_judge.proofs.Surveys.SlotFinding.{first_of, found_below, same_member, sound_where}
+use Rattle.lz_judge.proofs.Surveys.SlotFinding.{IsOpened, first_of, found_below, same_member, sound_where}
 
 -- numbers below n, each above those before it
 record Ascend (xs : List ℕ) (n : ℕ) : Type 0 where
@@ -47,15 +47,15 @@ ascend_push xs n old = record {
     last p end = ap (λ (i : ℕ). get_or (xs ++ n ∷ []) i 0) end ∙ get_or-append_seam xs n [] 0
 
 ascend_slot : (r : SlotRead) (xs : List ℕ) (n : ℕ) → Ascend xs n → Ascend (xs ++ open_slot r n) (suc n)
-ascend_slot read.Closed xs n old = record {
+ascend_slot (read.Member k) xs n old = ascend_push xs n old
+ascend_slot read.BadKey xs n old = ascend_push xs n old
+ascend_slot _ xs n old = record {
   below = λ p lt.
       let less : p < length xs = subst (λ (l : List ℕ). p < length l) (append-nil xs) lt in
       let low = old.below p less in
       rw (append-nil xs) (omega (arith, low));
   rising = subst (λ (l : List ℕ). (p q : ℕ) → p < q → q < length l → get_or l p 0 < get_or l q 0) (sym (append-nil xs)) old.rising;
 }
-ascend_slot (read.Member k) xs n old = ascend_push xs n old
-ascend_slot read.BadKey xs n old = ascend_push xs n old
 
 slots_ascend : (says : ℕ → SlotRead) (n : ℕ) → Ascend (open_slots says n) n
 slots_ascend says zero = record { below = λ p lt. absurd (omega (arith, lt)); rising = λ p q less lt. absurd (omega (arith, lt)) }
@@ -67,7 +67,7 @@ module _ (t : List ℕ) (found : List Finding) (held : AreHeld t found) (T : Key
 
   pub finding_of_key : (i k : ℕ) → i < held.slots → slot_at t i ≡ read.Member k → Contains found (Key i k)
   finding_of_key i k lt is =
-      let (q, at, first) = first_of (slot_at t) held.slots found held.findings sound i lt (λ shut. let e : read.Member k ≡ read.Closed = sym is ∙ shut in cc) in
+      let (q, at, first) = first_of (slot_at t) held.slots found held.findings sound i lt (subst IsOpened (sym is) tt) in
       subst (λ (j : ℕ). Contains found (Key i j)) (same_member q k (sym first.holds ∙ is)) at
 
   -- the place of a finding

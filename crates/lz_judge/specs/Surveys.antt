@@ -27,18 +27,18 @@ slot_of (Key i k) = i
 slot_of (BadKey i) = i
 slot_of (Twice i first) = i
 
--- a slot's index, where the slot isn't closed
+-- a slot's index, where the slot is open
 abbrev pub open_slot : SlotRead → ℕ → List ℕ
-open_slot read.Closed i = []
 open_slot (read.Member k) i = i ∷ []
 open_slot read.BadKey i = i ∷ []
+open_slot _ i = []
 
--- the slots below n that aren't closed, the lowest first
+-- the open slots below n, the lowest first
 abbrev pub open_slots : (ℕ → SlotRead) → ℕ → List ℕ
 open_slots says zero = []
 open_slots says (suc n) = open_slots says n ++ open_slot (says n) n
 
--- the findings are those of the slots below n: each is true, and there is one for each slot that isn't closed, upwards
+-- the findings are those of the slots below n: each is true, and there is one for each open slot, upwards
 pub record AreFindings (says : ℕ → SlotRead) (n : ℕ) (findings : List Finding) : Type 0 where
   pub each : All (IsFinding says) findings
   pub slots : map slot_of findings ≡ open_slots says n

@@ -34,13 +34,13 @@ impl Scan {
         ensures { (says : ℕ → SlotRead) → says slot ≡ read → Scanned says slot self.old → OnOk result (Scanned says (slot + 1) self.new) }
     {
         match read {
-            SlotRead::Closed => Ok(()),
+            SlotRead::Closed | SlotRead::Torn => Ok(()),
             SlotRead::BadKey => self.add(Finding::BadKey(slot)),
             SlotRead::Member(key) => self.add(self.found(slot, key)),
         }
     }
 
-    // Adds what was found at the next slot that isn't closed.
+    // Adds what was found at the next open slot.
     fn add(&mut self, finding: Finding) -> Result<(), AllocError>
         ensures findings { OnOk result (self.new.findings.items ≡ self.old.findings.items ++ finding ∷ []) }
         ensures table { IsTable (map finding_key self.old.findings.items) self.old.places → OnOk result (IsTable (map finding_key self.new.findings.items) self.new.places) }

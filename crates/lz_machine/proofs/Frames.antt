@@ -11,7 +11,7 @@ pub mod OtherLink
 pub mod OtherUnlink
 pub mod OtherSettling
 pub mod Uses
-pub mod GateWrite
+pub mod SlotWrite
 pub mod PinOrder
 pub mod Store
 pub mod NodeLocks
@@ -23,7 +23,7 @@ pub mod Outside
 pub mod Refusal
 pub mod PinNotes
 pub mod ChangeNotes
-pub mod KeyWrite
+pub mod PreparedSlot
 pub mod OpenedGate
 pub mod BesideKey
 pub mod ChainSlots

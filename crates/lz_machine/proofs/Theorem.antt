@@ -13,6 +13,7 @@ pub mod ShownChains
 pub mod Timing
 pub mod FreedSlots
 pub mod OneAdd
+pub mod CallRows
 pub mod JoinedRuns
 pub mod RunRows
 pub mod TraceOutside

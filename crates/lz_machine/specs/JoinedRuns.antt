@@ -1,17 +1,19 @@
 -- Runs may follow on one another: each begins with a text that the one before it may leave, with buckets and passes of its own.
 use Rattle.std.specs.Prelude.{◌≤◌, ℕ, Bool, List, [], ◌∷◌, ◌++◌}
 use Rattle.lz_slot.specs.Limits.{most_buckets, most_passes}
-use Rattle.lz_slot.specs.Bytes.{Holds}
+use Rattle.lz_slot.specs.Bytes.{Holds, format_of}
 use Rattle.lz_slot.specs.Histories.{History, Life, ChainTo, lives}
 use Rattle.lz_slot.specs.Sets.{Keys}
+use Rattle.lz_disk.specs.Images.{at_rest}
+use Rattle.lz_vault.specs.Stages.{Suits}
 use Rattle.lz_list.specs.Traces.{Trace}
 use Rattle.lz_machine.specs.Runs.{Start, IsStart, State, Reached, MayLeave, start_keys}
 
--- Each text that a run may leave is one with which another run may begin, whatever its buckets and passes.
+-- Each text that a run may leave is one with which another run may begin, whatever its buckets and passes, on a disk that suits its format.
 abbrev pub LeftIsStart : Type 0
 LeftIsStart =
     (start : Start) (w : State) (M : History) (P : Trace) (t : List ℕ) (bytewise : Bool) (buckets passes : ℕ)
-    → Reached start w M P → MayLeave w t → (1 ≤ buckets) × (buckets ≤ most_buckets) → (1 ≤ passes) × (passes ≤ most_passes)
+    → Reached start w M P → MayLeave w t → (1 ≤ buckets) × (buckets ≤ most_buckets) → (1 ≤ passes) × (passes ≤ most_passes) → Suits (format_of t) (at_rest bytewise t)
     → IsStart (record { bytewise = bytewise; shape = record { slots = start.shape.slots; buckets = buckets; passes = passes }; text = t })
 
 -- One run, as far as it has come.

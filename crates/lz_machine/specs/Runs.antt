@@ -10,8 +10,9 @@ use Rattle.lz_slot.specs.Limits.{largest_key, most_buckets, most_passes}
 use Rattle.lz_slot.specs.Sets.{Keys, members, key_of}
 use Rattle.lz_slot.specs.Counted.{of_pass, set_of_pass}
 use Rattle.lz_slot.specs.Histories.{History}
-use Rattle.lz_slot.specs.Bytes.{open_byte, header_body, Holds, held}
+use Rattle.lz_slot.specs.Bytes.{open_byte, header_body, Holds, format_of, held}
 use Rattle.lz_disk.specs.Images.{Medium, IsImage, AreBytes, at_rest, synced}
+use Rattle.lz_vault.specs.Stages.{Suits}
 use Rattle.lz_vault.specs.Vaults.{medium_after, MayFail}
 use Rattle.lz_allot.specs.Uses.{is_outside, Moment, Pins, Unlinking}
 use Rattle.lz_list.specs.declared.word.Word.TheVariants.{Pin as pin_word}
@@ -266,7 +267,7 @@ abbrev pub IsRun : Point → List Transition → Type 0
 IsRun p [] = Unit {0}
 IsRun p (step ∷ steps) = MayStep (run p steps).state step × IsRun p steps
 
--- A life begins by an open of a text that holds a set; nothing of the disk, bytewise or not, is loose.
+-- A life begins by an open of a text that holds a set; nothing of the disk, which is bytewise where the format asks for it, is loose.
 pub record Start : Type 0 where
   pub bytewise : Bool
   pub shape : Shape
@@ -280,6 +281,7 @@ pub record IsStart (s : Start) : Type 0 where
   pub passes : (1 ≤ s.shape.passes) × (s.shape.passes ≤ most_passes)
   pub bytes : AreBytes s.text
   pub text : Holds s.text s.shape.slots (start_keys s)
+  pub suits : Suits (format_of s.text) (at_rest s.bytewise s.text)
 
 abbrev pub first_point : Start → Point
 first_point s =

@@ -1,8 +1,8 @@
 -- Where a slot stands in a sound state: its stage, its use and who has it.
 use Rattle.std.specs.Prelude.{◌≡◌, ◌≢◌, ◌⊎◌, ℕ, suc, ◌<◌, Bool, true, false, List, length, Some}
 use Rattle.lz_vault.specs.declared.vault.Stage.{Stage}
-use Rattle.lz_vault.specs.declared.vault.Stage.TheVariants.{Closed, KeyLoose, Keyed, Opening, Open, Closing}
-use Rattle.lz_vault.specs.Stages.{Cell}
+use Rattle.lz_vault.specs.declared.vault.Stage.TheVariants.{Closed, Opening, Open, Closing}
+use Rattle.lz_vault.specs.Stages.{Cell, IsFree}
 use Rattle.lz_allot.specs.declared.sight.Sight.{Sight}
 use Rattle.lz_allot.specs.Uses.{Use, Free, Taken, Limbo, use_of}
 use Rattle.lz_list.specs.Traces.{Trace, IsLoose, on, chain_of, key_word, linking, is_settled, is_removed, is_marked}
@@ -12,9 +12,6 @@ use Rattle.lz_machine.specs.declared.actor.Hold.TheVariants.{Checked, GateOpened
 use Rattle.lz_machine.specs.Yards.{Shape, actor_in, cell_in, stage_in}
 
 -- Where a slot stands: its stage, its use and who has it.
-abbrev pub IsGateClosed : Stage → Type 0
-IsGateClosed stage = (stage ≡ Closed) ⊎ (stage ≡ KeyLoose) ⊎ (stage ≡ Keyed)
-
 abbrev pub IsGateOpened : Stage → Type 0
 IsGateOpened stage = (stage ≡ Opening) ⊎ (stage ≡ Open)
 
@@ -73,7 +70,7 @@ IsNodeStage cells dead actors P s =
 -- the gate of a slot in an actor's hand is surely closed, or the actor has opened it
 abbrev pub IsHandStage : List Cell → Bool → Actor → Trace → ℕ → Type 0
 IsHandStage cells dead actor P s =
-    IsGateClosed (stage_in cells s) ⊎ ((opens dead actor.hold ≡ true) × IsGateOpened (stage_in cells s) × ((cell_in cells s).key ≡ key_word s P))
+    IsFree (stage_in cells s) ⊎ ((opens dead actor.hold ≡ true) × IsGateOpened (stage_in cells s) × ((cell_in cells s).key ≡ key_word s P))
 
 -- a slot that an actor has reserved and not linked
 pub record IsInHand (shape : Shape) (cells : List Cell) (dead : Bool) (uses : List Use) (actor : Actor) (P : Trace) (s : ℕ) : Type 0 where
@@ -93,7 +90,7 @@ pub data SlotStands (shape : Shape) (cells : List Cell) (dead : Bool) (uses : Li
   is_node : IsOnChain shape cells uses P s → IsNodeStage cells dead actors P s → SlotStands shape cells dead uses actors P s
   is_held : (a : ℕ) → (actor_in actors a).slot ≡ Some s → SlotStands shape cells dead uses actors P s
   is_out : (a : ℕ) → IsOut (actor_in actors a) s → SlotStands shape cells dead uses actors P s
-  is_free : IsLoose shape.buckets s P → use_of uses s ≡ Free → IsGateClosed (stage_in cells s) → SlotStands shape cells dead uses actors P s
+  is_free : IsLoose shape.buckets s P → use_of uses s ≡ Free → IsFree (stage_in cells s) → SlotStands shape cells dead uses actors P s
   is_limbo : (sights : List Sight) → IsLoose shape.buckets s P → use_of uses s ≡ Limbo sights → stage_in cells s ≡ Closed → SlotStands shape cells dead uses actors P s
 
 pub record SlotsSound (shape : Shape) (cells : List Cell) (dead : Bool) (uses : List Use) (actors : List Actor) (P : Trace) : Type 0 where

@@ -4,11 +4,11 @@ use Rattle.std.specs.Prelude.{◌≡◌, ℕ, ◌<◌, ◌≤◌, true, false, L
 use Rattle.lz_slot.specs.Limits.{most_slots_of}
 use Rattle.lz_slot.specs.Rooms.{largest_of}
 use Rattle.lz_slot.specs.Sets.{Keys}
-use Rattle.lz_slot.specs.Bytes.{Holds}
+use Rattle.lz_slot.specs.Bytes.{Holds, format_of}
 use Rattle.lz_slot.specs.Counted.{of_pass}
 use Rattle.lz_slot.specs.Histories.{History, Life, ChainTo, Fits, lives, IsBefore as IsAnsweredBefore}
 use Rattle.lz_disk.specs.Images.{Medium, IsImage, IsSound as IsSoundDisk}
-use Rattle.lz_vault.specs.Stages.{Cell, Keeps}
+use Rattle.lz_vault.specs.Stages.{Cell, Keeps, Suits}
 use Rattle.lz_vault.specs.Vaults.{Vaulted}
 use Rattle.lz_allot.specs.declared.sight.Sight.{Sight}
 use Rattle.lz_allot.specs.declared.sight.Sight.TheVariants.{Left}
@@ -98,6 +98,7 @@ pub record HasList (slots : ℕ) (life : Life) (P : Trace) (t : List ℕ) : Type
 
 pub record DownSound (shape : Shape) (disk : Medium) (life : Life) (P : Trace) : Type 0 where
   pub sound : IsSoundDisk disk
+  pub suits : (t : List ℕ) → IsImage disk t → Suits (format_of t) disk
   pub each : (t : List ℕ) → IsImage disk t → HasList shape.slots life P t
 
 abbrev pub StateSound : Point → State → Life → Type 0

@@ -4,12 +4,11 @@ use Rattle.lz_slot.specs.declared.command.Command.{Command}
 use Rattle.lz_slot.specs.declared.command.Command.TheVariants.{Add}
 use Rattle.lz_slot.specs.declared.format.Format.{Format}
 use Rattle.lz_slot.specs.Rooms.{largest_of}
-use Rattle.lz_slot.specs.Bytes.{open_byte, closed_byte, slot_body}
 use Rattle.lz_slot.specs.Counted.{set_of_pass}
 use Rattle.lz_vault.specs.declared.vault.Stage.{Stage}
-use Rattle.lz_vault.specs.declared.vault.Stage.TheVariants.{Closed, KeyLoose, Keyed, Opening, Open, Closing}
-use Rattle.lz_vault.specs.Stages.{Cell, cell_synced, is_closed, is_keyed, is_covered, is_free}
-use Rattle.lz_vault.specs.Vaults.{Vaulted, DeviceCall, NoCall, WriteAt, SyncAll, last_sync, syncs_after, cells_failed, died}
+use Rattle.lz_vault.specs.declared.vault.Stage.TheVariants.{Closed, Keyed, Opening, Open, Closing}
+use Rattle.lz_vault.specs.Stages.{Cell, cell_synced, stage_put, is_closed, is_keyed, is_covered, is_free}
+use Rattle.lz_vault.specs.Vaults.{Vaulted, DeviceCall, NoCall, SyncAll, key_call, opening_call, closing_call, last_sync, syncs_after, cells_failed, died}
 use Rattle.lz_allot.specs.Uses.{Use, collect, lowest_free, take_slot, give_back, retire, see_pin, counts, is_outside}
 use Rattle.lz_list.specs.declared.place.Place.TheVariants.{Node}
 use Rattle.lz_list.specs.declared.word.Word.{Word}
@@ -145,9 +144,9 @@ is_spent y = y.vault.syncs == last_sync
 
 -- the device call of each event
 abbrev pub call_of : Yard → Actor → Event → DeviceCall
-call_of y actor (WriteKey k) = WriteAt (17 + 16 * slot_of actor) (slot_body k)
-call_of y actor WriteOpen = WriteAt (16 + 16 * slot_of actor) (open_byte ∷ [])
-call_of y actor WriteClose = WriteAt (16 + 16 * node_of actor) (closed_byte ∷ [])
+call_of y actor (WriteKey k) = key_call y.vault.format (cell_at y (slot_of actor)).stage (slot_of actor) k
+call_of y actor WriteOpen = opening_call y.vault.format (slot_of actor) (cell_at y (slot_of actor)).key
+call_of y actor WriteClose = closing_call y.vault.format (node_of actor)
 call_of y actor (Sync s) = if is_sure y s then NoCall else SyncAll
 call_of y actor _ = NoCall
 
@@ -156,7 +155,7 @@ with_stage y s stage k = slice_set y.vault.cells s (record { stage = stage; key 
 
 -- the slots' cells after each event, where its device call, if it has one, succeeds
 abbrev pub cells_after : Yard → Actor → Event → List Cell
-cells_after y actor (WriteKey k) = with_stage y (slot_of actor) KeyLoose k
+cells_after y actor (WriteKey k) = with_stage y (slot_of actor) (stage_put y.vault.format (cell_at y (slot_of actor)).stage) k
 cells_after y actor WriteOpen = with_stage y (slot_of actor) Opening (cell_at y (slot_of actor)).key
 cells_after y actor WriteClose = with_stage y (node_of actor) Closing (cell_at y (node_of actor)).key
 cells_after y actor (Sync s) = if is_sure y s then y.vault.cells else map cell_synced y.vault.cells

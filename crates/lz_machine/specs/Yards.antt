@@ -2,10 +2,11 @@
 use Rattle.std.specs.Prelude.{◌≡◌, ◌%◌, ℕ, zero, suc, false, List, [], ◌∷◌, ◌++◌, map, replicate, slice_index_or, None}
 use Rattle.lz_slot.specs.declared.slot.SlotRead.{SlotRead}
 use Rattle.lz_slot.specs.declared.slot.SlotRead.TheVariants.{Member}
+use Rattle.lz_slot.specs.declared.slot.SlotRead.TheVariants as read
 use Rattle.lz_slot.specs.Bytes.{format_of, slot_at, held}
 use Rattle.lz_slot.specs.Counted.{of_pass}
 use Rattle.lz_vault.specs.declared.vault.Stage.{Stage}
-use Rattle.lz_vault.specs.declared.vault.Stage.TheVariants.{Open}
+use Rattle.lz_vault.specs.declared.vault.Stage.TheVariants.{Torn, Open}
 use Rattle.lz_vault.specs.Stages.{Cell}
 use Rattle.lz_vault.specs.Vaults.{Vaulted}
 use Rattle.lz_vault.specs.Members.{no_cell}
@@ -60,6 +61,7 @@ IsInside pin = pin % 2 ≡ 1
 -- a slot as an open finds it
 abbrev pub cell_read : SlotRead → Cell
 cell_read (Member k) = record { stage = Open; key = k }
+cell_read read.Torn = record { stage = Torn; key = 0 }
 cell_read _ = no_cell
 
 abbrev pub use_read : SlotRead → Use

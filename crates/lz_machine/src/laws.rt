@@ -101,7 +101,8 @@ pub fn freed_is_all_free()
     ensures { FreedIsAllFree }
 {}
 
-/// One adding to a freshly made set of one slot is a call and fifteen turns of a run, and it is answered yes.
+/// One adding to a freshly made set of one slot, in each format, is a call and fifteen turns of a run, and it is answered
+/// yes. Where a gate opens the slot the device makes two writes and two syncs for it, in format 4 one of each.
 pub fn one_add_runs()
     ensures { OneAddRuns }
 {}
@@ -116,7 +117,7 @@ pub fn held_is_opened()
     ensures { HeldIsOpened }
 {}
 
-/// With each text that a run may leave another run may begin, whatever its buckets and passes.
+/// With each text that a run may leave another run may begin, whatever its buckets and passes, on a disk that suits its format.
 pub fn left_is_start()
     ensures { LeftIsStart }
 {}

@@ -41,7 +41,7 @@ module _ (D : Type 0) (device : D → Device) where
     board = l.opened.board
 
     in_words : board.sizes ≡ sizes_in l.opened.yard.words
-    in_words = l.sizes ∙ sym (opened_sizes l.opened.yard l.opens.first.0 l.opens.first.2 l.opens.first.3)
+    in_words = l.sizes ∙ sym (opened_sizes l.opened.yard l.opens.first.text l.opens.first.starts l.opens.first.yard)
 
     begins : Holds (device l.old).medium.seen board.sizes.slots (members_of board.opened)
     begins = begins_with_read board (device l.old) (device l.opened.disk) l.buckets l.passes l.opened.yard l.opens in_words l.trace l.honest

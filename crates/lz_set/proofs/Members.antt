@@ -7,7 +7,7 @@ use Rattle.std.proofs.lemmas.List.{length-append, length-map, map-append}
 use Rattle.std.proofs.lemmas.List.Sums.{sum_by_push}
 use Rattle.std.proofs.lemmas.Map.Keys.{IsDistinct-cons}
 use Rattle.lz_slot.specs.declared.slot.SlotRead.{SlotRead}
-use Rattle.lz_slot.specs.declared.slot.SlotRead.TheVariants.{Closed, Member, BadKey}
+use Rattle.lz_slot.specs.declared.slot.SlotRead.TheVariants.{Closed, Torn, Member, BadKey}
 use Rattle.lz_slot.specs.Sets.{HasMembers}
 use Rattle.lz_slot.specs.Bytes.{slot_at, held, held_key}
 use Rattle.lz_disk.specs.Devices.{Device}
@@ -28,6 +28,7 @@ use Rattle.lz_tie.specs.RunningSets.{members_of}
 one_taken : (r : SlotRead) (s : ℕ) → cond (is_taken (use_read r)) 1 0 ≡ length (held_key r s)
 one_taken (Member k) s = refl
 one_taken Closed s = refl
+one_taken Torn s = refl
 one_taken BadKey s = refl
 
 taken_held : (t : List ℕ) (n : ℕ) → count_by is_taken (map use_read (slots_read t n)) ≡ length (held t n)
@@ -50,10 +51,10 @@ keys_distinct slots (f ∷ found) h = IsDistinct-cons nat_eq f.0 (map (λ (f : �
 pub begins_with : (b : BoardId) (before after : Device) (B S : ℕ) (y : Yard) → OpensYard before after B S y → b.opened ≡ opened_by y.words
     → HasMembers (members_of b.opened) (counts y.uses).taken
 begins_with b before after B S y opens opened =
-    let t = opens.first.0 in
+    let t = opens.first.text in
     let N = y.shape.slots in
-    let once = opens.first.2.text.no_key_twice in
-    let is = opens.first.3 in
+    let once = opens.first.starts.text.no_key_twice in
+    let is = opens.first.yard in
     let begins : b.opened ≡ first_trace y.shape t = opened ∙ (opens_text y.shape t y.words once (ap (λ (x : Yard). x.words) is)).1 in
     record {
       keys = map (λ (f : ℕ × ℕ). f.0) (held t N);

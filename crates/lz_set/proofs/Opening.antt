@@ -22,7 +22,7 @@ pub blank : (b : BoardId) (p : Pen) (before after : Device) (B S : ℕ) (y : Yar
     → (1 ≤ B) × (B ≤ most_buckets) → (1 ≤ S) × (S ≤ most_passes) → IsBlank b p y after ps B
 blank b p before after B S y w ps opens words sizes opened pen none count new parts some_buckets some_passes =
     let first = opens.first in
-    let large : b.sizes ≡ sizes_of y.shape = sizes ∙ ap sizes_in words ∙ opened_sizes y first.0 first.2 first.3 in
+    let large : b.sizes ≡ sizes_of y.shape = sizes ∙ ap sizes_in words ∙ opened_sizes y first.text first.starts first.yard in
     let pins : length w.pins ≡ b.sizes.passes = sym (ap (λ (z : Sizes). z.passes) sizes) in
     let B_is : B ≡ b.sizes.buckets = sym opens.buckets ∙ sym (ap (λ (z : Sizes). z.buckets) large) in
     let S_is : length ps ≡ S = count ∙ pins ∙ ap (λ (z : Sizes). z.passes) large ∙ opens.passes in

@@ -3,7 +3,7 @@ ghost use Rattle.std.specs.Prelude.{◌≡◌, ◌≢◌, ◌≤◌, Err, IfErr,
 ghost use Rattle.lz_slot.specs.declared.command.Command.TheVariants as command;
 ghost use Rattle.lz_slot.specs.Bytes.{Holds};
 ghost use Rattle.lz_slot.specs.Limits.{most_buckets, most_passes};
-ghost use Rattle.lz_vault.specs.Opens.{IsRefusedFor};
+ghost use Rattle.lz_vault.specs.Opens.{IsRefusedFor, MayOpen};
 ghost use Rattle.lz_board.specs.Glances.{Glances, Turns};
 ghost use Rattle.lz_board.specs.Listings.{Lists};
 ghost use Rattle.lz_board.specs.Opened.{opened_by};
@@ -55,6 +55,7 @@ impl<D: Disk, G: StepGate> Set<D, G, Brand> {
         buckets: usize,
         passes: usize,
     ) -> Result<Blank<D, G>, Refused<D>>
+        requires disk { MayOpen (D.device disk) }
         requires buckets { (1 ≤ buckets) × (buckets ≤ most_buckets) }
         requires passes { (1 ≤ passes) × (passes ≤ most_passes) }
         ensures ok { IfOk result (λ blank. OpensYard (D.device disk) (D.device blank.disk) buckets passes blank.yard) }

@@ -1,7 +1,8 @@
 -- The slots of format 4: what is read of one is what was written, and no mixture of zeros with one is another.
 use Rattle.std.proofs.Common.{◌≡◌, ◌⊎◌, inl, inr, ⊎_elim, ℕ, zero, suc, ◌+◌, ◌*◌, ◌/◌, ◌%◌, ◌<◌, ◌≤◌, Bool, true, false, List, [], ◌∷◌, length, get_or, refl, sym, ap, ◌∙◌, arith}
-use Rattle.std.specs.Prelude.{◌&&◌, nat_le, if◌then◌else◌}
+use Rattle.std.specs.Prelude.{◌&&◌, ◌==◌, nat_le, replicate, if◌then◌else◌}
 use Rattle.std.specs.List.{list_all}
+use Rattle.std.proofs.lemmas.Bool.{cases_Bool}
 use Rattle.std.proofs.lemmas.Bool.Decides.{nat_tests, eqb_tells}
 use Rattle.byteorder.specs.Endian.{big_bytes, big_number}
 use Rattle.byteorder.specs.Numbers.{big_number-reads_back}
@@ -9,8 +10,8 @@ use Rattle.std.proofs.lemmas.Nat.{be_bytes_8}
 use Rattle.std.specs.Int.{w64, from_be_bytes}
 use Rattle.lz_slot.specs.Limits.{largest_key}
 use Rattle.lz_slot.specs.declared.slot.SlotRead.{SlotRead}
-use Rattle.lz_slot.specs.declared.slot.SlotRead.TheVariants.{Closed, Member, BadKey}
-use Rattle.lz_slot.specs.Whole.{spelled, spells, whole_slot, is_paired, is_shut, IsPartOf, WholeReadsBack, WholeIsOfItsKey, MixturesAreWhole, ShutStaysShut}
+use Rattle.lz_slot.specs.declared.slot.SlotRead.TheVariants.{Closed, Torn, Member, BadKey}
+use Rattle.lz_slot.specs.Whole.{spelled, spells, whole_slot, is_paired, is_shut, whole_read, IsPartOf, MixturesAreWhole, ShutStaysShut}
 
 -- a mixture of zeros with a list, one byte after the other
 part_tail : (x y : ℕ) (t whole : List ℕ) → IsPartOf (x ∷ t) (y ∷ whole) → IsPartOf t whole
@@ -77,32 +78,42 @@ all_paired (b ∷ bytes) fits =
     let rest = all_paired bytes (λ i. fits (suc i)) in
     grind (arith, nat_tests)
 
--- what a slot says, by whether it is shut, whether its bytes are paired, and its number
-abbrev whole_tests : Bool → Bool → ℕ → SlotRead
-whole_tests shut pairs x = if shut then Closed else if pairs && nat_le x largest_key then Member x else BadKey
+-- what a slot says, by whether it is shut, whether it is all zeros, whether its bytes are paired, and its number
+abbrev whole_tests : Bool → Bool → Bool → ℕ → SlotRead
+whole_tests shut none pairs x = if shut then (if none then Closed else Torn) else if pairs && nat_le x largest_key then Member x else BadKey
 
-whole_says : (shut pairs : Bool) (x k : ℕ) → shut ≡ false → pairs ≡ true → x ≡ k → k ≤ largest_key → whole_tests shut pairs x ≡ Member k
-whole_says shut pairs x k opened paired same low = grind (arith, nat_tests)
+whole_says : (shut none pairs : Bool) (x k : ℕ) → shut ≡ false → pairs ≡ true → x ≡ k → k ≤ largest_key → whole_tests shut none pairs x ≡ Member k
+whole_says shut none pairs x k opened paired same low = grind (arith, nat_tests)
 
-whole_passes : (shut pairs : Bool) (x k : ℕ) → whole_tests shut pairs x ≡ Member k → (shut ≡ false) × (pairs ≡ true) × (x ≡ k) × (k ≤ largest_key)
-whole_passes shut pairs x k is = grind (arith, nat_tests)
+whole_passes : (shut none pairs : Bool) (x k : ℕ) → whole_tests shut none pairs x ≡ Member k → (shut ≡ false) × (pairs ≡ true) × (x ≡ k) × (k ≤ largest_key)
+whole_passes shut none pairs x k is = grind (arith, nat_tests)
 
-pub whole_reads_back : WholeReadsBack
+bytes_fit : (k i : ℕ) → get_or (big_bytes 8 k) i 0 < 256
+bytes_fit k zero = omega arith
+bytes_fit k (suc zero) = omega arith
+bytes_fit k (suc (suc zero)) = omega arith
+bytes_fit k (suc (suc (suc zero))) = omega arith
+bytes_fit k (suc (suc (suc (suc zero)))) = omega arith
+bytes_fit k (suc (suc (suc (suc (suc zero))))) = omega arith
+bytes_fit k (suc (suc (suc (suc (suc (suc zero)))))) = omega arith
+bytes_fit k (suc (suc (suc (suc (suc (suc (suc zero))))))) = omega arith
+bytes_fit k (suc (suc (suc (suc (suc (suc (suc (suc i)))))))) = omega arith
+
+-- the bytes of a key's slot are bytes
+spelled_bytes : (bytes : List ℕ) → ((i : ℕ) → get_or bytes i 0 < 256) → (i : ℕ) → get_or (spelled bytes) i 0 < 256
+spelled_bytes [] fits i = omega arith
+spelled_bytes (b ∷ bytes) fits zero = let low = fits 0 in omega arith
+spelled_bytes (b ∷ bytes) fits (suc zero) = omega arith
+spelled_bytes (b ∷ bytes) fits (suc (suc i)) = spelled_bytes bytes (λ j. fits (suc j)) i
+
+pub whole_bytes : (k i : ℕ) → get_or (whole_slot k) i 0 < 256
+whole_bytes k = spelled_bytes (big_bytes 8 k) (bytes_fit k)
+
+pub whole_reads_back : (k : ℕ) → k ≤ largest_key → whole_read (whole_slot k) ≡ Member k
 whole_reads_back k low =
     let fits : (i : ℕ) → get_or (big_bytes 8 k) i 0 < 256 = λ i. bytes_fit k i in
     let number : big_number 8 (spells (spelled (big_bytes 8 k))) ≡ k = ap (big_number 8) (spells_again (big_bytes 8 k) fits) ∙ big_number-reads_back 8 k [] (omega arith) in
-    whole_says _ _ _ k (never_shut (big_bytes 8 k)) (all_paired (big_bytes 8 k) fits) number low
-  where
-    bytes_fit : (k i : ℕ) → get_or (big_bytes 8 k) i 0 < 256
-    bytes_fit k zero = omega arith
-    bytes_fit k (suc zero) = omega arith
-    bytes_fit k (suc (suc zero)) = omega arith
-    bytes_fit k (suc (suc (suc zero))) = omega arith
-    bytes_fit k (suc (suc (suc (suc zero)))) = omega arith
-    bytes_fit k (suc (suc (suc (suc (suc zero))))) = omega arith
-    bytes_fit k (suc (suc (suc (suc (suc (suc zero)))))) = omega arith
-    bytes_fit k (suc (suc (suc (suc (suc (suc (suc zero))))))) = omega arith
-    bytes_fit k (suc (suc (suc (suc (suc (suc (suc (suc i)))))))) = omega arith
+    whole_says _ _ _ _ k (never_shut (big_bytes 8 k)) (all_paired (big_bytes 8 k) fits) number low
 
 -- paired bytes are those that what they spell is spelled by
 paired_high : (x y : ℕ) → x / 16 + x % 16 ≡ 15 → y / 16 + y % 16 ≡ 15 → y < 256 → 15 * ((16 * (x / 16) + y / 16) / 16 + 1) ≡ x
@@ -132,10 +143,42 @@ spelled_fit (x ∷ []) fits i = omega arith
 spelled_fit (x ∷ y ∷ bytes) fits zero = let high = fits 0 in let low = fits 1 in omega arith
 spelled_fit (x ∷ y ∷ bytes) fits (suc i) = spelled_fit bytes (λ j. fits (suc (suc j))) i
 
-pub whole_is_of_its_key : WholeIsOfItsKey
+pub whole_fits : (bytes : List ℕ) (k : ℕ) → whole_read bytes ≡ Member k → k ≤ largest_key
+whole_fits bytes k is = (whole_passes (is_shut bytes) (list_all (λ b. b == 0) bytes) (list_all is_paired bytes) (big_number 8 (spells bytes)) k is).3
+
+pub whole_is_of_its_key : (bytes : List ℕ) (k : ℕ) → length bytes ≡ 16 → ((i : ℕ) → get_or bytes i 0 < 256) → whole_read bytes ≡ Member k → (k ≤ largest_key) × (bytes ≡ whole_slot k)
 whole_is_of_its_key bytes k long fits is =
-    let passed = whole_passes (is_shut bytes) (list_all is_paired bytes) (big_number 8 (spells bytes)) k is in
+    let passed = whole_passes (is_shut bytes) (list_all (λ b. b == 0) bytes) (list_all is_paired bytes) (big_number 8 (spells bytes)) k is in
     let back = spelled_again 8 bytes (omega arith) fits passed.1 in
     let same : big_number 8 (spells bytes) ≡ from_be_bytes w64 (spells bytes) = omega (arith, back.1) in
     let rest : big_bytes 8 (big_number 8 (spells bytes)) ≡ spells bytes = be_bytes_8 (spells bytes) (big_number 8 (spells bytes)) back.1 (spelled_fit bytes fits) same in
     (passed.3, sym back.0 ∙ ap spelled (sym rest ∙ ap (big_bytes 8) passed.2))
+
+-- what is read of a shut slot
+pub shut_whole : (bytes : List ℕ) → is_shut bytes ≡ true → (whole_read bytes ≡ Closed) ⊎ (whole_read bytes ≡ Torn)
+shut_whole bytes shut = elim (cases_Bool (list_all (λ b. b == 0) bytes)) [
+  | inl none ↦ inl (rw shut (rw none refl))
+  | inr some ↦ inr (rw shut (rw some refl))
+]
+
+-- a slot that is read as closed is all zeros, and one that is read as torn is shut
+shut_tests : (shut none pairs : Bool) (x : ℕ) → whole_tests shut none pairs x ≡ Torn → shut ≡ true
+shut_tests shut none pairs x is = grind (arith, nat_tests)
+
+closed_tests : (shut none pairs : Bool) (x : ℕ) → whole_tests shut none pairs x ≡ Closed → none ≡ true
+closed_tests shut none pairs x is = grind (arith, nat_tests)
+
+pub torn_is_shut : (bytes : List ℕ) → whole_read bytes ≡ Torn → is_shut bytes ≡ true
+torn_is_shut bytes is = shut_tests (is_shut bytes) (list_all (λ b. b == 0) bytes) (list_all is_paired bytes) (big_number 8 (spells bytes)) is
+
+pub zeros : (xs : List ℕ) (n : ℕ) → length xs ≡ n → list_all (λ b. b == 0) xs ≡ true → xs ≡ replicate n 0
+zeros [] zero long all = refl
+zeros [] (suc n) long all = absurd (omega arith)
+zeros (x ∷ xs) zero long all = absurd (omega arith)
+zeros (x ∷ xs) (suc n) long all = elim (eqb_tells x 0) [
+  | inl t ↦ let rest = rw t.0 at all in let ih = zeros xs n (omega arith) rest in cc (t.1, ih)
+  | inr f ↦ let rest = rw f.0 at all in absurd cc
+]
+
+pub closed_is_zeros : (bytes : List ℕ) → length bytes ≡ 16 → whole_read bytes ≡ Closed → bytes ≡ replicate 16 0
+closed_is_zeros bytes long is = zeros bytes 16 long (closed_tests (is_shut bytes) (list_all (λ b. b == 0) bytes) (list_all is_paired bytes) (big_number 8 (spells bytes)) is)

@@ -1,7 +1,7 @@
 -- Worked rows: the bytes of slots of format 4, what is read of them, and what isn't.
 use Rattle.std.proofs.Common.{◌≡◌, ◌⊎◌, inl, inr, ℕ, [], ◌∷◌, ◌++◌, replicate, refl, arith}
 use Rattle.lz_slot.specs.declared.slot.SlotRead.{SlotRead}
-use Rattle.lz_slot.specs.declared.slot.SlotRead.TheVariants.{Closed, Member, BadKey}
+use Rattle.lz_slot.specs.declared.slot.SlotRead.TheVariants.{Closed, Torn, Member, BadKey}
 use Rattle.lz_slot.specs.Limits.{largest_key}
 use Rattle.lz_slot.specs.Whole.{whole_slot, whole_read, IsPartOf}
 
@@ -18,17 +18,17 @@ digits_read = refl
 largest_reads : whole_read (whole_slot largest_key) ≡ Member largest_key
 largest_reads = refl
 
--- one zero closes a slot, wherever it stands, and whatever the other bytes are
+-- zeros are a closed slot; one zero closes a slot, wherever it stands, and whatever the other bytes are
 zeros_are_closed : whole_read (replicate 16 0) ≡ Closed
 zeros_are_closed = refl
 
-first_zero : whole_read (0 ∷ replicate 15 15) ≡ Closed
+first_zero : whole_read (0 ∷ replicate 15 15) ≡ Torn
 first_zero = refl
 
-last_zero : whole_read (replicate 15 15 ++ 0 ∷ []) ≡ Closed
+last_zero : whole_read (replicate 15 15 ++ 0 ∷ []) ≡ Torn
 last_zero = refl
 
-zero_amid : whole_read (replicate 7 255 ++ 0 ∷ replicate 8 255) ≡ Closed
+zero_amid : whole_read (replicate 7 255 ++ 0 ∷ replicate 8 255) ≡ Torn
 zero_amid = refl
 
 -- a byte that isn't paired, as after one flipped bit, and a rank that no key has
@@ -43,7 +43,7 @@ one_too_large = refl
 
 -- so these aren't read as a key
 not_by_its_first_byte : whole_read (15 ∷ replicate 15 0) ≡ Member 0 → ⊥
-not_by_its_first_byte is = let e : ◌≡◌ {A = SlotRead} Closed (Member 0) = is in absurd cc
+not_by_its_first_byte is = let e : ◌≡◌ {A = SlotRead} Torn (Member 0) = is in absurd cc
 
 not_of_zeros : whole_read (replicate 16 0) ≡ Member 0 → ⊥
 not_of_zeros is = let e : ◌≡◌ {A = SlotRead} Closed (Member 0) = is in absurd cc

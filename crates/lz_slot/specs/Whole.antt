@@ -1,10 +1,10 @@
 -- The slots of format 4: each byte is four bits of the rank and, below them, their complement. None of them is zero.
-use Rattle.std.specs.Prelude.{◌≡◌, ◌⊎◌, ◌≢◌, ℕ, ◌+◌, ◌*◌, ◌/◌, ◌%◌, ◌≤◌, ◌<◌, Bool, true, ◌&&◌, ◌==◌, nat_le, List, [], ◌∷◌, length, slice_index, replicate, if◌then◌else◌}
+use Rattle.std.specs.Prelude.{◌≡◌, ◌⊎◌, ℕ, ◌+◌, ◌*◌, ◌/◌, ◌%◌, ◌<◌, Bool, true, ◌&&◌, ◌==◌, nat_le, List, [], ◌∷◌, length, slice_index, if◌then◌else◌}
 use Rattle.std.specs.List.{list_all, list_any}
 use Rattle.byteorder.specs.Endian.{big_number, big_bytes}
 use Rattle.lz_slot.specs.Limits.{largest_key}
 use Rattle.lz_slot.specs.declared.slot.SlotRead.{SlotRead}
-use Rattle.lz_slot.specs.declared.slot.SlotRead.TheVariants.{Closed, Member, BadKey}
+use Rattle.lz_slot.specs.declared.slot.SlotRead.TheVariants.{Closed, Torn, Member, BadKey}
 
 -- the bytes of which each spells half a byte of these: 15 * (h + 1) is 16 * h and, below it, 15 - h
 abbrev pub spelled : List ℕ → List ℕ
@@ -29,24 +29,16 @@ is_paired b = b / 16 + b % 16 == 15
 abbrev pub is_shut : List ℕ → Bool
 is_shut bytes = list_any (λ b. b == 0) bytes
 
--- what the sixteen bytes of a slot say
+-- what the sixteen bytes of a slot say: a closed one that isn't all zeros was being written at a crash
 abbrev pub whole_read : List ℕ → SlotRead
 whole_read bytes =
-    if is_shut bytes then Closed
+    if is_shut bytes then (if list_all (λ b. b == 0) bytes then Closed else Torn)
     else if list_all is_paired bytes && nat_le (big_number 8 (spells bytes)) largest_key then Member (big_number 8 (spells bytes))
     else BadKey
 
 -- each byte of a text is zero or the other's
 abbrev pub IsPartOf : List ℕ → List ℕ → Type 0
 IsPartOf t whole = (length t ≡ length whole) × ((i : ℕ) → i < length whole → (slice_index t i ≡ 0) ⊎ (slice_index t i ≡ slice_index whole i))
-
--- a key's slot is read as the key
-abbrev pub WholeReadsBack : Type 0
-WholeReadsBack = (k : ℕ) → k ≤ largest_key → whole_read (whole_slot k) ≡ Member k
-
--- sixteen bytes that are read as a key are its slot
-abbrev pub WholeIsOfItsKey : Type 0
-WholeIsOfItsKey = (bytes : List ℕ) (k : ℕ) → length bytes ≡ 16 → ((i : ℕ) → slice_index bytes i < 256) → whole_read bytes ≡ Member k → (k ≤ largest_key) × (bytes ≡ whole_slot k)
 
 -- each mixture of zeros with a key's slot is closed, or is that slot
 abbrev pub MixturesAreWhole : Type 0

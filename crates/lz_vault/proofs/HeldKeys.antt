@@ -7,7 +7,7 @@ use Rattle.std.proofs.lemmas.List.Elements.{filter_map-append}
 use Rattle.std.proofs.lemmas.Option.{slice_get-get_or, same_Some}
 use Rattle.lz_slot.specs.Rooms.{largest_of}
 use Rattle.lz_slot.specs.declared.format.Format.{Format}
-use Rattle.lz_slot.specs.declared.format.Format.TheVariants.{One, Two, Three}
+use Rattle.lz_slot.specs.declared.format.Format.TheVariants.{One, Two, Three, Four}
 use Rattle.lz_slot.specs.Sets.{Same, members}
 use Rattle.lz_slot.specs.Bytes.{Holds, held, held_key, slot_at}
 use Rattle.lz_slot.specs.declared.slot.SlotRead.{SlotRead}
@@ -23,7 +23,7 @@ use Rattle.lz_vault.specs.Scans.{Finds}
 use Rattle.lz_vault.specs.Renewals.{AreHeldBy}
 use Rattle.lz_vault.specs.declared.vault.Entry.{Entry}
 use Rattle.lz_vault.specs.declared.vault.Stage.{Stage}
-use Rattle.lz_vault.specs.declared.vault.Stage.TheVariants.{Closed, KeyLoose, Keyed, Opening, Open, Closing}
+use Rattle.lz_vault.specs.declared.vault.Stage.TheVariants.{Closed, Torn, KeyLoose, Keyed, Opening, Open, Closing}
 use Rattle.lz_vault.proofs.Changes.{from_mapped}
 use Rattle.lz_vault.proofs.OpeningFinds.{counted, found}
 
@@ -83,6 +83,7 @@ apart (cell ∷ cells) distinct =
 same_later : (stage : Stage) (key : ℕ) (cells : List Cell) (k : ℕ) → keys_of cells k ≡ members (keys_in cells) k
     → ((is_open stage && key == k) || keys_of cells k) ≡ members (cons_option (member_in (record { stage = stage; key = key })) (keys_in cells)) k
 same_later Closed key cells k same = same
+same_later Torn key cells k same = same
 same_later KeyLoose key cells k same = same
 same_later Keyed key cells k same = same
 same_later Opening key cells k same = same
@@ -99,11 +100,13 @@ member_of stage key = member_in (record { stage = stage; key = key })
 
 read_key : (said : SlotRead) (stage : Stage) (key n : ℕ) → IsCellOf said (record { stage = stage; key = key }) → cons_option (member_of stage key) [] ≡ map (λ (node : ℕ × ℕ). node.0) (held_key said n)
 read_key read.Closed stage key n is = ap (λ (s : Stage). cons_option (member_of s key) []) is
+read_key read.Torn stage key n is = ap (λ (s : Stage). cons_option (member_of s key) []) is
 read_key (read.Member k) stage key n is = ap (λ (s : Stage). cons_option (member_of s key) []) is.0 ∙ ap (λ (q : ℕ). q ∷ []) is.1
 read_key read.BadKey stage key n is = absurd is
 
 key_of_member : (stage : Stage) (key k : ℕ) → member_of stage key ≡ Some k → key ≡ k
 key_of_member Closed key k is = absurd cc
+key_of_member Torn key k is = absurd cc
 key_of_member KeyLoose key k is = absurd cc
 key_of_member Keyed key k is = absurd cc
 key_of_member Opening key k is = absurd cc
@@ -130,6 +133,7 @@ fits_three : (format : Format) (k : ℕ) → k ≤ largest_of format → k ≤ l
 fits_three One k fits = omega (arith, fits)
 fits_three Two k fits = fits
 fits_three Three k fits = fits
+fits_three Four k fits = fits
 
 module _ (before after : Device) (format : Format) (entries : List Entry) (finds : Finds before after format entries) where
   -- what is read holds these keys

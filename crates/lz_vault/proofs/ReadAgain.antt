@@ -5,7 +5,7 @@ use Rattle.std.proofs.lemmas.Bool.{cases_lt}
 use Rattle.std.proofs.lemmas.List.{append-nil, map-append, take_all, take_more}
 use Rattle.lz_slot.specs.Rooms.{largest_of}
 use Rattle.lz_slot.specs.declared.format.Format.{Format}
-use Rattle.lz_slot.specs.Bytes.{format_of, held, held_key, slot_at, slot_bytes, slot_read}
+use Rattle.lz_slot.specs.Bytes.{format_of, held, held_key, slot_at, slot_read}
 use Rattle.lz_slot.specs.declared.slot.SlotRead.{SlotRead}
 use Rattle.lz_slot.specs.declared.slot.SlotRead.TheVariants.{Closed, Member}
 use Rattle.lz_slot.proofs.Files.ExactBytes.{slot_reads_back}
@@ -13,7 +13,7 @@ use Rattle.lz_disk.specs.Images.{Medium}
 use Rattle.lz_vault.specs.Makes.{IsRenewed}
 use Rattle.lz_vault.specs.Renewals.{AreHeldBy}
 use Rattle.lz_vault.proofs.FilledTexts.{text_blank, text_open}
-use Rattle.lz_vault.proofs.MakingTexts.{slot_closed}
+use Rattle.lz_vault.proofs.MakingTexts.{zeros_closed}
 
 -- a text's keys are one list
 pub one_list : (t : List ℕ) (ks js : List ℕ) → AreHeldBy t ks → AreHeldBy t js → ks ≡ js
@@ -28,12 +28,12 @@ module _ (disk : Medium) (format : Format) (n : ℕ) (ks : List ℕ) (is : IsRen
 
   says_key : (i : ℕ) → i < length ks → slot_at disk.seen i ≡ Member (get_or ks i 0)
   says_key i lt =
-      (λ p. slot_read (is.named p) ((is.slots i (omega (arith, lt, few)) ∙ text_open ks i lt) p))
+      (λ p. slot_read (is.named p) ((is.slots i (omega (arith, lt, few)) ∙ text_open format ks i lt) p))
       ∙ slot_reads_back format (get_or ks i 0) (fit i lt)
 
   says_none : (i : ℕ) → i < n → length ks ≤ i → slot_at disk.seen i ≡ Closed
   says_none i lt le =
-      slot_closed (format_of disk.seen) (slot_bytes disk.seen i) (ap (λ (l : List ℕ). get_or l 0 0) (is.slots i lt) ∙ ap (λ (l : List ℕ). get_or l 0 0) (text_blank ks i le))
+      ap (slot_read (format_of disk.seen)) (is.slots i lt ∙ text_blank format ks i le) ∙ zeros_closed (format_of disk.seen)
 
   key_of_slot : (i : ℕ) (said : SlotRead) → slot_at disk.seen i ≡ said → keys_below (suc i) ≡ keys_below i ++ map (λ (node : ℕ × ℕ). node.0) (held_key said i)
   key_of_slot i said says = map-append (λ (node : ℕ × ℕ). node.0) (held disk.seen i) (held_key (slot_at disk.seen i) i) ∙ ap (λ (s : SlotRead). keys_below i ++ map (λ (node : ℕ × ℕ). node.0) (held_key s i)) says

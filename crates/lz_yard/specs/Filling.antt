@@ -1,5 +1,5 @@
 -- What an open makes of the members that the vault found.
-use Rattle.std.specs.Prelude.{◌≡◌, ℕ, suc, true, false, if◌then◌else◌, IsTrue, List, [], ◌∷◌, length, map, replicate}
+use Rattle.std.specs.Prelude.{◌≡◌, ℕ, suc, Bool, true, false, if◌then◌else◌, IsTrue, List, [], ◌∷◌, length, map, replicate}
 use Rattle.std.specs.List.{range_with_len}
 use Rattle.lz_disk.specs.Devices.{Device}
 use Rattle.lz_vault.specs.Stages.{Cell}
@@ -37,9 +37,13 @@ pub record AreTables (cells : List Cell) (buckets passes : ℕ) (list : Listed) 
   pub rows : length allot.rows ≡ passes
   pub idle : actors ≡ replicate passes idle_actor
 
--- The yard is that of a text with which a life may begin: the text read, where the device is honest.
-abbrev pub IsFirst : Device → Yard → Type 0
-IsFirst before y = (t : List ℕ) × (IsTrue before.honest → t ≡ before.medium.seen) × IsStart (record { bytewise = before.medium.bytewise; shape = y.shape; text = t }) × (y ≡ opened_yard y.shape t)
+-- The yard is that of a start of a life: with the text read, and on its disk, where the device is honest.
+pub record IsFirst (before : Device) (y : Yard) : Type 0 where
+  pub bytewise : Bool
+  pub text : List ℕ
+  pub read : IsTrue before.honest → (bytewise ≡ before.medium.bytewise) × (text ≡ before.medium.seen)
+  pub starts : IsStart (record { bytewise = bytewise; shape = y.shape; text = text })
+  pub yard : y ≡ opened_yard y.shape text
 
 -- An open of a yard succeeded: its vault was opened, and the yard is that of the text read.
 pub record OpensYard (before after : Device) (B S : ℕ) (y : Yard) : Type 0 where

@@ -4,7 +4,7 @@ ghost use Rattle.lz_slot.specs.Limits.{most_buckets, most_passes};
 ghost use Rattle.lz_allot.specs.Uses.{counts};
 ghost use Rattle.lz_list.specs.Words.{set};
 ghost use Rattle.lz_list.specs.Lists.{IsWord};
-ghost use Rattle.lz_vault.specs.Opens.{IsRefusedFor};
+ghost use Rattle.lz_vault.specs.Opens.{IsRefusedFor, MayOpen};
 ghost use Rattle.lz_yard.specs.Filling.{OpensYard};
 ghost use Rattle.lz_machine.specs.Ready.{IsEventOf};
 ghost use Rattle.lz_machine.specs.Runs.{MayPlay, with_words};
@@ -49,6 +49,7 @@ impl<D: Disk> Yard<D> {
         buckets: usize,
         passes: usize,
     ) -> Result<Yard<D>, Refused<D>>
+        requires disk { MayOpen (D.device disk) }
         requires buckets { (1 ≤ buckets) × (buckets ≤ most_buckets) }
         requires passes { (1 ≤ passes) × (passes ≤ most_passes) }
         ensures ok { IfOk result (λ yard. OpensYard (D.device disk) (D.device yard.disk) buckets passes yard.yard) }

@@ -1,7 +1,12 @@
 //! The commands over a disk in memory.
+ghost use Rattle.std.specs.Prelude.{IfOk};
+ghost use Rattle.lz_disk.specs.Records.{device_of};
+ghost use Rattle.lz_vault.specs.Opens.{MayOpen};
+
 use lazyset_commands::{make_on, run_on};
 use lz_disk::MemoryDisk;
 use lz_slot::Format;
+use lz_vault::suit;
 use std::alloc::{AllocError, Global};
 use std::sync::Wait;
 use std::test::Fail;
@@ -22,8 +27,12 @@ pub const HELD: [u8; 48] = [
 ];
 
 /// A disk in memory with these bytes.
-pub fn disk_with(alloc: Global, bytes: &[u8]) -> Result<MemoryDisk, AllocError> {
-    MemoryDisk::new(alloc, bytes.to_vec(alloc)?)
+pub fn disk_with(alloc: Global, bytes: &[u8]) -> Result<MemoryDisk, AllocError>
+    ensures { IfOk result (λ disk. MayOpen (device_of disk)) }
+{
+    let mut disk = MemoryDisk::new(alloc, bytes.to_vec(alloc)?)?;
+    suit(&mut disk);
+    Ok(disk)
 }
 
 /// What a command ended with and printed, and the disk that it left.
@@ -38,6 +47,8 @@ pub struct Ran {
 pub fn run<R: Wait + Clock + AllocGlobal>(rt: &R, disk: MemoryDisk, lines: &[u8]) -> Ran {
     let mut input = lines;
     let mut printed: Vec<u8> = Vec::new(rt.alloc());
+    let mut disk = disk;
+    suit(&mut disk);
     let (status, disk) = run_on(rt, &mut input, &mut printed, disk, 1);
     Ran {
         code: status.code(),

@@ -8,6 +8,7 @@ use crate::commands::{HELD, Ran, TWO_SLOTS, disk_with};
 use lazyset_commands::{Status, make_on, run_on};
 use lz_disk::{Disk, FileDisk, MemoryDisk, Pick};
 use lz_slot::Format;
+use lz_vault::suit;
 use std::alloc::{AllocError, Global};
 use std::sync::Wait;
 use std::test::Fail;
@@ -38,6 +39,8 @@ fn make(alloc: Global, file: MemoryDisk) -> Ran {
 fn run<R: Wait + Clock + AllocGlobal>(rt: &R, file: MemoryDisk, lines: &[u8]) -> Ran {
     let mut input = lines;
     let mut printed: Vec<u8> = Vec::new(rt.alloc());
+    let mut file = file;
+    suit(&mut file);
     let (status, disk) = run_on(rt, &mut input, &mut printed, FileDisk::over(file), 1);
     Ran {
         code: status.code(),

@@ -11,6 +11,7 @@ use lz_proto::Reply;
 use lz_resp::Figures;
 use lz_serve::{Bounds, Lack, Listener, Observer, Serving, Verb, serve_loop};
 use lz_set::{Blank, Named, NoGate, Pass, Set};
+use lz_vault::suit;
 use std::alloc::Global;
 use std::cell::{Cell, RefCell};
 use std::io;
@@ -158,6 +159,8 @@ pub fn serve_on<R: Wait + Clock + AllocGlobal>(
     network: &RefCell<Network>,
     most: u64,
 ) -> Option<Ended> {
+    let mut disk = disk;
+    suit(&mut disk);
     match Set::open(rt.alloc(), disk, NoGate, 3, PASSES) {
         Ok(blank) => Some(serve_blank::<Brand, R>(rt, blank, network, most)),
         Err(_) => None,

@@ -97,6 +97,8 @@ impl<'a> Stream for Wire<'a> {
 
     ghost promised = { λ _. ⊤ };
 
+    ghost listed = { λ _. ⊤ };
+
     fn language(&self) -> Language {
         Language::Lines
     }

@@ -7,6 +7,7 @@ ghost use Rattle.lz_set.specs.Names.{MayCall};
 use lz_disk::MemoryDisk;
 use lz_set::{Blank, Glance, Named, NoGate, Pass, Set};
 use lz_slot::{Format, Key, OPEN_GATE, header_body, slot_body};
+use lz_vault::suit;
 use std::alloc::{AllocError, Global};
 use std::io::{self, ErrorKind};
 use std::marker::Brand;
@@ -211,7 +212,8 @@ where
         members: *members,
         time: Duration::from_millis(*milliseconds),
     };
-    let disk = MemoryDisk::new(rt.alloc(), file_of(rt.alloc(), *members)?)?;
+    let mut disk = MemoryDisk::new(rt.alloc(), file_of(rt.alloc(), *members)?)?;
+    suit(&mut disk);
     let buckets = (*buckets).clamp(1, 4096) as usize;
     let passes = threads.saturating_add(*writers).clamp(1, 64) as usize;
     match Set::open(rt.alloc(), disk, NoGate, buckets, passes) {

@@ -9,7 +9,7 @@ use crate::file::{disk, is_as_before};
 use lz_disk::MemoryDisk;
 use lz_set::{Blank, Named, NoGate, Pass, Set};
 use lz_slot::Key;
-use lz_vault::Refused;
+use lz_vault::{Refused, suit};
 use std::marker::Brand;
 use std::sync::Wait;
 
@@ -37,13 +37,14 @@ fn open_again<R: Print + AllocGlobal>(
 ) -> Result<Blank<MemoryDisk, NoGate>, Fault>
     ensures { IfOk result (λ blank. MayBeNamed device_of blank.board (device_of blank.disk) blank.yard.vault.format blank) }
 {
-    let Refused { disk, fault } = refused;
+    let Refused { mut disk, fault } = refused;
     let told = fault;
     let number = told.number();
     if !is_as_before(fault, &disk) {
         return Err(Fault::Wrong);
     }
     println!(rt; "again Set::open {number}")?;
+    suit(&mut disk);
     match Set::open(rt.alloc(), disk, NoGate, 1, 2) {
         Ok(blank) => Ok(blank),
         Err(_) => Err(Fault::Wrong),

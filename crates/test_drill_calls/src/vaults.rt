@@ -3,7 +3,7 @@ use crate::fault::Fault;
 use crate::file::{disk, is_as_before};
 use lz_disk::MemoryDisk;
 use lz_slot::Slot;
-use lz_vault::{Refused, Vault};
+use lz_vault::{Refused, Vault, suit};
 
 pub fn drill<R: Print + AllocGlobal>(rt: &R) -> Result<(), Fault> {
     let vault = open(rt)?;
@@ -31,13 +31,14 @@ fn open_again<R: Print + AllocGlobal>(
     rt: &R,
     refused: Refused<MemoryDisk>,
 ) -> Result<Vault<MemoryDisk>, Fault> {
-    let Refused { disk, fault } = refused;
+    let Refused { mut disk, fault } = refused;
     let told = fault;
     let number = told.number();
     if !is_as_before(fault, &disk) {
         return Err(Fault::Wrong);
     }
     println!(rt; "again Vault::open {number}")?;
+    suit(&mut disk);
     match Vault::open(rt.alloc(), disk) {
         Ok(vault) => Ok(vault),
         Err(_) => Err(Fault::Wrong),

@@ -16,6 +16,7 @@ use Rattle.lz_serve.specs.declared.reader.Reader.TheVariants as reader
 use Rattle.lz_serve.specs.LineSessions.{IsGranted, LinesCame}
 use Rattle.lz_serve.proofs.LineSessions.{lines_are_sessions}
 use Rattle.lz_serve.specs.Grants.{AreGranted, IsGrant}
+use Rattle.lz_serve.specs.Listings.{IsListing}
 use Rattle.lz_serve.specs.Streams.{MayTake, Traffic}
 use Rattle.test_threads.specs.Tapes.{IsTape}
 
@@ -77,14 +78,14 @@ sent_on sent text rest count =
 
 -- a beginning was sent of what might be
 pub told_on : (b : BoardId) (F : Format) (old : Traffic) (text sent piece new : List ℕ) (read count : ℕ) (ended : Bool) → traffic (take read text) ended sent ≡ old → IsTape b F text read ended sent
-    → MayTake (AreGranted b F) (Some old) piece → new ≡ sent ++ take count piece → IsTape b F text read ended new
+    → MayTake (AreGranted b F) (IsListing b) (Some old) piece → new ≡ sent ++ take count piece → IsTape b F text read ended new
 told_on b F old text sent piece new read count ended is tape may longer =
-    let may : MayTake (AreGranted b F) (Some (traffic (take read text) ended sent)) piece = subst (λ (o : Traffic). MayTake (AreGranted b F) (Some o) piece) (sym is) may in
+    let may : MayTake (AreGranted b F) (IsListing b) (Some (traffic (take read text) ended sent)) piece = subst (λ (o : Traffic). MayTake (AreGranted b F) (IsListing b) (Some o) piece) (sym is) may in
     by_talk may
   where
-    by_talk : MayTake (AreGranted b F) (Some (traffic (take read text) ended sent)) piece → IsTape b F text read ended new
+    by_talk : MayTake (AreGranted b F) (IsListing b) (Some (traffic (take read text) ended sent)) piece → IsTape b F text read ended new
     by_talk (connection, t, (grants, granted, at, spoken, goes), rest, is_rest) =
-        let s = lines_are_sessions connection grants (take read text) sent t spoken at in
+        let s = lines_are_sessions (IsListing b) connection grants (take read text) sent t spoken at in
         let first = first_items ended text read s.done s.left t.reader tape.whole goes s.came in
         let split : sent ++ t.unsent ≡ new ++ (drop count piece ++ rest) =
         ap (λ (x : List ℕ). sent ++ x) is_rest ∙ sent_on sent piece rest count ∙ ap (λ (x : List ℕ). x ++ (drop count piece ++ rest)) (sym longer) in

@@ -10,6 +10,7 @@ use lz_disk::MemoryDisk;
 use lz_proto::End;
 use lz_set::{Blank, Fault, Named, NoGate, Pass, Set};
 use lz_slot::{Command, Key};
+use lz_vault::suit;
 use std::alloc::Global;
 use std::marker::Brand;
 use std::process::Abort;
@@ -81,6 +82,8 @@ fn play<N: Named, R: Wait>(
 
 // The same on a set that the disk holds.
 fn play_on<R: Wait>(rt: &R, alloc: Global, disk: MemoryDisk, count: usize) -> Option<Played> {
+    let mut disk = disk;
+    suit(&mut disk);
     match Set::open(alloc, disk, NoGate, 1, 1) {
         Ok(blank) => play::<Brand, _>(rt, alloc, blank, count),
         Err(_) => None,

@@ -9,6 +9,7 @@ use lz_disk::MemoryDisk;
 use lz_proto::{End, SessionFault, session};
 use lz_serve::Seated;
 use lz_set::{Blank, Named, NoGate, Pass, Set};
+use lz_vault::suit;
 use std::alloc::Global;
 use std::io::{Read, Write};
 use std::marker::Brand;
@@ -89,6 +90,8 @@ pub fn talk_on<I: Read, O: Write, R: Wait + Clock>(
     reader: &mut I,
     writer: &mut O,
 ) -> Option<Talked> {
+    let mut disk = disk;
+    suit(&mut disk);
     match Set::open(alloc, disk, NoGate, 1, 2) {
         Ok(blank) => talk::<Brand, I, O, R>(rt, alloc, blank, reader, writer),
         Err(_) => None,

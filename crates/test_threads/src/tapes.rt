@@ -87,10 +87,13 @@ impl<'a, N: Named> Tape<'a, N> {
 impl<'a, N: Named> Stream for Tape<'a, N> {
     ghost use Rattle.std.specs.Prelude.{Some};
     ghost use Rattle.lz_serve.specs.Grants.{AreGranted};
+    ghost use Rattle.lz_serve.specs.Listings.{IsListing};
 
     ghost traffic = { λ t. Some t };
 
     ghost promised = { AreGranted N.board N.format };
+
+    ghost listed = { IsListing N.board };
 
     fn language(&self) -> Language {
         // What its contract sees is known where a field is read.

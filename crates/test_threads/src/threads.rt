@@ -8,6 +8,7 @@ ghost use Rattle.lz_disk.specs.Records.{device_of};
 use lz_disk::{MemoryDisk, Pick};
 use lz_set::{Blank, Fault, Named, NoGate, Pass, Set, StepGate};
 use lz_slot::{Command, Key};
+use lz_vault::suit;
 use std::alloc::Global;
 use std::marker::Brand;
 use std::process::Abort;
@@ -204,6 +205,8 @@ fn run<R: Threads + Wait + Sync + Abort>(
     requires buckets { (1 ≤ buckets) × (buckets ≤ most_buckets) }
     requires threads { (1 ≤ threads) × (threads ≤ most_passes) }
 {
+    let mut disk = disk;
+    suit(&mut disk);
     match Set::open(alloc, disk, NoGate, buckets, threads) {
         Ok(blank) => share::<Brand, _>(rt, alloc, blank, rounds),
         Err(_) => panic!(rt; "no set"),

@@ -75,9 +75,9 @@ module _ {D : Type 0} (device : D → Device) (buckets : ℕ) (state : Status) (
     sized : b.sizes.slots ≡ N
     sized =
         let first = ran.opens.first in
-        let is = first.2.text.size in
+        let is = first.starts.text.size in
         let was = held.size in
-        let read = ap (λ (t : List ℕ). length t) (first.1 honest) in
+        let read = ap (λ (t : List ℕ). length t) (first.read honest).1 in
         let same : y.shape.slots ≡ N = omega (arith, is, was, read) in
         ap (λ (z : Sizes). z.slots) ran.sizes ∙ same
 
@@ -97,7 +97,7 @@ module _ {D : Type 0} (device : D → Device) (buckets : ℕ) (state : Status) (
     begins : S0 ≡ S
     begins =
         let first = ran.opens.first in
-        let in_words = ran.sizes ∙ sym (opened_sizes y first.0 first.2 first.3) in
+        let in_words = ran.sizes ∙ sym (opened_sizes y first.text first.starts first.yard) in
         let text : ExplainsBegun b [] seen = same_set_explains b (device old) mid buckets 1 y ran.opens in_words ran.trace [] honest S at_slots seen at_slots in
         let there = none_made F0 b.sizes.slots S0 seen (moments_are_plain b F0 [] [] (part seat.begun) (part seat.begun) no_calls seen text) in
         same_is S0 S (one_set seen b.sizes.slots S0 S there at_slots)

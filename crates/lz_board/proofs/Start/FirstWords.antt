@@ -6,7 +6,7 @@ use Rattle.std.proofs.lemmas.Bool.{cases_eq, lt-ltb}
 use Rattle.std.proofs.lemmas.Bool.Decides.{nat_tests, eqb_tells}
 use Rattle.std.proofs.lemmas.List.{length-replicate}
 use Rattle.lz_slot.specs.declared.slot.SlotRead.{SlotRead}
-use Rattle.lz_slot.specs.declared.slot.SlotRead.TheVariants.{Closed, Member, BadKey}
+use Rattle.lz_slot.specs.declared.slot.SlotRead.TheVariants.{Closed, Torn, Member, BadKey}
 use Rattle.lz_slot.specs.Bytes.{slot_at, held, held_key}
 use Rattle.lz_list.specs.declared.word.Word.TheVariants.{Head, Link, Key}
 use Rattle.lz_list.specs.Words.{Words, bit_of, link_with}
@@ -124,11 +124,13 @@ module _ (N B S : ℕ) (m : ℕ → Option ℕ) (found : IsFound N (members_by m
 abbrev key_read : SlotRead → Option ℕ
 key_read (Member k) = Some k
 key_read Closed = None
+key_read Torn = None
 key_read BadKey = None
 
 held_node : (r : SlotRead) (s : ℕ) → held_key r s ≡ node_of (key_read r) s
 held_node (Member k) s = refl
 held_node Closed s = refl
+held_node Torn s = refl
 held_node BadKey s = refl
 
 held_by : (t : List ℕ) (n : ℕ) → held t n ≡ members_by (λ s. key_read (slot_at t s)) n

@@ -188,15 +188,15 @@ module _ (shape : Shape) (t : List ℕ) (found : Keys) (some : 1 ≤ shape.bucke
   abbrev first_words : Words
   first_words = (opened_yard shape t).words
 
-  first_up : UpSound (length first) 0 (opened_service shape t) (at_rest false t) (record { start = found; history = [] }) first (first_notes shape t)
-  first_up = opened_up shape t found some holds bytes false 0
+  first_up : UpSound (length first) 0 (opened_service shape t) (at_rest true t) (record { start = found; history = [] }) first (first_notes shape t)
+  first_up = opened_up shape t found some holds bytes true 0 (λ four. refl)
 
   found_here : (k : ℕ) → member k first ≡ members (keys_found t shape.slots) k
   found_here k = opening_members shape.buckets k (held t shape.slots) ∙ sym (key_by k (held t shape.slots)) ∙ sym (any_key k (by_key (held t shape.slots)))
 
   found_among : (k : ℕ) → IsAmong first_words (length first_words.links) k ↔ (members (keys_found t shape.slots) k ≡ true)
   found_among k =
-      let among = among_members (length first) 0 (opened_service shape t) (at_rest false t) (record { start = found; history = [] }) first (first_notes shape t) first_up k in
+      let among = among_members (length first) 0 (opened_service shape t) (at_rest true t) (record { start = found; history = [] }) first (first_notes shape t) first_up k in
       let tells = members_after shape.slots shape.buckets first (few_slots first_up.sound.images) first_up.sound.trace.lawful first_words refl refl refl some k in
       ((λ is. sym (found_here k) ∙ tells.0 (among.0 is)), (λ is. among.1 (tells.1 (found_here k ∙ is))))
 
@@ -206,7 +206,7 @@ module _ (shape : Shape) (t : List ℕ) (found : Keys) (some : 1 ≤ shape.bucke
 
 -- where the device is honest the yard is that of the text read
 pub yard_read : (before after : Device) (B S : ℕ) (y : Yard) → OpensYard before after B S y → IsTrue before.honest → y ≡ opened_yard y.shape before.medium.seen
-yard_read before after B S y opens honest = opens.first.3 ∙ ap (opened_yard y.shape) (opens.first.1 honest)
+yard_read before after B S y opens honest = opens.first.yard ∙ ap (opened_yard y.shape) (opens.first.read honest).1
 
 pub opened_keys : (before after : Device) (B S : ℕ) (y : Yard) → OpensYard before after B S y → IsTrue before.honest → 1 ≤ B
     → (keys : List ℕ) → ((k : ℕ) → (members keys k ≡ true) ↔ IsAmong y.words (length y.words.links) k) → Ascend keys → keys ≡ keys_found before.medium.seen y.shape.slots

@@ -1,14 +1,16 @@
 -- A world whose disk is opened.
-use Rattle.std.proofs.Common.{◌≡◌, inl, inr, ℕ, Bool, IsTrue, if◌then◌else◌, zero, suc, ◌≤◌, false, List, [], ◌∷◌, length, map, slice_get, ◌%◌, ◌==◌, Option, Some, None, refl, sym, ap, ◌∙◌, subst, arith, replicate}
+use Rattle.std.proofs.Common.{◌≡◌, inl, inr, ℕ, Bool, IsTrue, if◌then◌else◌, zero, suc, ◌≤◌, true, false, List, [], ◌∷◌, length, map, slice_get, ◌%◌, ◌==◌, Option, Some, None, refl, sym, ap, ◌∙◌, subst, arith, replicate}
 use Rattle.std.proofs.lemmas.List.{length-map, length-replicate}
 use Rattle.lz_slot.specs.Limits.{most_actors, most_buckets}
 use Rattle.lz_slot.specs.declared.history.Mark.TheVariants.{Opened as opened}
 use Rattle.lz_slot.specs.declared.format.Format.{Format}
-use Rattle.lz_slot.specs.Bytes.{Holds}
+use Rattle.lz_slot.specs.Bytes.{Holds, format_of}
 use Rattle.lz_slot.specs.Sets.{Keys, members}
 use Rattle.lz_slot.specs.Histories.{Life, lives}
 use Rattle.lz_disk.specs.Images.{Medium, AreBytes, at_rest, synced}
 use Rattle.lz_disk.specs.Records.{MustFail, Past, after, device_of}
+use Rattle.lz_vault.specs.Stages.{Suits}
+use Rattle.lz_vault.specs.Opens.{MayOpen}
 use Rattle.lz_vault.specs.Makes.{IsFresh}
 use Rattle.lz_core.specs.declared.play.Step.TheVariants.{Open}
 use Rattle.lz_core.specs.declared.open_calls.OpenCall.{OpenCall}
@@ -16,7 +18,8 @@ use Rattle.lz_machine.specs.Yards.{Shape, Yard, cell_read, slots_read, opened_ya
 use Rattle.lz_yard.specs.Filling.{OpensYard}
 use Rattle.lz_yard.specs.Parts.{YardOver}
 use Rattle.lz_machine.specs.Runs.{Caller, Start, IsStart, start_keys, State, Up, Down, Opens, Point, first_point, opened_service, keys_found}
-use Rattle.lz_machine.specs.Sound.{StateSound, PointSound, IsSound}
+use Rattle.lz_list.specs.Traces.{Trace}
+use Rattle.lz_machine.specs.Sound.{DownSound, StateSound, PointSound, IsSound}
 use Rattle.lz_machine.specs.Points.{IsBetweenLooks}
 use Rattle.lz_judge.specs.MarkLines.{AscendFrom}
 use Rattle.lz_core.specs.Worlds.{WorldOver, Goes, IsNew, IsWorld, HasOne, HasRun, IsCallOn, PlaysOn, armed, call_shown, state_shown, world_shown}
@@ -46,18 +49,30 @@ no_call_on shape (suc n) (suc i) call is = no_call_on shape n i call is
 quiet_at_first : (shape : Shape) (t : List ℕ) (disk : Medium) → IsBetweenLooks (Up (opened_service shape t) disk)
 quiet_at_first shape t disk a none = ap (λ (q : ℕ). q % 2 == 0) (pass_of shape.passes a 0)
 
--- the disk of a world without a service holds a set of as many slots as its shape has
-down_holds : (start : Start) (p : Point) (L : List Life) (shape : Shape) (disk : Medium) → PointSound start p L → p.state ≡ Down shape disk → (S : Keys) × Holds disk.seen shape.slots S
-down_holds start p [] shape disk h is = absurd h
-down_holds start p (life ∷ earlier) shape disk h is =
-    let sound : StateSound p (Down shape disk) life = subst (λ (w : State). StateSound p w life) is h.2 in
-    let list = sound.each disk.seen sound.sound.seen in
-    (list.found, list.holds)
+-- The disk of a world without a service
+record IsLeft (shape : Shape) (disk : Medium) : Type 0 where
+  pub life : Life
+  pub trace : Trace
+  pub sound : DownSound shape disk life trace
 
+point_left : (start : Start) (p : Point) (L : List Life) (shape : Shape) (disk : Medium) → PointSound start p L → p.state ≡ Down shape disk → IsLeft shape disk
+point_left start p [] shape disk h is = absurd h
+point_left start p (life ∷ earlier) shape disk h is = record { life = life; trace = p.trace; sound = subst (λ (w : State). StateSound p w life) is h.2 }
+
+run_left : (shape : Shape) (disk : Medium) (calls : ℕ) → HasRun shape (Down shape disk) calls → IsLeft shape disk
+run_left shape disk calls ran =
+    let sound : IsSound ran.start ran.point = subst (IsSound ran.start) ran.reached.point (reached_sound ran.start ran.reached.steps ran.reached.starts ran.reached.runs) in
+    point_left ran.start ran.point (lives (start_keys ran.start) ran.point.marks) shape disk sound ran.at.state
+
+-- holds a set of as many slots as its shape has, and suits the format of its file
 pub run_holds : (shape : Shape) (disk : Medium) (calls : ℕ) → HasRun shape (Down shape disk) calls → (S : Keys) × Holds disk.seen shape.slots S
 run_holds shape disk calls ran =
-    let sound : IsSound ran.start ran.point = subst (IsSound ran.start) ran.reached.point (reached_sound ran.start ran.reached.steps ran.reached.starts ran.reached.runs) in
-    down_holds ran.start ran.point (lives (start_keys ran.start) ran.point.marks) shape disk sound ran.at.state
+    let left = (run_left shape disk calls ran).sound in
+    let list = left.each disk.seen left.sound.seen in
+    (list.found, list.holds)
+
+run_suits : (shape : Shape) (disk : Medium) (calls : ℕ) → HasRun shape (Down shape disk) calls → Suits (format_of disk.seen) disk
+run_suits shape disk calls ran = let left = (run_left shape disk calls ran).sound in left.suits disk.seen left.sound.seen
 
 module _ (shape : Shape) (before : Past) (over : YardOver Past) (opens : OpensYard (device_of before) (device_of over.disk) shape.buckets shape.passes over.yard) where
   abbrev disk : Medium
@@ -78,6 +93,9 @@ module _ (shape : Shape) (before : Past) (over : YardOver Past) (opens : OpensYa
 
   pub bytes_read : AreBytes disk.seen
   bytes_read = subst (λ (m : Medium). AreBytes m.seen) (opens.vault.medium refl) (opens.vault.kept refl).sound.seen.bytes
+
+  suits_read : Suits (format_of disk.seen) disk
+  suits_read four = subst (λ (m : Medium). m.bytewise ≡ true) (opens.vault.medium refl) ((opens.vault.kept refl).suits (opens.vault.format refl ∙ four))
 
   state_opened : (S : Keys) (left : Option Past) (callers : List (Option OpenCall)) → Holds disk.seen shape.slots S → callers ≡ replicate shape.passes None
       → state_shown shape (Some over) left callers ≡ Up (opened_service shape disk.seen) (synced disk)
@@ -127,7 +145,7 @@ module _ (shape : Shape) (before : Past) (over : YardOver Past) (opens : OpensYa
     first = record { bytewise = disk.bytewise; shape = shape; text = disk.seen }
 
     starts : IsStart first
-    starts = record { buckets = some; passes = (few.0, omega (arith, few.1)); bytes = bytes_read; text = listed disk.seen shape.slots (members []) made.empty }
+    starts = record { buckets = some; passes = (few.0, omega (arith, few.1)); bytes = bytes_read; text = listed disk.seen shape.slots (members []) made.empty; suits = suits_read }
 
     first_state : state_shown shape (Some over) None callers ≡ Up (opened_service shape disk.seen) (at_rest disk.bytewise disk.seen)
     first_state = state_opened (members []) None callers made.empty none
@@ -178,6 +196,10 @@ module _ (shape : Shape) (yard : Option (YardOver Past)) (disk : Option Past) (c
 
   pub ran_down : HasRun shape (Down shape (after taken.bytewise taken.start taken.records)) calls
   ran_down = subst (λ (s : State). HasRun shape s calls) state_was world.ran
+
+  -- the disk suits the format of the file on it
+  pub may_reopen : (tripped : Bool) → MayOpen (device_of (armed tripped taken))
+  may_reopen tripped honest = run_suits shape (after taken.bytewise taken.start taken.records) calls ran_down
 
   -- where the disk was tripped, none opens
   module _ (tripped : Bool) (over : YardOver Past) (opens : OpensYard (device_of (armed tripped taken)) (device_of over.disk) shape.buckets shape.passes over.yard) (left : Option Past) (gone : left ≡ None)

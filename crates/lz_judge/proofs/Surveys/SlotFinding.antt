@@ -16,21 +16,27 @@ use Rattle.lz_judge.specs.Surveys.{AreFindings, IsFinding, IsFirst, finding_key,
 use Rattle.lz_judge.specs.Places.{IsTable}
 use Rattle.lz_judge.specs.Scans.{Scanned}
 
+-- the slot is open
+abbrev pub IsOpened : SlotRead → Type 0
+IsOpened (read.Member k) = Unit {0}
+IsOpened read.BadKey = Unit {0}
+IsOpened _ = ⊥
+
 pub same_member : (j k : ℕ) → read.Member j ≡ read.Member k → j ≡ k
 same_member j k is = cc
 
 module _ (says : ℕ → SlotRead) (n : ℕ) where
   -- a closed slot has no finding
-  pub findings_closed : (found : List Finding) → says n ≡ read.Closed → AreFindings says n found → AreFindings says (n + 1) found
+  pub findings_closed : (found : List Finding) → open_slot (says n) n ≡ [] → AreFindings says n found → AreFindings says (n + 1) found
   findings_closed found shut before = record {
     each = before.each;
-    slots = rw add-one (before.slots ∙ none (ap (λ r. open_slot r n) shut));
+    slots = rw add-one (before.slots ∙ none shut);
   }
     where
       none : open_slot (says n) n ≡ [] → open_slots says n ≡ open_slots says n ++ open_slot (says n) n
       none is = rw is (search rules)
 
-  -- a slot that isn't closed has one
+  -- an open slot has one
   pub findings_more : (found : List Finding) (finding : Finding) → open_slot (says n) n ≡ n ∷ [] → slot_of finding ≡ n → IsFinding says finding
       → AreFindings says n found → AreFindings says (n + 1) (found ++ finding ∷ [])
   findings_more found finding opened at is before = record {
@@ -39,10 +45,10 @@ module _ (says : ℕ → SlotRead) (n : ℕ) where
   }
 
   -- one slot more was taken
-  pub scanned_closed : (scan : Scan) → says n ≡ read.Closed → Scanned says n scan → Scanned says (n + 1) scan
+  pub scanned_closed : (scan : Scan) → open_slot (says n) n ≡ [] → Scanned says n scan → Scanned says (n + 1) scan
   scanned_closed scan shut before = record { findings = findings_closed scan.findings.items shut before.findings; table = before.table }
 
-  pub scanned_more : (old new : Scan) (finding : Finding) {E : Type 0} (r : Result (Unit {0}) E) → says n ≢ read.Closed → slot_of finding ≡ n → IsFinding says finding
+  pub scanned_more : (old new : Scan) (finding : Finding) {E : Type 0} (r : Result (Unit {0}) E) → IsOpened (says n) → slot_of finding ≡ n → IsFinding says finding
       → OnOk r (new.findings.items ≡ old.findings.items ++ finding ∷ [])
       → (IsTable (map finding_key old.findings.items) old.places → OnOk r (IsTable (map finding_key new.findings.items) new.places))
       → Scanned says n old → OnOk r (Scanned says (n + 1) new)
@@ -51,22 +57,22 @@ module _ (says : ℕ → SlotRead) (n : ℕ) where
     table = table before.table;
   }
     where
-      opened_one : (r : SlotRead) → r ≢ read.Closed → open_slot r n ≡ n ∷ []
-      opened_one read.Closed some = absurd (some refl)
+      opened_one : (r : SlotRead) → IsOpened r → open_slot r n ≡ n ∷ []
       opened_one (read.Member k) some = refl
       opened_one read.BadKey some = refl
+      opened_one _ some = absurd some
   scanned_more old new finding (Err fault) some at is grows table before = tt
 
--- the slots that aren't closed
+-- the open slots
 open_one : (r : SlotRead) (n i : ℕ) → list_any (λ j. j == i) (open_slot r n) ≡ true → i ≡ n
-open_one read.Closed n i is = absurd (cc)
 open_one (read.Member k) n i is = grind (arith, nat_tests)
 open_one read.BadKey n i is = grind (arith, nat_tests)
+open_one _ n i is = absurd (cc)
 
-one_open : (r : SlotRead) (n : ℕ) → r ≢ read.Closed → list_any (λ j. j == n) (open_slot r n) ≡ true
-one_open read.Closed n is = absurd (is refl)
+one_open : (r : SlotRead) (n : ℕ) → IsOpened r → list_any (λ j. j == n) (open_slot r n) ≡ true
 one_open (read.Member k) n is = grind (arith, nat_tests)
 one_open read.BadKey n is = grind (arith, nat_tests)
+one_open _ n is = absurd is
 
 open_below : (says : ℕ → SlotRead) (n i : ℕ) → list_any (λ j. j == i) (open_slots says n) ≡ true → i < n
 open_below says zero i is = absurd (cc)
@@ -75,11 +81,11 @@ open_below says (suc n) i is = ⊎_elim
     (λ here. let e = open_one (says n) n i here in omega (arith, e))
     (or_cases _ _ (sym (list_any-append (λ j. j == i) (open_slots says n) (open_slot (says n) n)) ∙ is))
 
-opened : (says : ℕ → SlotRead) (n i : ℕ) → i < n → says i ≢ read.Closed → list_any (λ j. j == i) (open_slots says n) ≡ true
+opened : (says : ℕ → SlotRead) (n i : ℕ) → i < n → IsOpened (says i) → list_any (λ j. j == i) (open_slots says n) ≡ true
 opened says zero i lt is = absurd (omega (arith, lt))
 opened says (suc n) i lt is = ⊎_elim
     (λ here.
-    let last : list_any (λ j. j == i) (open_slot (says n) n) ≡ true = subst (λ (q : ℕ). list_any (λ j. j == q) (open_slot (says n) n) ≡ true) (sym here) (one_open (says n) n (subst (λ (q : ℕ). says q ≢ read.Closed) here is)) in
+    let last : list_any (λ j. j == i) (open_slot (says n) n) ≡ true = subst (λ (q : ℕ). list_any (λ j. j == q) (open_slot (says n) n) ≡ true) (sym here) (one_open (says n) n (subst (λ (q : ℕ). IsOpened (says q)) here is)) in
     list_any-append (λ j. j == i) (open_slots says n) (open_slot (says n) n) ∙ grind (arith, last))
     (λ other.
     let low = opened says n i (omega (arith, lt, other)) is in
@@ -109,7 +115,7 @@ at_found found finding at = any_map (slot_of finding) found ∙ found_any (λ ot
 
 -- what a survey without damage says of each slot
 module _ (says : ℕ → SlotRead) (n : ℕ) (found : List Finding) (findings : AreFindings says n found) where
-  pub finding_of : (i : ℕ) → i < n → says i ≢ read.Closed → (finding : Finding) × Contains found finding × (slot_of finding ≡ i)
+  pub finding_of : (i : ℕ) → i < n → IsOpened (says i) → (finding : Finding) × Contains found finding × (slot_of finding ≡ i)
   finding_of i lt is = found_at i found (ap (list_any (λ j. j == i)) findings.slots ∙ opened says n i lt is)
 
   pub found_below : (finding : Finding) → Contains found finding → slot_of finding < n
@@ -119,8 +125,8 @@ module _ (says : ℕ → SlotRead) (n : ℕ) (found : List Finding) (findings : 
   pub key_told : (i k : ℕ) → i < n → says i ≡ read.Member k → (first : ℕ) × Contains found (Key first k)
   key_told i k lt is = let (finding, at, here) = finding_of i lt (some i k is) in told finding at (All-contains (IsFinding says) found finding findings.each at) here
     where
-      some : (i k : ℕ) → says i ≡ read.Member k → says i ≢ read.Closed
-      some i k is shut = let e : read.Member k ≡ read.Closed = sym is ∙ shut in cc
+      some : (i k : ℕ) → says i ≡ read.Member k → IsOpened (says i)
+      some i k is = subst IsOpened (sym is) tt
 
       -- the first slot of a key that stands again
       told_first : (first : ℕ) → IsFirst says first k → (finding : Finding) → Contains found finding → IsFinding says finding → slot_of finding ≡ first → (first : ℕ) × Contains found (Key first k)
@@ -161,8 +167,8 @@ module _ (says : ℕ → SlotRead) (n : ℕ) (found : List Finding) (findings : 
   }
 
   module _ (sound : All (λ f. IsTrue (is_sound f)) found) where
-    -- each slot that isn't closed holds a key of its own
-    pub first_of : (i : ℕ) → i < n → says i ≢ read.Closed → (k : ℕ) × Contains found (Key i k) × IsFirst says i k
+    -- each open slot holds a key of its own
+    pub first_of : (i : ℕ) → i < n → IsOpened (says i) → (k : ℕ) × Contains found (Key i k) × IsFirst says i k
     first_of i lt is =
         let (finding, at, here) = finding_of i lt is in
         sound_first finding at (All-contains (λ f. IsTrue (is_sound f)) found finding sound at) (All-contains (IsFinding says) found finding findings.each at) here
@@ -172,7 +178,10 @@ module _ (says : ℕ → SlotRead) (n : ℕ) (found : List Finding) (findings : 
         sound_first _ at is first here = absurd (cc)
 
     pub no_bad_key : (i : ℕ) → i < n → says i ≢ read.BadKey
-    no_bad_key i lt bad = grind (arith, nat_tests, first_of)
+    no_bad_key i lt bad =
+        let (k, at, first) = first_of i lt (subst IsOpened (sym bad) tt) in
+        let e : read.BadKey ≡ read.Member k = sym bad ∙ first.holds in
+        cc
 
     pub no_key_twice : (i j k : ℕ) → i < n → j < n → says i ≡ read.Member k → says j ≡ read.Member k → i ≡ j
     no_key_twice i j k lt lt' one other =
@@ -181,7 +190,9 @@ module _ (says : ℕ → SlotRead) (n : ℕ) (found : List Finding) (findings : 
         ⊎_elim (λ less. absurd (g.lowest i less one)) (λ le. ⊎_elim (λ less. absurd (f.lowest j less other)) (λ le'. omega (arith, le, le')) (cases_lt j i)) (cases_lt i j)
       where
         firsts : (i k : ℕ) → i < n → says i ≡ read.Member k → IsFirst says i k
-        firsts i k lt is = grind (arith, nat_tests, first_of, same_member)
+        firsts i k lt is =
+            let (q, at, first) = first_of i lt (subst IsOpened (sym is) tt) in
+            subst (IsFirst says i) (same_member q k (sym first.holds ∙ is)) first
 
     pub set_found : (k : ℕ) → IsTrue (found_keys found k) ↔ ((i : ℕ) × (i < n) × (says i ≡ read.Member k))
     set_found k = (holds, has)
@@ -195,10 +206,10 @@ module _ (says : ℕ → SlotRead) (n : ℕ) (found : List Finding) (findings : 
 
         has : (i : ℕ) × (i < n) × (says i ≡ read.Member k) → IsTrue (found_keys found k)
         has (i, lt, is) =
-            let (q, at, first) = first_of i lt (λ shut. let e : read.Member k ≡ read.Closed = sym is ∙ shut in cc) in
+            let (q, at, first) = first_of i lt (subst IsOpened (sym is) tt) in
             found_any (is_key k) found (Key i q) at (eq-eqb q k (same_member q k (sym first.holds ∙ is)))
 
-  -- where no key stands twice, and each slot that isn't closed has a key, there is no damage
+  -- where no key stands twice, and each open slot has a key, there is no damage
   pub sound_where : ((i : ℕ) → i < n → says i ≢ read.BadKey) → ((i j k : ℕ) → i < n → j < n → says i ≡ read.Member k → says j ≡ read.Member k → i ≡ j) → All (λ f. IsTrue (is_sound f)) found
   sound_where no_bad no_twice = λ p d lt. sound_one (get_or found p d) (Contains-get_or found p d lt) (findings.each p d lt)
     where

@@ -7,8 +7,8 @@ use Rattle.std.proofs.lemmas.List.{get_or_past}
 use Rattle.lz_slot.specs.Counted.{of_pass}
 use Rattle.lz_slot.proofs.Counted.{of_pass_other}
 use Rattle.lz_vault.specs.declared.vault.Stage.{Stage}
-use Rattle.lz_vault.specs.declared.vault.Stage.TheVariants.{KeyLoose, Opening, Closing}
-use Rattle.lz_vault.specs.Stages.{Cell, cell_synced}
+use Rattle.lz_vault.specs.declared.vault.Stage.TheVariants.{Opening, Closing}
+use Rattle.lz_vault.specs.Stages.{Cell, cell_synced, stage_put}
 use Rattle.lz_list.specs.Words.{change_flags}
 use Rattle.lz_list.specs.Locks.{is_pair_free}
 use Rattle.lz_flush.specs.Settling.{settle}
@@ -21,12 +21,14 @@ use Rattle.lz_machine.specs.declared.event.Event.TheVariants.{Invoke, Pin, Reser
 use Rattle.lz_machine.specs.declared.event.Outcome.TheVariants.{NotNow, Dead}
 use Rattle.lz_vault.specs.Members.{no_cell}
 use Rattle.lz_machine.specs.Yards.{Yard, idle_actor, actor_at, cell_at, cell_in, stage_in}
-use Rattle.lz_machine.specs.Table.{course, course_alive, line, line_on, pin_of, is_played_dead, actors_after, words_after, cells_after, uses_after, reserved, is_sure, set_actor}
+use Rattle.lz_machine.specs.Table.{course, course_alive, line, line_on, pin_of, is_played_dead, actors_after, words_after, cells_after, uses_after, reserved, is_sure, set_actor, slot_of}
 use Rattle.lz_allot.specs.Uses.{Use, Taken, collect, lowest_free}
 use Rattle.lz_machine.proofs.Alone.Sights.{HasLeft, left_set, left_collect, left_seen}
 use Rattle.lz_machine.proofs.Steps.Unlink.{redirect_pins}
 use Rattle.lz_machine.proofs.Steps.Sync.{not_opening}
+use Rattle.lz_machine.proofs.Frames.BesideKey.{opened_shut}
 use Rattle.lz_machine.proofs.Frames.Outside.{answered_other}
+use Rattle.lz_machine.proofs.Frames.SlotWrite.{put_free}
 use Rattle.lz_machine.proofs.Runs.Course.{course_by}
 
 -- the course of an event that was played at all
@@ -113,7 +115,9 @@ set_none cells r k stage other none s is = ⊎_elim
     (cell_cases cells r s (record { stage = stage; key = k }))
 
 pub none_stays : (y : Yard) (actor : Actor) (e : Event) → is_opening_event e ≡ false → NoneOpening y.vault.cells → NoneOpening (cells_after y actor e)
-none_stays y actor (WriteKey k) other none = set_none y.vault.cells _ k KeyLoose (λ is. absurd cc) none
+none_stays y actor (WriteKey k) other none =
+    let stage = stage_put y.vault.format (stage_in y.vault.cells (slot_of actor)) in
+    set_none y.vault.cells (slot_of actor) k stage (λ is. opened_shut stage (inl is) (put_free y.vault.format (stage_in y.vault.cells (slot_of actor)))) none
 none_stays y actor WriteOpen other none = absurd (false≢true (sym other))
 none_stays y actor WriteClose other none = set_none y.vault.cells _ _ Closing (λ is. absurd cc) none
 none_stays y actor (Sync s) other none = go (is_sure y s)

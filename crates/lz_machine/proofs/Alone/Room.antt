@@ -1,10 +1,8 @@
 -- Where one actor is alone, full comes exactly where there is no room.
-use Rattle.std.proofs.Common.{◌≡◌, inl, ℕ, zero, suc, ◌≤◌, ◌<◌, ◌%◌, if◌then◌else◌, Bool, true, false, List, [], ◌∷◌, ◌++◌, length, map, Option, Some, None, refl, sym, ap, ◌∙◌, subst, arith}
+use Rattle.std.proofs.Common.{◌≡◌, inl, ℕ, suc, ◌≤◌, ◌<◌, ◌%◌, if◌then◌else◌, Bool, true, false, List, [], ◌∷◌, ◌++◌, length, Option, Some, None, refl, sym, ap, ◌∙◌, subst, arith}
 use Rattle.lz_slot.specs.declared.command.Command.{Command}
 use Rattle.lz_slot.specs.declared.command.Command.TheVariants.{Add}
 use Rattle.lz_slot.specs.declared.history.Mark.TheVariants.{Call}
-use Rattle.lz_slot.specs.declared.slot.SlotRead.{SlotRead}
-use Rattle.lz_slot.specs.declared.slot.SlotRead.TheVariants.{Closed as Shut, Member, BadKey}
 use Rattle.lz_slot.specs.Sets.{Keys}
 use Rattle.lz_slot.specs.declared.format.Format.{Format}
 use Rattle.lz_slot.specs.Bytes.{Holds, format_of, slot_at}
@@ -13,19 +11,16 @@ use Rattle.lz_slot.specs.Histories.{History, Life, lives, with_mark}
 use Rattle.lz_slot.proofs.Counted.{of_pass_same, of_pass_other}
 use Rattle.lz_disk.specs.Images.{Medium, IsImage, at_rest}
 use Rattle.lz_vault.specs.declared.vault.Stage.{Stage}
-use Rattle.lz_vault.specs.declared.vault.Stage.TheVariants.{Opening}
 use Rattle.lz_vault.specs.Stages.{MayRead}
 use Rattle.lz_vault.specs.Vaults.{DeviceCall, medium_after}
-use Rattle.lz_allot.specs.declared.sight.Sight.{Sight}
 use Rattle.lz_allot.specs.declared.counts.Counts.{Counts}
-use Rattle.lz_allot.specs.Uses.{Limbo, use_of}
 use Rattle.lz_list.specs.Traces.{Trace}
 use Rattle.lz_machine.specs.declared.actor.Actor.{Actor}
 use Rattle.lz_machine.specs.declared.event.Reply.{Reply}
 use Rattle.lz_machine.specs.declared.event.Reply.TheVariants.{Yes, No, Full, OldFile, Device}
 use Rattle.lz_machine.specs.declared.caller.Progress.{Progress}
 use Rattle.lz_machine.specs.declared.caller.Progress.TheVariants.{Answering}
-use Rattle.lz_machine.specs.Yards.{Shape, Yard, cell_read, use_read, slots_read, opened_yard, first_trace, idle_actor, cell_in, stage_in, pin_in}
+use Rattle.lz_machine.specs.Yards.{Shape, Yard, slots_read, opened_yard, first_trace, idle_actor, cell_in, pin_in}
 use Rattle.lz_machine.specs.Table.{line, line_failed, is_old}
 use Rattle.lz_machine.specs.Calls.{first_progress, halts, begun}
 use Rattle.lz_machine.specs.Runs.{Start, IsStart, Caller, Service, State, Up, Down, Transition, Calls, Turn, Fails, Looks, Stops, Crashes, CrashesIn, Opens, OpenFails, Point, MayStep, HasTurn, HasFault, IsRun, run, first_point, point_after, state_after, trace_after, caller_at, next_event, reply_at, moved_on, after_turn, after_fault, opened_service, marks_of_turn, mark_of, turn_publishes, start_keys, looked, invoked}
@@ -34,7 +29,7 @@ use Rattle.lz_machine.specs.CallersSound.{view_of, CallerSound}
 use Rattle.lz_machine.specs.Sound.{Sound, PointSound, IsSound}
 use Rattle.lz_machine.specs.Alone.{IsOwn, IsAlone, IsPlain, IsFull, HasRoomFor, IsSized, AreSized, FullIsRight}
 use Rattle.lz_machine.proofs.Steps.Trip.{point}
-use Rattle.lz_machine.proofs.Open.FoundSlots.{pass_of}
+use Rattle.lz_machine.proofs.Open.FoundSlots.{no_limbo_read, no_opening_read, pass_of}
 use Rattle.lz_machine.proofs.Frames.OneActor.{caller_range}
 use Rattle.lz_machine.proofs.Steps.Hop.{call_at, own}
 use Rattle.lz_machine.specs.Formats.{HasFormat}
@@ -62,20 +57,6 @@ FullAt a (Up service disk) P = AloneFull a service.yard (caller_at service.calle
 FullAt a (Down shape disk) P = Unit {0}
 
 -- a service that is opened
-pub no_limbo_read : (rs : List SlotRead) (s : ℕ) (seen : List Sight) → use_of (map use_read rs) s ≡ Limbo seen → ⊥
-no_limbo_read [] s seen is = absurd cc
-no_limbo_read (Member k ∷ rs) zero seen is = absurd cc
-no_limbo_read (Shut ∷ rs) zero seen is = absurd cc
-no_limbo_read (BadKey ∷ rs) zero seen is = absurd cc
-no_limbo_read (r ∷ rs) (suc s) seen is = no_limbo_read rs s seen is
-
-no_opening_read : (rs : List SlotRead) (s : ℕ) → stage_in (map cell_read rs) s ≡ Opening → ⊥
-no_opening_read [] s is = absurd cc
-no_opening_read (Member k ∷ rs) zero is = absurd cc
-no_opening_read (Shut ∷ rs) zero is = absurd cc
-no_opening_read (BadKey ∷ rs) zero is = absurd cc
-no_opening_read (r ∷ rs) (suc s) is = no_opening_read rs s is
-
 opened_full : (a : ℕ) (shape : Shape) (t : List ℕ) (P : Trace) (disk : Medium) → FullAt a (Up (opened_service shape t) disk) P
 opened_full a shape t P disk = subst (λ (who : Option Caller). AloneFull a (opened_yard shape t) who P) (sym (pass_of shape.passes a None)) (record {
   others = λ b other. record {

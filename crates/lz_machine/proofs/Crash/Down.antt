@@ -2,14 +2,16 @@
 use Rattle.std.proofs.Common.{◌≡◌, inl, ℕ, Bool, true, false, List, [], ◌∷◌, refl, sym, ◌∙◌, subst, arith}
 use Rattle.std.proofs.lemmas.Grind.{same_number_lists}
 use Rattle.lz_slot.specs.Histories.{History, Life, lives}
+use Rattle.lz_slot.specs.Bytes.{format_of}
 use Rattle.lz_disk.specs.Images.{Medium, AreBytes, IsImage, at_rest, synced}
+use Rattle.lz_vault.specs.Stages.{Suits}
 use Rattle.lz_list.specs.Traces.{Trace}
 use Rattle.lz_machine.specs.Yards.{Shape}
 use Rattle.lz_machine.specs.Runs.{Start, Service, State, Up, Down, Stops, Crashes, OpenFails, Point, MayStep, point_after, shape_of, start_keys}
 use Rattle.lz_machine.specs.Notes.{Notes}
 use Rattle.lz_machine.specs.Sound.{UpSound, HasList, DownSound, StateSound, PointSound, IsSound}
 use Rattle.lz_machine.proofs.Steps.Trip.{point}
-use Rattle.lz_machine.proofs.Crash.Image.{images_fit}
+use Rattle.lz_machine.proofs.Crash.Image.{image_suits, images_fit}
 
 -- a disk of which nothing is loose has one image
 pub rest_image : {b : Bool} (t u : List ℕ) → IsImage (at_rest b t) u → u ≡ t
@@ -19,19 +21,24 @@ rest_itself : (b : Bool) (t : List ℕ) → AreBytes t → IsImage (at_rest b t)
 rest_itself b t bytes = record { bytes = bytes; no_shorter = omega arith; no_longer = omega arith; sure = λ i lt off. refl; each = λ on i lt. inl refl }
 
 -- where no service is open, and the disk rests on a text that has a list
-pub at_rest_sound : (b : Bool) (shape : Shape) (life : Life) (P : Trace) (t : List ℕ) → AreBytes t → HasList shape.slots life P t → DownSound shape (at_rest b t) life P
-at_rest_sound b shape life P t bytes has = record {
+pub at_rest_sound : (b : Bool) (shape : Shape) (life : Life) (P : Trace) (t : List ℕ) → AreBytes t → Suits (format_of t) (at_rest b t) → HasList shape.slots life P t → DownSound shape (at_rest b t) life P
+at_rest_sound b shape life P t bytes suits has = record {
   sound = record { sure = rest_itself b t bytes; seen = rest_itself b t bytes };
+  suits = λ u image. subst (λ (v : List ℕ). Suits (format_of v) (at_rest b t)) (sym (rest_image t u image)) suits;
   each = λ u image. subst (HasList shape.slots life P) (sym (rest_image t u image)) has;
 }
 
 -- the service is closed, and the disk stays
 pub down_of_up : (n calls : ℕ) (service : Service) (disk : Medium) (life : Life) (P : Trace) (notes : Notes) → UpSound n calls service disk life P notes → DownSound service.yard.shape disk life P
-down_of_up n calls service disk life P notes up = record { sound = up.sound.images.keeps.sound; each = images_fit n calls service disk life P notes up }
+down_of_up n calls service disk life P notes up = record {
+  sound = up.sound.images.keeps.sound;
+  suits = λ t image. image_suits service.yard.shape service.yard.vault disk up.sound.images t image;
+  each = images_fit n calls service disk life P notes up;
+}
 
 -- a crash leaves one of the images
 pub crashed : (shape : Shape) (disk : Medium) (life : Life) (P : Trace) (t : List ℕ) → IsImage disk t → DownSound shape disk life P → DownSound shape (at_rest disk.bytewise t) life P
-crashed shape disk life P t image down = at_rest_sound disk.bytewise shape life P t image.bytes (down.each t image)
+crashed shape disk life P t image down = at_rest_sound disk.bytewise shape life P t image.bytes (down.suits t image) (down.each t image)
 
 -- a sync makes the text as read the only image
 pub down_synced : (shape : Shape) (disk : Medium) (life : Life) (P : Trace) → DownSound shape disk life P → DownSound shape (synced disk) life P

@@ -11,12 +11,14 @@ use Rattle.lz_slot.specs.declared.command.Command.TheVariants.{Add, Remove}
 use Rattle.lz_slot.specs.Sets.{Keys, Same, key_of, after, reply}
 use Rattle.lz_slot.specs.Bytes.{Holds, format_of, slot_at, open_byte, header_body}
 use Rattle.lz_slot.specs.declared.slot.SlotRead.{SlotRead}
-use Rattle.lz_slot.specs.declared.slot.SlotRead.TheVariants.{Closed as Shut, Member, BadKey}
+use Rattle.lz_slot.specs.declared.slot.SlotRead.TheVariants.{Member, BadKey}
 use Rattle.lz_slot.specs.Histories.{History, Life, Fits, Runs, IsUnderWay}
 use Rattle.lz_disk.specs.Images.{Medium, IsImage}
 use Rattle.lz_vault.proofs.Reading.{image_format}
 use Rattle.lz_vault.specs.declared.vault.Stage.{Stage}
 use Rattle.lz_vault.specs.declared.vault.Stage.TheVariants.{Opening}
+use Rattle.lz_vault.specs.Stages.{IsFree, IsReadShut, Suits}
+use Rattle.lz_vault.specs.Vaults.{Vaulted}
 use Rattle.lz_list.specs.Traces.{Trace, on, chain_of, key_word, member, linking, is_settled, is_removed, is_marked, SettledYes, SettledNo, IsNode}
 use Rattle.lz_list.specs.declared.publishing.Publishing.TheVariants.{Linked as linked, Marked as marked}
 use Rattle.lz_list.proofs.Traces.NodeBits.{node}
@@ -26,8 +28,8 @@ use Rattle.lz_machine.specs.Kept.{upto, last_change, IsOpen, MayDrop, kept_keys,
 use Rattle.lz_machine.specs.Entries.{kept_rows, numbers}
 use Rattle.lz_machine.specs.Ledgers.{listed}
 use Rattle.lz_machine.specs.Notes.{Notes, entries}
-use Rattle.lz_machine.specs.Yards.{cell_in, stage_in}
-use Rattle.lz_machine.specs.Sound.{UpSound, HasList}
+use Rattle.lz_machine.specs.Yards.{Shape, cell_in, stage_in}
+use Rattle.lz_machine.specs.Sound.{DiskSound, UpSound, HasList}
 use Rattle.lz_machine.proofs.Ledger.Membership.{upto_begins, length-upto, upto_all, yes_is_kept, no_is_kept, last_change_past}
 use Rattle.lz_machine.proofs.Ledger.Fit.{listed_fits}
 use Rattle.lz_machine.proofs.Ledger.KeptRows.{kept_ledger, kept_fits}
@@ -35,6 +37,12 @@ use Rattle.lz_machine.proofs.Crash.ImageSlots.{found, found_in, in_found, not_bo
 use Rattle.lz_machine.proofs.Crash.Tail.{is_opening, asks, asks_adding, asks_removal, asks_waits}
 use Rattle.lz_machine.proofs.Crash.TailRows.{names, names_of, HasRows, rows_to, rows_lead, rows_ledger}
 use Rattle.lz_slot.proofs.Sets.{after_same}
+
+-- an image's format suits the disk, as the vault's does
+pub image_suits : (shape : Shape) (vault : Vaulted) (disk : Medium) (images : DiskSound shape vault disk) (t : List ℕ) → IsImage disk t → Suits (format_of t) disk
+image_suits shape vault disk images t image =
+    let names : format_of t ≡ vault.format = image_format vault.format vault.cells disk images.keeps.vouches t (omega (arith, images.count, images.slots.0)) (omega (arith, images.count, images.slots.1)) image in
+    (λ four. images.keeps.suits (sym names ∙ four))
 
 -- a key that was never linked is no member
 never_linked : (k : ℕ) (P : Trace) → linking k P ≡ 0 → member k P ≡ false
@@ -72,9 +80,10 @@ is_at_opening : (stage : Stage) → is_opening stage ≡ true → stage ≡ Open
 is_at_opening Opening is = refl
 is_at_opening _ is = absurd (false≢true is)
 
-no_bad_key : (k : ℕ) (r : SlotRead) → (r ≡ Shut) ⊎ (r ≡ Member k) → r ≢ BadKey
-no_bad_key k r (inl shut) = λ bad. let e : Shut ≡ BadKey = sym shut ∙ bad in absurd cc
-no_bad_key k r (inr is) = λ bad. let e : Member k ≡ BadKey = sym is ∙ bad in absurd cc
+no_bad_key : (k : ℕ) (r : SlotRead) → IsReadShut r ⊎ (r ≡ Member k) → r ≢ BadKey
+no_bad_key k r (inl (inl shut)) bad = absurd cc
+no_bad_key k r (inl (inr torn)) bad = absurd cc
+no_bad_key k r (inr is) bad = absurd cc
 
 -- what differs from the trace in the image
 abbrev differs : Bool → Bool → Bool
@@ -97,14 +106,14 @@ module _ (n calls : ℕ) (service : Service) (disk : Medium) (life : Life) (P : 
   tells : (s k : ℕ) → IsNodeOf service.yard P s k → IsNode k s P
   tells s k at = node service.yard.shape.buckets N k s P up.sound.trace.lawful at.0 at.1
 
-  either : (s k : ℕ) → s < N → IsNodeOf service.yard P s k → (slot_at t s ≡ Shut) ⊎ (slot_at t s ≡ Member k)
+  either : (s k : ℕ) → s < N → IsNodeOf service.yard P s k → IsReadShut (slot_at t s) ⊎ (slot_at t s ≡ Member k)
   either s k lt at =
       let own : on 0 (chain_of service.yard.shape.buckets (key_word s P) P) (suc s) ≡ true = subst (λ (q : ℕ). on 0 (chain_of service.yard.shape.buckets q P) (suc s) ≡ true) (sym at.1) at.0 in
       let stands = (node_stands n calls service.yard service.callers disk life.history P notes up.sound s lt own).0 in
-      subst (λ (q : ℕ). (slot_at t s ≡ Shut) ⊎ (slot_at t s ≡ Member q)) (stands.key ∙ at.1) (one_or_other (stage_in service.yard.vault.cells s) (cell_in service.yard.vault.cells s).key (slot_at t s) (reads n calls service.yard service.callers disk life.history P notes up.sound t image s lt))
+      subst (λ (q : ℕ). IsReadShut (slot_at t s) ⊎ (slot_at t s ≡ Member q)) (stands.key ∙ at.1) (one_or_other (stage_in service.yard.vault.cells s) (cell_in service.yard.vault.cells s).key (slot_at t s) (reads n calls service.yard service.callers disk life.history P notes up.sound t image s lt))
 
   -- a node's key that the image lacks is read at no slot
-  lacking : (s k : ℕ) → s < N → IsNodeOf service.yard P s k → now k ≡ false → slot_at t s ≡ Shut
+  lacking : (s k : ℕ) → s < N → IsNodeOf service.yard P s k → now k ≡ false → IsReadShut (slot_at t s)
   lacking s k lt at lacks = ⊎_elim (λ shut. shut) (λ is. absurd (false≢true (sym lacks ∙ in_found t N k s lt is))) (either s k lt at)
 
   read_of : (s k : ℕ) → s < N → slot_at t s ≡ Member k → IsNodeOf service.yard P s k ⊎ IsOpened service.yard P s k
@@ -120,7 +129,7 @@ module _ (n calls : ℕ) (service : Service) (disk : Medium) (life : Life) (P : 
   adding_is_named : (s k : ℕ) → s < N → slot_at t s ≡ Member k → IsOpened service.yard P s k → names k tail.rows ≡ true
   adding_is_named s k lt is h = asked_is_named s k (Add k) lt (asks_adding n calls service.yard service.callers disk life.history P notes up.sound t image s k is h) refl
 
-  asks_to_remove : (s k : ℕ) → IsNodeOf service.yard P s k → is_marked s P ≡ false → is_opening (stage_in service.yard.vault.cells s) ≡ false → slot_at t s ≡ Shut → asks service.yard P t s ≡ Some (Remove k)
+  asks_to_remove : (s k : ℕ) → IsNodeOf service.yard P s k → is_marked s P ≡ false → is_opening (stage_in service.yard.vault.cells s) ≡ false → IsReadShut (slot_at t s) → asks service.yard P t s ≡ Some (Remove k)
   asks_to_remove s k at no_mark not_opening shut = asks_removal n calls service.yard service.callers disk life.history P notes up.sound t image s k at no_mark not_opening shut
 
   -- the keys whose last change the image drops
@@ -152,7 +161,7 @@ module _ (n calls : ℕ) (service : Service) (disk : Medium) (life : Life) (P : 
   -- a node that the image has isn't settled as removed
   read_not_removed : (s k : ℕ) → s < N → slot_at t s ≡ Member k → IsNodeOf service.yard P s k → is_removed (linking k P) P ≡ true → ⊥
   read_not_removed s k lt is at removed = not_both k (slot_at t s)
-      (shut_read (stage_in service.yard.vault.cells s) (cell_in service.yard.vault.cells s).key (slot_at t s) (reads n calls service.yard service.callers disk life.history P notes up.sound t image s lt) (inl (up.sound.slots.removed k s at.1 at.0 removed)))
+      (shut_read (stage_in service.yard.vault.cells s) (cell_in service.yard.vault.cells s).key (slot_at t s) (reads n calls service.yard service.callers disk life.history P notes up.sound t image s lt) (subst IsFree (sym (up.sound.slots.removed k s at.1 at.0 removed)) tt))
       is
 
   -- A key that is no member, that the image has and that no row names, isn't settled.

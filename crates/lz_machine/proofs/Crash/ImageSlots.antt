@@ -9,12 +9,12 @@ use Rattle.std.proofs.lemmas.Option.{slice_get-get_or, same_Some}
 use Rattle.lz_slot.specs.Sets.{Keys}
 use Rattle.lz_slot.specs.Bytes.{slot_at}
 use Rattle.lz_slot.specs.declared.slot.SlotRead.{SlotRead}
-use Rattle.lz_slot.specs.declared.slot.SlotRead.TheVariants.{Closed as Shut, Member}
+use Rattle.lz_slot.specs.declared.slot.SlotRead.TheVariants.{Member}
 use Rattle.lz_slot.specs.Histories.{History}
 use Rattle.lz_disk.specs.Images.{Medium, IsImage}
 use Rattle.lz_vault.specs.declared.vault.Stage.{Stage}
-use Rattle.lz_vault.specs.declared.vault.Stage.TheVariants.{Closing}
-use Rattle.lz_vault.specs.Stages.{MayRead}
+use Rattle.lz_vault.specs.declared.vault.Stage.TheVariants.{Opening, Open, Closing}
+use Rattle.lz_vault.specs.Stages.{MayRead, IsFree, IsReadShut}
 use Rattle.lz_vault.proofs.Reading.{image_reads}
 use Rattle.lz_list.specs.Words.{place_number, link_to}
 use Rattle.lz_list.specs.Locks.{owner}
@@ -30,7 +30,7 @@ use Rattle.lz_vault.specs.Members.{no_cell}
 use Rattle.lz_machine.specs.Yards.{Yard, actor_in, cell_in, stage_in}
 use Rattle.lz_machine.specs.Runs.{Caller}
 use Rattle.lz_machine.specs.Notes.{Notes}
-use Rattle.lz_machine.specs.SlotsSound.{opens, IsGateClosed, IsGateOpened, IsOnChain, IsNodeStage, SlotStands, is_node, is_held, is_out, is_free, is_limbo}
+use Rattle.lz_machine.specs.SlotsSound.{opens, IsGateOpened, IsOnChain, IsNodeStage, SlotStands, is_node, is_held, is_out, is_free, is_limbo}
 use Rattle.lz_machine.specs.LocksSound.{IsBeside, RestsOn}
 use Rattle.lz_machine.specs.Sound.{Sound}
 use Rattle.lz_machine.proofs.Frames.ChainSlots.{chain_stands}
@@ -69,18 +69,25 @@ in_found t (suc n) k i lt is = elim (cases_eq i n) [
   | inr before ↦ or_right (reads_key k (slot_at t n)) (found t n k) (in_found t n k i (omega (arith, before)) is)
 ]
 
-pub not_both : (j : ℕ) (r : SlotRead) → r ≡ Shut → r ≡ Member j → ⊥
-not_both j r shut is = absurd cc
+pub not_both : (j : ℕ) (r : SlotRead) → IsReadShut r → r ≡ Member j → ⊥
+not_both j r (inl shut) is = absurd cc
+not_both j r (inr torn) is = absurd cc
 
 -- a slot that is read as a key's
 pub member_read : (stage : Stage) (k j : ℕ) (r : SlotRead) → MayRead stage k r → r ≡ Member j → (k ≡ j) × (IsGateOpened stage ⊎ (stage ≡ Closing))
 member_read stage k j r may is = grind arith
 
-pub shut_read : (stage : Stage) (k : ℕ) (r : SlotRead) → MayRead stage k r → IsGateClosed stage → r ≡ Shut
-shut_read stage k r may is = grind arith
+pub shut_read : (stage : Stage) (k : ℕ) (r : SlotRead) → MayRead stage k r → IsFree stage → IsReadShut r
+shut_read Opening k r may free = absurd free
+shut_read Open k r may free = absurd free
+shut_read Closing k r may free = absurd free
+shut_read _ k r may free = may
 
-pub one_or_other : (stage : Stage) (k : ℕ) (r : SlotRead) → MayRead stage k r → (r ≡ Shut) ⊎ (r ≡ Member k)
-one_or_other stage k r may = grind arith
+pub one_or_other : (stage : Stage) (k : ℕ) (r : SlotRead) → MayRead stage k r → IsReadShut r ⊎ (r ≡ Member k)
+one_or_other Opening k r may = may
+one_or_other Open k r may = inr may
+one_or_other Closing k r may = may
+one_or_other _ k r may = inl may
 
 -- An actor has opened the gate of the slot, and rests on the place of its key.
 pub record IsOpened (y : Yard) (P : Trace) (s k : ℕ) : Type 0 where
@@ -151,7 +158,7 @@ module _ (n calls : ℕ) (y : Yard) (callers : List (Option Caller)) (disk : Med
         let there : slice_get y.vault.cells s ≡ Some (cell_in y.vault.cells s) = slice_get-get_or y.vault.cells s no_cell (omega (arith, lt, sound.images.count)) in
         image_reads y.vault.format y.vault.cells disk sound.images.keeps.vouches t s (cell_in y.vault.cells s) (omega (arith, sound.images.count, sound.images.slots.1)) image there (sound.images.keys s (cell_in y.vault.cells s) there)
 
-    not_shut : (s k : ℕ) → s < y.shape.slots → slot_at t s ≡ Member k → IsGateClosed (stage_in y.vault.cells s) → ⊥
+    not_shut : (s k : ℕ) → s < y.shape.slots → slot_at t s ≡ Member k → IsFree (stage_in y.vault.cells s) → ⊥
     not_shut s k lt is shut = not_both k (slot_at t s) (shut_read (stage_in y.vault.cells s) (cell_in y.vault.cells s).key (slot_at t s) (reads s lt) shut) is
 
     held_opened : (s k a : ℕ) → s < y.shape.slots → slot_at t s ≡ Member k → (actor_in y.actors a).slot ≡ Some s → IsOpened y P s k
@@ -185,9 +192,9 @@ module _ (n calls : ℕ) (y : Yard) (callers : List (Option Caller)) (disk : Med
             let word : key_word s P ≡ k = sym stands.key ∙ key in
             inl (subst (λ (q : ℕ). on 0 (chain_of y.shape.buckets q P) (suc s) ≡ true) word stands.there, word)
         go (is_held a hand) = inr (held_opened s k a lt is hand)
-        go (is_out a out) = absurd (not_shut s k lt is (inl (sound.slots.out a s out).stage))
+        go (is_out a out) = absurd (not_shut s k lt is (subst IsFree (sym (sound.slots.out a s out).stage) tt))
         go (is_free loose used stage) = absurd (not_shut s k lt is stage)
-        go (is_limbo sights loose used stage) = absurd (not_shut s k lt is (inl stage))
+        go (is_limbo sights loose used stage) = absurd (not_shut s k lt is (subst IsFree (sym stage) tt))
 
     -- so a key is read at one slot
     pub read_once : (s u k : ℕ) → s < y.shape.slots → u < y.shape.slots → slot_at t s ≡ Member k → slot_at t u ≡ Member k → s ≡ u

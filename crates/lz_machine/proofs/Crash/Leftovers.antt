@@ -2,11 +2,13 @@
 use Rattle.std.proofs.Common.{◌≡◌, ◌≢◌, inl, inr, ℕ, Bool, true, false, List, [], ◌∷◌, ◌++◌, Option, Some, None, refl, sym, ap, ◌∙◌, subst, arith}
 use mathlib.Core.Bool.{false≢true}
 use Rattle.lz_slot.specs.Sets.{Keys}
-use Rattle.lz_slot.specs.Bytes.{Holds}
+use Rattle.lz_slot.specs.Bytes.{Holds, format_of}
+use Rattle.lz_slot.specs.declared.format.Format.TheVariants.{Four}
 use Rattle.lz_slot.specs.declared.command.Command.{Command}
 use Rattle.lz_slot.specs.Histories.{History, Life, ChainTo, lives, last_history}
 use Rattle.lz_disk.specs.Images.{Medium, AreBytes, IsImage}
-use Rattle.lz_vault.specs.Vaults.{medium_after}
+use Rattle.lz_vault.specs.Stages.{Suits}
+use Rattle.lz_vault.specs.Vaults.{DeviceCall, NoCall, WriteAt, SyncAll, medium_after}
 use Rattle.lz_list.specs.declared.publishing.Publishing.TheVariants.{KeyPrepared as key_prepared, LinkPrepared as link_prepared}
 use Rattle.lz_list.specs.Traces.{Trace}
 use Rattle.lz_machine.specs.declared.event.Event.{Event}
@@ -19,29 +21,29 @@ use Rattle.lz_machine.specs.declared.actor.Actor.{Actor}
 use Rattle.lz_machine.specs.declared.caller.Progress.{Progress}
 use Rattle.lz_machine.specs.declared.caller.Progress.TheVariants.{Answering}
 use Rattle.lz_machine.specs.Yards.{Shape, Yard, actor_at}
-use Rattle.lz_machine.specs.Table.{course, line, line_on, call_on, call_of, published_on, publishes, yard_done, outcome_of}
+use Rattle.lz_machine.specs.Table.{course, line, line_on, call_on, call_of, published_on, publishes, vault_after, yard_done, outcome_of}
 use Rattle.lz_machine.specs.Calls.{event_at, loaded}
-use Rattle.lz_machine.specs.Runs.{Start, Service, Caller, State, Up, Down, Turn, CrashesIn, Point, Reached, IsStart, IsRun, Transition, MayStep, MayLeave, LeftInside, HasTurn, point_after, run, first_point, shape_of, start_keys, caller_at, next_event, reply_at, played, after_turn, marks_of_turn, mark_of_turn, turn_publishes}
+use Rattle.lz_machine.specs.Runs.{Start, Service, Caller, State, Up, Down, Turn, CrashesIn, Point, Reached, IsStart, IsRun, Transition, MayStep, MayLeave, LeftInside, HasTurn, point_after, run, first_point, disk_of, shape_of, start_keys, caller_at, next_event, reply_at, played, after_turn, marks_of_turn, mark_of_turn, turn_publishes}
 use Rattle.lz_machine.specs.Lasts.{Lasts}
 use Rattle.lz_machine.specs.Laws.{EveryHistory, WhatLasts}
 use Rattle.lz_machine.specs.Sound.{HasList, PointSound, IsSound}
 use Rattle.lz_machine.proofs.Steps.Trip.{point}
-use Rattle.lz_machine.proofs.Crash.Image.{images_fit}
+use Rattle.lz_machine.proofs.Crash.Image.{image_suits, images_fit}
 use Rattle.lz_machine.proofs.Crash.Down.{at_rest_sound}
 
--- the text holds a set to which the lives lead, the newest by a list of its own
+-- the text holds a set to which the lives lead, the newest by a list of its own, and its format suits the disk
 abbrev pub IsLeft : Point → List ℕ → List Life → Type 0
 IsLeft p t [] = ⊥
-IsLeft p t (life ∷ earlier) = ChainTo earlier life.start × HasList (shape_of p.state).slots life p.trace t
+IsLeft p t (life ∷ earlier) = ChainTo earlier life.start × HasList (shape_of p.state).slots life p.trace t × Suits (format_of t) (disk_of p.state)
 
 -- of an image of the disk
 image_of_up : (start : Start) (service : Service) (M : History) (P : Trace) (calls : ℕ) (disk : Medium) (t : List ℕ) (L : List Life) → IsImage disk t → PointSound start (point (Up service disk) M P calls) L → IsLeft (point (Up service disk) M P calls) t L
 image_of_up start service M P calls disk t [] image h = absurd h
-image_of_up start service M P calls disk t (life ∷ earlier) image h = (h.1, images_fit h.2.0 calls service disk life P h.2.1 h.2.2 t image)
+image_of_up start service M P calls disk t (life ∷ earlier) image h = (h.1, images_fit h.2.0 calls service disk life P h.2.1 h.2.2 t image, image_suits service.yard.shape service.yard.vault disk h.2.2.sound.images t image)
 
 image_of_down : (start : Start) (shape : Shape) (M : History) (P : Trace) (calls : ℕ) (disk : Medium) (t : List ℕ) (L : List Life) → IsImage disk t → PointSound start (point (Down shape disk) M P calls) L → IsLeft (point (Down shape disk) M P calls) t L
 image_of_down start shape M P calls disk t [] image h = absurd h
-image_of_down start shape M P calls disk t (life ∷ earlier) image h = (h.1, h.2.each t image)
+image_of_down start shape M P calls disk t (life ∷ earlier) image h = (h.1, h.2.each t image, h.2.suits t image)
 
 -- A preparing settles nothing.
 lasts_before_key : (s v : ℕ) (P : Trace) (M : History) (S : Keys) → Lasts (key_prepared s v ∷ P) M S → Lasts P M S
@@ -52,6 +54,12 @@ lasts_before_link s v P M S h = grind arith
 
 has_list_before : (slots : ℕ) (life : Life) (P Q : Trace) (t : List ℕ) → ((S : Keys) → Lasts Q life.history S → Lasts P life.history S) → HasList slots life Q t → HasList slots life P t
 has_list_before slots life P Q t before h = record { found = h.found; calls = h.calls; holds = h.holds; fits = h.fits; lasts = before h.found h.lasts }
+
+-- no call makes a medium bytewise, or takes that from it
+same_kind : (call : DeviceCall) (disk : Medium) → (medium_after call disk).bytewise ≡ disk.bytewise
+same_kind NoCall disk = refl
+same_kind (WriteAt at bytes) disk = refl
+same_kind SyncAll disk = refl
 
 -- an event other than Answer, and how far its call has come
 abbrev is_answer : Event → Bool
@@ -119,6 +127,7 @@ module _ (turn_keeps : (start : Start) (a : ℕ) (service : Service) (disk : Med
           h.1,
           has_list_before service.yard.shape.slots life P (publishes y actor a e ++ P) t (before life.history)
               (images_fit h.2.0 calls (played service a caller (yard_done y actor a e, outcome_of y actor e)) (medium_after (call_of y actor e) disk) life (publishes y actor a e ++ P) h.2.1 h.2.2 t image),
+          subst (λ (b : Bool). format_of t ≡ Four → b ≡ true) (same_kind (call_of y actor e) disk) (image_suits service.yard.shape (vault_after y actor e) (medium_after (call_of y actor e) disk) h.2.2.sound.images t image),
         )
 
     itself : (t : List ℕ) → IsImage disk t → IsLeft (point (Up service disk) M P calls) t (lives (start_keys start) M)
@@ -156,7 +165,7 @@ module _ (turn_keeps : (start : Start) (a : ℕ) (service : Service) (disk : Med
     where
       go : (L : List Life) → PointSound start (point (Up service disk) M P calls) L → IsLeft (point (Up service disk) M P calls) t L → PointSound start (point_after (point (Up service disk) M P calls) (CrashesIn a t)) L
       go [] h left = absurd h
-      go (life ∷ earlier) h left = (h.0, h.1, at_rest_sound disk.bytewise service.yard.shape life P t (inside_bytes a service disk (caller_at service.callers a) t may) left.1)
+      go (life ∷ earlier) h left = (h.0, h.1, at_rest_sound disk.bytewise service.yard.shape life P t (inside_bytes a service disk (caller_at service.callers a) t may) left.2 left.1)
 
   -- a text that a crash may leave has a list
   pub may_leave_has : (start : Start) (w : State) (M : History) (P : Trace) (calls : ℕ) (t : List ℕ) → IsSound start (point w M P calls) → MayLeave w t → IsLeft (point w M P calls) t (lives (start_keys start) M)

@@ -9,12 +9,12 @@ use Rattle.lz_slot.specs.declared.command.Command.TheVariants.{Add, Remove}
 use Rattle.lz_slot.specs.Sets.{key_of, moved}
 use Rattle.lz_slot.specs.Bytes.{slot_at}
 use Rattle.lz_slot.specs.declared.slot.SlotRead.{SlotRead}
-use Rattle.lz_slot.specs.declared.slot.SlotRead.TheVariants.{Closed as Shut, Member}
+use Rattle.lz_slot.specs.declared.slot.SlotRead.TheVariants.{Closed as Shut, Torn, Member}
 use Rattle.lz_slot.specs.Histories.{History, IsUnderWay}
 use Rattle.lz_disk.specs.Images.{Medium, IsImage}
 use Rattle.lz_vault.specs.declared.vault.Stage.{Stage}
 use Rattle.lz_vault.specs.declared.vault.Stage.TheVariants.{Opening, Open}
-use Rattle.lz_vault.specs.Stages.{MayRead}
+use Rattle.lz_vault.specs.Stages.{MayRead, IsReadShut}
 use Rattle.lz_list.specs.Traces.{Trace, on, chain_of, bucket_of, key_word, is_marked}
 use Rattle.lz_machine.specs.Yards.{Yard, cell_in, stage_in}
 use Rattle.lz_machine.specs.Runs.{Caller}
@@ -31,6 +31,7 @@ is_opening _ = false
 -- What a slot asks for that is read so: whether it is on its key's chain, marked, and at stage Opening; its key word.
 abbrev pub asked : Bool → Bool → Bool → ℕ → SlotRead → Option Command
 asked true false false k Shut = Some (Remove k)
+asked true false false k Torn = Some (Remove k)
 asked false marked opening k (Member j) = Some (Add j)
 asked there marked opening k r = None
 
@@ -42,7 +43,7 @@ record AsksRemoval (there marked opening : Bool) (k : ℕ) (r : SlotRead) (c : C
   pub on_chain : there ≡ true
   pub no_mark : marked ≡ false
   pub not_opening : opening ≡ false
-  pub shut : r ≡ Shut
+  pub shut : IsReadShut r
   pub is : c ≡ Remove k
 
 record AsksAdding (there : Bool) (r : SlotRead) (c : Command) : Type 0 where
@@ -52,15 +53,17 @@ record AsksAdding (there : Bool) (r : SlotRead) (c : Command) : Type 0 where
   pub is : c ≡ Add key
 
 asked_tells : (there marked opening : Bool) (k : ℕ) (r : SlotRead) (c : Command) → asked there marked opening k r ≡ Some c → AsksRemoval there marked opening k r c ⊎ AsksAdding there r c
-asked_tells true false false k Shut c is = inl (record { on_chain = refl; no_mark = refl; not_opening = refl; shut = refl; is = sym (same_Some (Remove k) c is) })
+asked_tells true false false k Shut c is = inl (record { on_chain = refl; no_mark = refl; not_opening = refl; shut = inl refl; is = sym (same_Some (Remove k) c is) })
+asked_tells true false false k Torn c is = inl (record { on_chain = refl; no_mark = refl; not_opening = refl; shut = inr refl; is = sym (same_Some (Remove k) c is) })
 asked_tells false marked opening k (Member j) c is = inr (record { key = j; off_chain = refl; read = refl; is = sym (same_Some (Add j) c is) })
 asked_tells _ _ _ k _ c is = absurd (none-some c is)
 
 asked_adding : (there marked opening : Bool) (k j : ℕ) (r : SlotRead) → there ≡ false → r ≡ Member j → asked there marked opening k r ≡ Some (Add j)
 asked_adding there marked opening k j r off is = rw (off, is) refl
 
-asked_removal : (there marked opening : Bool) (k : ℕ) (r : SlotRead) → there ≡ true → marked ≡ false → opening ≡ false → r ≡ Shut → asked there marked opening k r ≡ Some (Remove k)
-asked_removal there marked opening k r is no_mark not_opening shut = rw (is, no_mark, not_opening, shut) refl
+asked_removal : (there marked opening : Bool) (k : ℕ) (r : SlotRead) → there ≡ true → marked ≡ false → opening ≡ false → IsReadShut r → asked there marked opening k r ≡ Some (Remove k)
+asked_removal there marked opening k r is no_mark not_opening (inl shut) = rw (is, no_mark, not_opening, shut) refl
+asked_removal there marked opening k r is no_mark not_opening (inr torn) = rw (is, no_mark, not_opening, torn) refl
 
 -- a call that is under way and has no row
 pub record IsWaiting (c : Command) (rows : List Row) (M : History) : Type 0 where
@@ -95,13 +98,13 @@ module _ (n calls : ℕ) (y : Yard) (callers : List (Option Caller)) (disk : Med
   own_chain : (s k : ℕ) → IsNodeOf y P s k → on 0 (chain_of y.shape.buckets (key_word s P) P) (suc s) ≡ true
   own_chain s k at = subst (λ (q : ℕ). on 0 (chain_of y.shape.buckets q P) (suc s) ≡ true) (sym at.1) at.0
 
-  pub asks_removal : (s k : ℕ) → IsNodeOf y P s k → is_marked s P ≡ false → is_opening (stage_in y.vault.cells s) ≡ false → slot_at t s ≡ Shut → asks y P t s ≡ Some (Remove k)
+  pub asks_removal : (s k : ℕ) → IsNodeOf y P s k → is_marked s P ≡ false → is_opening (stage_in y.vault.cells s) ≡ false → IsReadShut (slot_at t s) → asks y P t s ≡ Some (Remove k)
   asks_removal s k at no_mark not_opening shut =
       asked_removal (on 0 (chain_of y.shape.buckets (key_word s P) P) (suc s)) (is_marked s P) (is_opening (stage_in y.vault.cells s)) (key_word s P) (slot_at t s) (own_chain s k at) no_mark not_opening shut
       ∙ ap (λ (q : ℕ). Some (Remove q)) at.1
 
   -- a call of the command is under way
-  removal_waits : (s k : ℕ) → s < y.shape.slots → on 0 (chain_of y.shape.buckets (key_word s P) P) (suc s) ≡ true → is_marked s P ≡ false → is_opening (stage_in y.vault.cells s) ≡ false → slot_at t s ≡ Shut → key_word s P ≡ k → IsWaiting (Remove k) (entries y.shape.passes callers notes) M
+  removal_waits : (s k : ℕ) → s < y.shape.slots → on 0 (chain_of y.shape.buckets (key_word s P) P) (suc s) ≡ true → is_marked s P ≡ false → is_opening (stage_in y.vault.cells s) ≡ false → IsReadShut (slot_at t s) → key_word s P ≡ k → IsWaiting (Remove k) (entries y.shape.passes callers notes) M
   removal_waits s k lt there no_mark not_opening shut word =
       let stands = node_stands n calls y callers disk M P notes sound s lt there in
       let tail = sound.tails.removing s there no_mark (written stands.1) in
@@ -148,7 +151,7 @@ module _ (n calls : ℕ) (y : Yard) (callers : List (Option Caller)) (disk : Med
       added : (j : ℕ) → j ≡ k → moved k (Add j) b ≡ true
       added j same = rw (eq-eqb j k same) refl
 
-      none : IsNodeOf y P s k → slot_at t s ≡ Shut → found t y.shape.slots k ≡ false
+      none : IsNodeOf y P s k → IsReadShut (slot_at t s) → found t y.shape.slots k ≡ false
       none at shut = elim (cases_Bool (found t y.shape.slots k)) [
         | inl has ↦
             let there = found_in t y.shape.slots k has in

@@ -1,19 +1,21 @@
 -- An actor that has opened its slot's gate stands beside its key's place.
-use Rattle.std.proofs.Common.{◌≡◌, ℕ, Bool, true, Some, refl, sym, ◌∙◌, subst, arith}
+use Rattle.std.proofs.Common.{◌≡◌, inl, inr, ℕ, Bool, true, Some, refl, sym, ◌∙◌, subst, arith}
 use mathlib.Core.Bool.{false≢true}
 use Rattle.std.proofs.lemmas.Option.{same_Some}
 use Rattle.lz_vault.specs.declared.vault.Stage.{Stage}
+use Rattle.lz_vault.specs.Stages.{IsFree}
 use Rattle.lz_list.specs.Traces.{Trace, key_word}
 use Rattle.lz_machine.specs.declared.actor.Actor.{Actor}
 use Rattle.lz_machine.specs.declared.actor.Hold.{Hold}
 use Rattle.lz_machine.specs.declared.actor.Hold.TheVariants.{Checked, GateOpened}
-use Rattle.lz_machine.specs.SlotsSound.{opens, IsGateClosed, IsGateOpened, IsGateWritten}
+use Rattle.lz_machine.specs.SlotsSound.{opens, IsGateOpened, IsGateWritten}
 use Rattle.lz_machine.specs.LocksSound.{IsBeside, RestsOn}
 use Rattle.lz_machine.proofs.Frames.HeldLocks.{rests_on_pair}
 
 -- a gate that is surely closed is neither opened nor written open
-pub opened_shut : (stage : Stage) → IsGateOpened stage → IsGateClosed stage → ⊥
-opened_shut stage h1 h2 = grind arith
+pub opened_shut : (stage : Stage) → IsGateOpened stage → IsFree stage → ⊥
+opened_shut stage (inl opening) free = subst IsFree opening free
+opened_shut stage (inr opened) free = subst IsFree opened free
 
 pub opened_written : (stage : Stage) → IsGateOpened stage → IsGateWritten stage → ⊥
 opened_written stage h1 h2 = grind arith

@@ -4,7 +4,7 @@ use mathlib.Core.Bool.{false≢true}
 use Rattle.std.proofs.lemmas.Bool.{cases_lt}
 use Rattle.std.proofs.lemmas.List.{get_or_past}
 use Rattle.lz_slot.specs.Counted.{of_pass}
-use Rattle.lz_vault.specs.Stages.{Cell}
+use Rattle.lz_vault.specs.Stages.{Cell, IsFree}
 use Rattle.lz_allot.specs.declared.sight.Sight.{Sight}
 use Rattle.lz_allot.specs.declared.sight.Sight.TheVariants.{Left}
 use Rattle.lz_allot.specs.Uses.{Use, Free, Taken, Limbo, use_of}
@@ -12,7 +12,7 @@ use Rattle.lz_list.specs.declared.publishing.Publishing.{Publishing}
 use Rattle.lz_list.specs.Traces.{Trace, IsLoose, on, chain_of, bucket_of}
 use Rattle.lz_machine.specs.declared.actor.Actor.{Actor}
 use Rattle.lz_machine.specs.Yards.{Shape, actor_in, pin_in, stage_in}
-use Rattle.lz_machine.specs.SlotsSound.{IsGateClosed, IsOnChain, IsNodeStage, SlotStands, is_node, is_held, is_out, is_free, is_limbo, SlotsSound}
+use Rattle.lz_machine.specs.SlotsSound.{IsOnChain, IsNodeStage, SlotStands, is_node, is_held, is_out, is_free, is_limbo, SlotsSound}
 use Rattle.lz_machine.specs.Sound.{ReuseSound}
 use Rattle.lz_machine.proofs.Frames.Limbo.{seen_step, away_stays}
 use Rattle.lz_machine.proofs.Frames.Uses.{free_limbo}
@@ -46,10 +46,10 @@ module _ (shape : Shape) (cells : List Cell) (dead : Bool) (uses : List Use) (ac
       go (is_limbo sights loose limbo stage) = absurd (off loose)
 
   -- a free slot is on no chain, and its gate is surely closed
-  pub free_stands : s < shape.slots → use_of uses s ≡ Free → IsLoose shape.buckets s P × IsGateClosed (stage_in cells s)
+  pub free_stands : s < shape.slots → use_of uses s ≡ Free → IsLoose shape.buckets s P × IsFree (stage_in cells s)
   free_stands lt free = go (h.each s lt)
     where
-      go : SlotStands shape cells dead uses actors P s → IsLoose shape.buckets s P × IsGateClosed (stage_in cells s)
+      go : SlotStands shape cells dead uses actors P s → IsLoose shape.buckets s P × IsFree (stage_in cells s)
       go (is_node chain stage) = absurd (free_taken free chain.taken)
       go (is_held b slot) = absurd (free_taken free (h.hand b s slot).taken)
       go (is_out b out) = absurd (free_taken free (h.out b s out).taken)

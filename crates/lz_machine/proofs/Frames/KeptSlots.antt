@@ -1,21 +1,21 @@
 -- What is said of slots stays where all that it speaks of changes only so far: holds, uses, cells and nodes.
 use Rattle.std.proofs.Common.{◌≡◌, ◌≢◌, ◌⊎◌, inl, inr, ℕ, suc, Bool, true, List, ◌∷◌, refl, sym, ◌∙◌, subst}
 use Rattle.lz_vault.specs.declared.vault.Stage.TheVariants.{Closed, Opening}
-use Rattle.lz_vault.specs.Stages.{Cell}
+use Rattle.lz_vault.specs.Stages.{Cell, IsFree}
 use Rattle.lz_allot.specs.declared.sight.Sight.{Sight}
 use Rattle.lz_allot.specs.Uses.{Use, Free, Limbo, use_of}
 use Rattle.lz_list.specs.declared.publishing.Publishing.{Publishing}
 use Rattle.lz_list.specs.Traces.{Trace, IsLoose, on, chain_of, key_word, linking, is_settled, is_removed, is_marked}
 use Rattle.lz_machine.specs.declared.actor.Actor.{Actor}
 use Rattle.lz_machine.specs.Yards.{Shape, actor_in, cell_in, stage_in}
-use Rattle.lz_machine.specs.SlotsSound.{IsGateClosed, IsGateOpened, IsGateWritten, IsNodeStage, IsHandStage, SlotStands, is_node, is_held, is_out, is_free, is_limbo, SlotsSound}
+use Rattle.lz_machine.specs.SlotsSound.{IsGateOpened, IsGateWritten, IsNodeStage, IsHandStage, SlotStands, is_node, is_held, is_out, is_free, is_limbo, SlotsSound}
 use Rattle.lz_machine.proofs.Frames.Grip.{KeepsGrips, keeps_itself}
 use Rattle.lz_machine.proofs.Frames.Uses.{KeepsUses}
 
 -- the cell keeps its key, and its gate is as it was for all that is said of it
 pub record KeepsGate (old new : Cell) : Type 0 where
   pub opened : IsGateOpened old.stage → IsGateOpened new.stage
-  pub shut : IsGateClosed old.stage → IsGateClosed new.stage
+  pub shut : IsFree old.stage → IsFree new.stage
   pub written : IsGateWritten old.stage → IsGateWritten new.stage
   pub closed : old.stage ≡ Closed → new.stage ≡ Closed
   pub key : new.key ≡ old.key
@@ -50,7 +50,7 @@ module _ (shape : Shape) (cells cells' : List Cell) (dead dead' : Bool) (uses us
   hand_stage b s (inr (opener, opened, key)) = inr ((grips b).opener opener, (gates s).opened opened, key_kept s key)
 
   in_limbo : (s : ℕ) → IsLoose shape.buckets s P' → (use_of uses' s ≡ Free) ⊎ ((seen : List Sight) × (use_of uses' s ≡ Limbo seen)) → stage_in cells' s ≡ Closed → SlotStands shape cells' dead' uses' actors' P' s
-  in_limbo s loose (inl free) closed = is_free loose free (inl closed)
+  in_limbo s loose (inl free) closed = is_free loose free (subst IsFree (sym closed) tt)
   in_limbo s loose (inr (seen, limbo)) closed = is_limbo seen loose limbo closed
 
   stands : (s : ℕ) → SlotStands shape cells dead uses actors P s → SlotStands shape cells' dead' uses' actors' P' s

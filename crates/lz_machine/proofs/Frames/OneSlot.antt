@@ -3,12 +3,12 @@ use Rattle.std.proofs.Common.{◌≡◌, ◌≢◌, inl, inr, ℕ, suc, ◌<◌,
 use mathlib.Core.Bool.{false≢true}
 use Rattle.lz_vault.specs.declared.vault.Stage.{Stage}
 use Rattle.lz_vault.specs.declared.vault.Stage.TheVariants.{Closed, Opening}
-use Rattle.lz_vault.specs.Stages.{Cell}
+use Rattle.lz_vault.specs.Stages.{Cell, IsFree}
 use Rattle.lz_allot.specs.Uses.{Use, use_of}
 use Rattle.lz_list.specs.Traces.{Trace, IsLoose, on, chain_of, key_word, linking, is_settled, is_removed, is_marked}
 use Rattle.lz_machine.specs.declared.actor.Actor.{Actor}
 use Rattle.lz_machine.specs.Yards.{Shape, actor_in, cell_in, stage_in}
-use Rattle.lz_machine.specs.SlotsSound.{IsGateClosed, IsGateOpened, IsGateWritten, IsOut, IsCloser, closes, opens, shuts, unlocks, has_removed_node, IsNodeStage, IsHandStage, IsInHand, IsGone, SlotStands, is_node, is_held, is_out, is_free, is_limbo, SlotsSound}
+use Rattle.lz_machine.specs.SlotsSound.{IsGateOpened, IsGateWritten, IsOut, IsCloser, closes, opens, shuts, unlocks, has_removed_node, IsNodeStage, IsHandStage, IsInHand, IsGone, SlotStands, is_node, is_held, is_out, is_free, is_limbo, SlotsSound}
 use Rattle.lz_machine.proofs.Frames.ActorTable.{by_actor}
 use Rattle.lz_machine.proofs.Frames.Grip.{KeepsGrips, keeps_itself}
 
@@ -93,14 +93,14 @@ module _ (shape : Shape) (cells cells' : List Cell) (dead dead' : Bool) (uses us
   }) (node_stage t apart stage)
   stands t apart (is_held b slot) = is_held b ((grips b).still_slot t apart slot)
   stands t apart (is_out b out) = is_out b ((grips b).still_out t apart out)
-  stands t apart (is_free loose free stage) = is_free (nodes.loose t apart loose) (same_use t apart ∙ free) (stage_then IsGateClosed t apart stage)
+  stands t apart (is_free loose free stage) = is_free (nodes.loose t apart loose) (same_use t apart ∙ free) (stage_then IsFree t apart stage)
   stands t apart (is_limbo sights loose limbo stage) = is_limbo sights (nodes.loose t apart loose) (same_use t apart ∙ limbo) (stage_then (λ q. q ≡ Closed) t apart stage)
 
   hand_then : (b t : ℕ) → t ≢ s → (actor_in actors' b).slot ≡ Some t → IsInHand shape cells dead uses (actor_in actors b) P t → IsInHand shape cells' dead' uses' (actor_in actors' b) P' t
   hand_then b t apart slot was = record { in_range = was.in_range; loose = nodes.loose t apart was.loose; taken = same_use t apart ∙ was.taken; stage = go was.stage }
     where
       go : IsHandStage cells dead (actor_in actors b) P t → IsHandStage cells' dead' (actor_in actors' b) P' t
-      go (inl closed) = inl (stage_then IsGateClosed t apart closed)
+      go (inl closed) = inl (stage_then IsFree t apart closed)
       go (inr (opener, opened, key)) = inr ((grips b).opener t apart slot opener, stage_then IsGateOpened t apart opened, key_then t apart key)
 
   gone_then : (t : ℕ) → t ≢ s → IsGone shape cells uses P t → IsGone shape cells' uses' P' t
@@ -169,7 +169,7 @@ module _ (shape : Shape) (cells cells' : List Cell) (dead dead' : Bool) (uses us
 -- A slot in hand is prepared: its gate stays closed, and no hold changes.
 pub prepared_slots : (shape : Shape) (cells cells' : List Cell) (dead dead' : Bool) (uses : List Use) (actors : List Actor) (P P' : Trace) (a s : ℕ) → (dead ≡ true → dead' ≡ true)
     → ((t : ℕ) → t ≢ s → cell_in cells' t ≡ cell_in cells t) → KeepsOtherNodes shape.buckets s P P' → SlotsSound shape cells dead uses actors P
-    → (actor_in actors a).slot ≡ Some s → unlocks (actor_in actors a).hold ≡ false → IsLoose shape.buckets s P' → IsGateClosed (stage_in cells' s)
+    → (actor_in actors a).slot ≡ Some s → unlocks (actor_in actors a).hold ≡ false → IsLoose shape.buckets s P' → IsFree (stage_in cells' s)
     → ((b : ℕ) → (actor_in actors b).curr ≡ Some s → shuts (actor_in actors b).hold ≡ true → IsGateWritten (stage_in cells' s))
     → ((k t : ℕ) → key_word t P' ≡ k → on 0 (chain_of shape.buckets k P') (suc t) ≡ true → is_settled (linking k P') P' ≡ true → stage_in cells' t ≢ Opening)
     → ((k t : ℕ) → key_word t P' ≡ k → on 0 (chain_of shape.buckets k P') (suc t) ≡ true → is_removed (linking k P') P' ≡ true → stage_in cells' t ≡ Closed)

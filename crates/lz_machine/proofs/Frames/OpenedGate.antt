@@ -1,18 +1,16 @@
 -- What holds of slots, locks and actors after a gate was opened.
-use Rattle.std.proofs.Common.{◌≡◌, ◌≢◌, ◌⊎◌, inl, inr, ℕ, suc, ◌<◌, ◌≤◌, ◌+◌, ◌*◌, ◌==◌, Bool, true, false, List, [], ◌∷◌, length, Option, Some, None, refl, sym, ap, ◌∙◌, subst, arith}
+use Rattle.std.proofs.Common.{◌≡◌, ◌≢◌, inl, inr, ℕ, suc, ◌<◌, ◌≤◌, ◌==◌, Bool, true, false, List, ◌∷◌, length, Option, Some, None, refl, sym, ap, ◌∙◌, subst, arith}
 use mathlib.Core.Bool.{false≢true}
 use Rattle.std.specs.Prelude.{slice_set}
 use Rattle.std.proofs.lemmas.Bool.{cases_eq}
 use Rattle.std.proofs.lemmas.Bool.Decides.{nat_tests}
 use Rattle.std.proofs.lemmas.Option.{same_Some, none-some}
 use Rattle.lz_slot.specs.declared.command.Command.TheVariants.{Add, Remove}
-use Rattle.lz_slot.specs.Bytes.{open_byte}
 use Rattle.lz_slot.specs.Histories.{History}
-use Rattle.lz_disk.specs.Images.{Medium, WriteFailed}
+use Rattle.lz_disk.specs.Images.{Medium}
 use Rattle.lz_vault.specs.declared.vault.Stage.TheVariants.{Closed, Opening}
-use Rattle.lz_vault.specs.Stages.{Cell}
-use Rattle.lz_vault.specs.Vaults.{Vaulted}
-use Rattle.lz_vault.proofs.Gates.{keyed_has_body}
+use Rattle.lz_vault.specs.Stages.{Cell, IsFree}
+use Rattle.lz_vault.specs.Vaults.{Vaulted, MayFail, opening_call}
 use Rattle.lz_list.specs.declared.publishing.Publishing.TheVariants.{LinkPrepared as link_prepared}
 use Rattle.lz_list.specs.declared.word.Word.TheVariants.{Link as link_at}
 use Rattle.lz_list.specs.Words.{set, place_number, link_to}
@@ -37,7 +35,7 @@ use Rattle.lz_machine.specs.CallersSound.{Relies, view_of, CallerSound, CallersS
 use Rattle.lz_machine.specs.LedgerSound.{HasTail, may_have_tail}
 use Rattle.lz_machine.specs.Sound.{DiskSound, ReuseSound, Sound}
 use Rattle.lz_machine.proofs.Frames.ActorTable.{by_actor, field_stays}
-use Rattle.lz_machine.proofs.Frames.GateWrite.{gate_failed}
+use Rattle.lz_machine.proofs.Frames.SlotWrite.{opening_lost}
 use Rattle.lz_machine.proofs.Frames.OneActor.{moving, callers_moved, ledger_turn}
 use Rattle.lz_machine.proofs.Frames.ChainSlots.{reuse_published}
 use Rattle.lz_machine.proofs.Frames.OneSlot.{slot_grips, same_nodes, slot_turn, prepared_slots}
@@ -49,7 +47,7 @@ use Rattle.lz_machine.proofs.Frames.Hand.{reuse_turn}
 use Rattle.lz_machine.proofs.Frames.HeldLocks.{LeavesPair, link_leaves, beside_stays, before_stays}
 use Rattle.lz_machine.proofs.Steps.Hop.{call_at, own}
 use Rattle.lz_machine.proofs.Frames.Cells.{caller_vaulted, cell_same, cell_other, stage_other, cell_stays}
-use Rattle.lz_machine.proofs.Frames.KeyWrite.{rests_prepared}
+use Rattle.lz_machine.proofs.Frames.PreparedSlot.{rests_prepared}
 use Rattle.lz_machine.proofs.Ledger.Change.{own_tail}
 use Rattle.lz_machine.proofs.Frames.SameYard.{in_passes, tail_turn}
 
@@ -167,11 +165,11 @@ module _ (n calls : ℕ) (y : Yard) (callers : List (Option Caller)) (disk : Med
     }
 
   -- The turn in which the write fails: the vault dies, no word is changed, and the gate may be opened.
-  pub write_open_fails_keeps : y.vault.dead ≡ false → (medium : Medium) → (medium ≡ disk) ⊎ WriteFailed disk (16 + 16 * s) (open_byte ∷ []) medium
+  pub write_open_fails_keeps : y.vault.dead ≡ false → (medium : Medium) → MayFail (opening_call y.vault.format s (cell_in y.vault.cells s).key) disk medium
       → Sound n calls (with_vault y (record y.vault { cells = slice_set y.vault.cells s (record { stage = Opening; key = (cell_in y.vault.cells s).key }); dead = true })) (moving callers a (call_at i (Add k) (Playing (Adding s) 0)) (halts Device)) medium M P notes
   write_open_fails_keeps alive medium may =
       open_sound true alive (actor_in y.actors a) y.actors refl refl (λ b other. refl) refl (ap (opens true) h.0) (ap shuts h.0) (ap has_removed_node h.0) (halts Device) refl medium
-      (gate_failed y.shape y.vault disk sound.images alive s lt open_byte (omega arith) Opening (keyed_has_body (stage_in y.vault.cells s) h.1.stage) (λ j bytes e. e) (λ j bytes e. e) y.vault.syncs medium may)
+      (opening_lost y.shape y.vault disk sound.images alive s lt h.1.stage medium may)
       sound.locks
       (record { quiet = me.quiet; begins = me.begins; stands = (me.stands.0, me.stands.1, (tt, refl)) })
 
@@ -193,7 +191,7 @@ module _ (n calls : ℕ) (y : Yard) (callers : List (Option Caller)) (disk : Med
   published_slots : SlotsSound y.shape y.vault.cells y.vault.dead y.uses y.actors P'
   published_slots =
       prepared_slots y.shape y.vault.cells y.vault.cells y.vault.dead y.vault.dead y.uses y.actors P P' a s (λ e. e) (λ t apart. refl)
-      (record { loose = λ t apart is. is; word = λ t apart. refl; mark = mark_other; chain = λ t apart on_it. on_it }) sound.slots h.1.slot (ap unlocks h.0) loose (inr (inr h.1.stage)) (λ b curr is. absurd (others_closed b curr is))
+      (record { loose = λ t apart is. is; word = λ t apart. refl; mark = mark_other; chain = λ t apart on_it. on_it }) sound.slots h.1.slot (ap unlocks h.0) loose (subst IsFree (sym h.1.stage) tt) (λ b curr is. absurd (others_closed b curr is))
       (λ j t key on_it flag. sound.slots.added j t key on_it flag) (λ j t key on_it flag. sound.slots.removed j t key on_it flag)
 
   -- what the adder has checked: its pair stands round its key

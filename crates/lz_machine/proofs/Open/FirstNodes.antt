@@ -5,9 +5,10 @@ use Rattle.std.proofs.lemmas.Bool.{cases_Bool, cases_eq}
 use Rattle.std.proofs.lemmas.List.{append-nil}
 use Rattle.std.proofs.lemmas.Bool.Decides.{nat_tests, eqb_tells}
 use Rattle.lz_slot.specs.declared.slot.SlotRead.{SlotRead}
-use Rattle.lz_slot.specs.declared.slot.SlotRead.TheVariants.{Closed, Member, BadKey}
+use Rattle.lz_slot.specs.declared.slot.SlotRead.TheVariants.{Closed, Torn, Member, BadKey}
 use Rattle.lz_slot.specs.Bytes.{slot_at, held, held_key}
 use Rattle.lz_slot.specs.Nodes.{has_node}
+use Rattle.lz_vault.specs.Stages.{IsReadShut}
 use Rattle.lz_list.specs.Traces.{Chain, has_key, has_slot, on, chain, chain_of, bucket_of, key_word, linking, is_marked, is_removed, opening, IsFound, IsLoose}
 use Rattle.lz_list.proofs.Traces.NodeBits.{on_insert_other}
 use Rattle.lz_list.proofs.Traces.WalkEnd.{on_insert}
@@ -63,12 +64,16 @@ module _ (t : List ℕ) where
   slot_later (suc n) s le = has_slot_append s (held t n) (held_key (slot_at t n) n) ∙ slot_of_read n s (λ same. absurd (omega (arith, le, same))) (slot_at t n) (slot_later n s (omega arith))
 
   -- a closed slot isn't held
-  pub slot_closed : (n s : ℕ) → slot_at t s ≡ Closed → has_slot s (held t n) ≡ false
+  none_of_shut : (n s : ℕ) (r : SlotRead) → IsReadShut r → has_slot s (held_key r n) ≡ false
+  none_of_shut n s r (inl shut) = rw shut refl
+  none_of_shut n s r (inr torn) = rw torn refl
+
+  pub slot_closed : (n s : ℕ) → IsReadShut (slot_at t s) → has_slot s (held t n) ≡ false
   slot_closed zero s shut = refl
   slot_closed (suc n) s shut = elim (cases_eq n s) [
     | inl same ↦
-        let here : slot_at t n ≡ Closed = ap (slot_at t) same ∙ shut in
-        has_slot_append s (held t n) (held_key (slot_at t n) n) ∙ rw here (grind (arith, slot_closed n s shut))
+        let here : IsReadShut (slot_at t n) = subst (λ (q : ℕ). IsReadShut (slot_at t q)) (sym same) shut in
+        has_slot_append s (held t n) (held_key (slot_at t n) n) ∙ rw (slot_closed n s shut, none_of_shut n s (slot_at t n) here) refl
     | inr other ↦ has_slot_append s (held t n) (held_key (slot_at t n) n) ∙ slot_of_read n s other (slot_at t n) (slot_closed n s shut)
   ]
 
@@ -92,6 +97,7 @@ module _ (t : List ℕ) where
     | inr other ↦ let found = before (grind (arith, nat_tests)) in (found.0, omega (arith, found.1), found.2)
   ]
   key_of_read n k Closed at before passes = let found = before (grind (arith, nat_tests)) in (found.0, omega (arith, found.1), found.2)
+  key_of_read n k Torn at before passes = let found = before (grind (arith, nat_tests)) in (found.0, omega (arith, found.1), found.2)
   key_of_read n k BadKey at before passes = let found = before (grind (arith, nat_tests)) in (found.0, omega (arith, found.1), found.2)
 
   pub key_held : (n k : ℕ) → has_key k (held t n) ≡ true → IsIn n k
@@ -116,6 +122,7 @@ module _ (t : List ℕ) where
     | inr none ↦ none
   ]) (slot_later n n (omega arith))
   found_of_read N n once lt Closed at rest = subst (IsFound N) (sym (append-nil (held t n))) rest
+  found_of_read N n once lt Torn at rest = subst (IsFound N) (sym (append-nil (held t n))) rest
   found_of_read N n once lt BadKey at rest = subst (IsFound N) (sym (append-nil (held t n))) rest
 
   pub held_found : (N n : ℕ) → HasNoKeyTwice N → n ≤ N → IsFound N (held t n)

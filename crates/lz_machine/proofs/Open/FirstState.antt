@@ -3,7 +3,7 @@ use Rattle.std.proofs.Common.{◌≡◌, ◌≢◌, ◌⊎◌, inl, inr, ⊎_eli
 use mathlib.Core.Bool.{false≢true}
 use Rattle.std.specs.Prelude.{slice_get}
 use Rattle.std.proofs.lemmas.Bool.{cases_Bool, cases_lt}
-use Rattle.std.proofs.lemmas.List.{length-replicate, length-append, length-map, get_or-map, get_or_past, get_or_append_left, get_or_push}
+use Rattle.std.proofs.lemmas.List.{length-replicate, length-append, length-map, get_or-map, get_or_append_left, get_or_push}
 use Rattle.std.proofs.lemmas.List.Edits.{length-between}
 use Rattle.std.proofs.lemmas.Option.{slice_get_within, get_or_from_slice_get, none-some}
 use Rattle.std.specs.Cmp.{both_ways}
@@ -14,10 +14,9 @@ use Rattle.lz_slot.specs.declared.slot.SlotRead.{SlotRead}
 use Rattle.lz_slot.specs.declared.slot.SlotRead.TheVariants as read
 use Rattle.lz_disk.specs.Images.{AreBytes, IsImage, at_rest}
 use Rattle.lz_disk.proofs.Writes.{synced_image, synced_sound}
-use Rattle.lz_vault.specs.declared.vault.Stage.TheVariants.{Closed, Opening, Open, Closing}
-use Rattle.lz_vault.specs.Stages.{Cell, Says, Reads, Keeps}
-use Rattle.lz_allot.specs.declared.sight.Sight.{Sight}
-use Rattle.lz_allot.specs.Uses.{Use, Taken, Limbo, use_of}
+use Rattle.lz_vault.specs.declared.vault.Stage.TheVariants.{Closed, Open, Closing}
+use Rattle.lz_vault.specs.Stages.{Cell, Says, Reads, Suits, Keeps, IsFree, IsReadShut}
+use Rattle.lz_allot.specs.Uses.{Use, Taken, use_of}
 use Rattle.lz_list.specs.Traces.{Trace, Chain, has_key, on, chain_of, key_word, member, linking, is_settled, IsFound, IsLoose}
 use Rattle.lz_list.proofs.Traces.OpeningTrace.{opening_lawful, opening_members, opening_settled}
 use Rattle.lz_machine.specs.declared.actor.Actor.{Actor}
@@ -38,7 +37,7 @@ use Rattle.lz_machine.proofs.Frames.Ranges.{on_range, opening_small}
 use Rattle.lz_list.proofs.Chains.ChainNode.{node_has_key}
 use Rattle.lz_machine.proofs.Open.FirstNodes.{off_chains, node_key, node_on, none_marked, none_removed, never_linked, slot_closed, node_held, key_held, held_found}
 use Rattle.lz_machine.proofs.Steps.Invoke.{pending_none}
-use Rattle.lz_machine.proofs.Open.FoundSlots.{first_notes, pass_of, read_cases, read_key, read_limbo, read_reads, read_says, read_steady, slot_fits}
+use Rattle.lz_machine.proofs.Open.FoundSlots.{first_notes, no_limbo_read, no_opening_read, pass_of, read_cases, read_key, read_reads, read_says, shut_free, shut_use, slot_fits}
 
 module _ (t : List ℕ) where
   length-read : (n : ℕ) → length (slots_read t n) ≡ n
@@ -106,26 +105,8 @@ module _ (shape : Shape) (t : List ℕ) (found : Keys) (some : 1 ≤ shape.bucke
   cell_is : (s : ℕ) → s < N → cell_in cells s ≡ cell_read (slot_at t s)
   cell_is s lt = get_or-map cell_read (slots_read t N) s read.Closed no_cell (omega (arith, lt, length-read t N)) ∙ ap cell_read (slot_of t N s read.Closed lt)
 
-  cell_past : (s : ℕ) → N ≤ s → cell_in cells s ≡ no_cell
-  cell_past s le = get_or_past cells s no_cell (omega (arith, le, count))
-
   use_is : (s : ℕ) → s < N → use_of uses s ≡ use_read (slot_at t s)
   use_is s lt = get_or-map use_read (slots_read t N) s read.Closed Taken (omega (arith, lt, length-read t N)) ∙ ap use_read (slot_of t N s read.Closed lt)
-
-  steady : (s : ℕ) → (stage_in cells s ≡ Open) ⊎ (stage_in cells s ≡ Closed)
-  steady s = ⊎_elim
-      (λ lt. ⊎_elim
-      (λ opened. inl (ap (λ (cell : Cell). cell.stage) (cell_is s lt) ∙ opened))
-      (λ shut. inr (ap (λ (cell : Cell). cell.stage) (cell_is s lt) ∙ shut))
-      (read_steady (slot_at t s)))
-      (λ le. inr (ap (λ (cell : Cell). cell.stage) (cell_past s le)))
-      (cases_lt s N)
-
-  no_limbo : (s : ℕ) (sights : List Sight) → use_of uses s ≡ Limbo sights → ⊥
-  no_limbo s sights is = ⊎_elim
-      (λ lt. read_limbo (slot_at t s) sights (sym (use_is s lt) ∙ is))
-      (λ le. let e : Taken ≡ Limbo sights = sym (get_or_past uses s Taken (omega (arith, le, use_count))) ∙ is in absurd cc)
-      (cases_lt s N)
 
   -- the disk
   long : (i : ℕ) → i < N → length (slot_bytes t i) ≡ 16
@@ -137,31 +118,32 @@ module _ (shape : Shape) (t : List ℕ) (found : Keys) (some : 1 ≤ shape.bucke
   cell_there : (i : ℕ) (cell : Cell) → slice_get cells i ≡ Some cell → cell_read (slot_at t i) ≡ cell
   cell_there i cell there = sym (cell_is i (within i cell there)) ∙ get_or_from_slice_get cells i cell no_cell there
 
-  keeps : (b : Bool) → Keeps (format_of t) cells false (at_rest b t)
-  keeps b = record {
+  keeps : (b : Bool) → Suits (format_of t) (at_rest b t) → Keeps (format_of t) cells false (at_rest b t)
+  keeps b suits = record {
+    suits = suits;
     sound = synced_sound (at_rest b t) bytes;
     vouches = record {
       size = λ c image. ap length (is c image) ∙ holds.size ∙ ap (λ (n : ℕ). 16 + 16 * n) (sym count);
       head = λ c image. ap (take 16) (is c image) ∙ holds.head ∙ ap (λ (n : ℕ). open_byte ∷ header_body (format_of t) n) (sym count);
-      each = λ c i cell image there. subst (λ (l : List ℕ). Says cell.stage cell.key (slot_bytes l i)) (sym (is c image)) (says i cell there);
+      each = λ c i cell image there. subst (λ (l : List ℕ). Says (format_of t) cell.stage cell.key (slot_bytes l i)) (sym (is c image)) (says i cell there);
     };
-    reads = λ live i cell there. subst (λ (q : Cell). Reads q.stage q.key (slot_bytes t i)) (cell_there i cell there) (read_reads (slot_at t i) (slot_bytes t i));
+    reads = λ live i cell there. subst (λ (q : Cell). Reads (format_of t) q.stage q.key (slot_bytes t i)) (cell_there i cell there) (read_reads (format_of t) (slot_at t i) (slot_bytes t i));
   }
     where
       is : (c : List ℕ) → IsImage (at_rest b t) c → c ≡ t
       is c image = synced_image (at_rest b t) c image
 
-      says : (i : ℕ) (cell : Cell) → slice_get cells i ≡ Some cell → Says cell.stage cell.key (slot_bytes t i)
+      says : (i : ℕ) (cell : Cell) → slice_get cells i ≡ Some cell → Says (format_of t) cell.stage cell.key (slot_bytes t i)
       says i cell there =
           let lt = within i cell there in
-          subst (λ (q : Cell). Says q.stage q.key (slot_bytes t i)) (cell_there i cell there) (read_says (format_of t) (slot_at t i) (slot_bytes t i) refl (holds.no_bad_key i lt) (long i lt) (slot_fits t i bytes))
+          subst (λ (q : Cell). Says (format_of t) q.stage q.key (slot_bytes t i)) (cell_there i cell there) (read_says (format_of t) (slot_at t i) (slot_bytes t i) refl (holds.no_bad_key i lt) (long i lt) (slot_fits t i bytes))
 
-  images : (b : Bool) → DiskSound shape (opened_yard shape t).vault (at_rest b t)
-  images b = record {
+  images : (b : Bool) → Suits (format_of t) (at_rest b t) → DiskSound shape (opened_yard shape t).vault (at_rest b t)
+  images b suits = record {
     slots = holds.count;
     count = count;
     keys = λ i cell there. subst (λ (q : Cell). q.key ≤ largest_of (format_of t)) (cell_there i cell there) (read_key (format_of t) (slot_at t i) (slot_bytes t i) refl);
-    keeps = keeps b;
+    keeps = keeps b suits;
   }
 
   -- the slots
@@ -171,7 +153,7 @@ module _ (shape : Shape) (t : List ℕ) (found : Keys) (some : 1 ≤ shape.bucke
   stage_open : (s k : ℕ) → s < N → slot_at t s ≡ read.Member k → cell_in cells s ≡ record { stage = Open; key = k }
   stage_open s k lt is = cell_is s lt ∙ ap cell_read is
 
-  loose : (s : ℕ) → slot_at t s ≡ read.Closed → IsLoose shape.buckets s P
+  loose : (s : ℕ) → IsReadShut (slot_at t s) → IsLoose shape.buckets s P
   loose s shut = off_chains shape.buckets s all_found (slot_closed t N s shut)
 
   idle : (a : ℕ) → actor_in actors a ≡ idle_actor
@@ -195,13 +177,7 @@ module _ (shape : Shape) (t : List ℕ) (found : Keys) (some : 1 ≤ shape.bucke
           key = ap (λ (q : Cell). q.key) cell ∙ sym key;
         })
         (inl (none_marked shape.buckets s all_found, inr (ap (λ (q : Cell). q.stage) cell)))
-    | inr shut ↦ is_free (loose s shut) (use_is s lt ∙ ap use_read shut) (inl (ap (λ (q : Cell). q.stage) (cell_is s lt ∙ ap cell_read shut)))
-  ]
-
-  never_opening : (s : ℕ) → stage_in cells s ≢ Opening
-  never_opening s is = elim (steady s) [
-    | inl opened ↦ let e : Open ≡ Opening = sym opened ∙ is in absurd cc
-    | inr shut ↦ let e : Closed ≡ Opening = sym shut ∙ is in absurd cc
+    | inr shut ↦ is_free (loose s shut) (use_is s lt ∙ shut_use (slot_at t s) shut) (subst (λ (q : Cell). IsFree q.stage) (sym (cell_is s lt)) (shut_free (slot_at t s) shut))
   ]
 
   slots : SlotsSound shape cells false uses actors P
@@ -215,7 +191,7 @@ module _ (shape : Shape) (t : List ℕ) (found : Keys) (some : 1 ≤ shape.bucke
     hand_out = λ a b s is other. absurd (no_slot a s is);
     closed = λ a s is shuts. absurd (no_node a s is);
     opened = λ a s is unlocks. absurd (no_slot a s is);
-    added = λ k s key there settled. never_opening s;
+    added = λ k s key there settled. no_opening_read (slots_read t N) s;
     removed = λ k s key there is. absurd (false≢true (sym (none_removed shape.buckets (linking k P) all_found) ∙ is));
   }
 
@@ -251,8 +227,8 @@ module _ (shape : Shape) (t : List ℕ) (found : Keys) (some : 1 ≤ shape.bucke
   reuse : ReuseSound shape pins uses actors P notes.begun
   reuse = record {
     worn = λ a. omega (arith, outside a);
-    sights = λ s seen is. absurd (no_limbo s seen is);
-    seen = λ a s seen is. absurd (no_limbo s seen is);
+    sights = λ s seen is. absurd (no_limbo_read (slots_read t N) s seen is);
+    seen = λ a s seen is. absurd (no_limbo_read (slots_read t N) s seen is);
     free = λ a s is inside. absurd (not_inside a inside);
     reserved = λ a b s is inside. absurd (not_inside a inside);
   }
@@ -326,12 +302,12 @@ module _ (shape : Shape) (t : List ℕ) (found : Keys) (some : 1 ≤ shape.bucke
         );
   }
 
-  pub opened_up : (b : Bool) (calls : ℕ) → UpSound (length P) calls (opened_service shape t) (at_rest b t) (record { start = found; history = [] }) P notes
-  opened_up b calls = record {
+  pub opened_up : (b : Bool) (calls : ℕ) → Suits (format_of t) (at_rest b t) → UpSound (length P) calls (opened_service shape t) (at_rest b t) (record { start = found; history = [] }) P notes
+  opened_up b calls suits = record {
     began = began;
     sound = record {
       trace = trace;
-      images = images b;
+      images = images b suits;
       slots = slots;
       locks = locks;
       callers = all_wait;

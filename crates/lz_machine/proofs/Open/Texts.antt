@@ -11,69 +11,74 @@ use Rattle.std.proofs.lemmas.Grind.{same_number_lists}
 use Rattle.lz_slot.specs.Limits.{largest_key}
 use Rattle.lz_slot.specs.Rooms.{largest_of, number_of}
 use Rattle.lz_slot.specs.declared.format.Format.{Format}
-use Rattle.lz_slot.specs.declared.format.Format.TheVariants.{One}
-use Rattle.lz_slot.specs.Bytes.{open_byte, magic, format_byte, format_of, header_body, slot_body, slot_bytes, slot_read, slot_at}
+use Rattle.lz_slot.specs.declared.format.Format.TheVariants.{One, Four}
+use Rattle.lz_slot.specs.Bytes.{open_byte, magic, format_byte, format_of, header_body, member_bytes, slot_body, slot_bytes, slot_read, slot_at}
+use Rattle.lz_slot.specs.Whole.{spelled}
 use Rattle.lz_slot.proofs.Files.ExactBytes.{key_of_format, slot_reads_back}
 use Rattle.lz_vault.specs.declared.vault.Stage.{Stage}
-use Rattle.lz_vault.specs.declared.vault.Stage.TheVariants.{Closed, Open}
+use Rattle.lz_vault.specs.declared.vault.Stage.TheVariants.{Closed, Torn, Open}
 use Rattle.lz_vault.specs.Stages.{Cell, IsSteady, AreSteady}
-use Rattle.lz_vault.specs.Opens.{IsCellOf}
+use Rattle.lz_vault.specs.Opens.{IsCellOf, AreTornIn}
 use Rattle.lz_vault.specs.Members.{no_cell}
 
-abbrev slot_text : Cell → List ℕ
-slot_text cell = elim cell.stage [ Open ↦ open_byte ∷ slot_body cell.key | _ ↦ replicate 16 0 ]
+abbrev slot_text : Format → Cell → List ℕ
+slot_text F cell = elim cell.stage [ Open ↦ member_bytes F cell.key | Torn ↦ 15 ∷ replicate 15 0 | _ ↦ replicate 16 0 ]
 
-abbrev body_text : List Cell → List ℕ
-body_text [] = []
-body_text (cell ∷ cells) = slot_text cell ++ body_text cells
+abbrev body_text : Format → List Cell → List ℕ
+body_text F [] = []
+body_text F (cell ∷ cells) = slot_text F cell ++ body_text F cells
 
--- a text of a format and of as many slots, with a member where a gate is open
+-- a text of a format and of as many slots, with a member where one is open
 abbrev pub text_of : Format → List Cell → List ℕ
-text_of F cells = (open_byte ∷ header_body F (length cells)) ++ body_text cells
+text_of F cells = (open_byte ∷ header_body F (length cells)) ++ body_text F cells
 
-slot_size : (stage : Stage) (k : ℕ) → length (slot_text (record { stage = stage; key = k })) ≡ 16
-slot_size Open k = refl
-slot_size _ k = refl
+slot_size : (F : Format) (stage : Stage) (k : ℕ) → length (slot_text F (record { stage = stage; key = k })) ≡ 16
+slot_size Four Open k = refl
+slot_size F Open k = refl
+slot_size F _ k = refl
 
-body_size : (cells : List Cell) → length (body_text cells) ≡ 16 * length cells
-body_size [] = refl
-body_size (cell ∷ cells) = length-append (slot_text cell) (body_text cells) ∙ omega (arith, slot_size cell.stage cell.key, body_size cells)
+body_size : (F : Format) (cells : List Cell) → length (body_text F cells) ≡ 16 * length cells
+body_size F [] = refl
+body_size F (cell ∷ cells) = length-append (slot_text F cell) (body_text F cells) ∙ omega (arith, slot_size F cell.stage cell.key, body_size F cells)
 
 head_size : (F : Format) (n : ℕ) → length (open_byte ∷ header_body F n) ≡ 16
 head_size F n = refl
 
 pub text_size : (F : Format) (cells : List Cell) → length (text_of F cells) ≡ 16 + 16 * length cells
-text_size F cells = length-append (open_byte ∷ header_body F (length cells)) (body_text cells) ∙ omega (arith, head_size F (length cells), body_size cells)
+text_size F cells = length-append (open_byte ∷ header_body F (length cells)) (body_text F cells) ∙ omega (arith, head_size F (length cells), body_size F cells)
 
 pub text_head : (F : Format) (cells : List Cell) → take 16 (text_of F cells) ≡ open_byte ∷ header_body F (length cells)
 text_head F cells = grind arith
 
-body_at : (cells : List Cell) (i j : ℕ) → i < length cells → j < 16 → get_or (body_text cells) (16 * i + j) 0 ≡ get_or (slot_text (get_or cells i no_cell)) j 0
-body_at [] i j low lt = absurd (omega (arith, low))
-body_at (cell ∷ cells) zero j low lt =
+body_at : (F : Format) (cells : List Cell) (i j : ℕ) → i < length cells → j < 16 → get_or (body_text F cells) (16 * i + j) 0 ≡ get_or (slot_text F (get_or cells i no_cell)) j 0
+body_at F [] i j low lt = absurd (omega (arith, low))
+body_at F (cell ∷ cells) zero j low lt =
     let at : 16 * 0 + j ≡ j = omega arith in
-    ap (λ (n : ℕ). get_or (body_text (cell ∷ cells)) n 0) at ∙ get_or_append_left (slot_text cell) (body_text cells) 0 j (omega (arith, lt, slot_size cell.stage cell.key))
-body_at (cell ∷ cells) (suc i) j low lt =
+    ap (λ (n : ℕ). get_or (body_text F (cell ∷ cells)) n 0) at ∙ get_or_append_left (slot_text F cell) (body_text F cells) 0 j (omega (arith, lt, slot_size F cell.stage cell.key))
+body_at F (cell ∷ cells) (suc i) j low lt =
     let back : 16 * suc i + j - 16 ≡ 16 * i + j = omega arith in
-    get_or-append_right (slot_text cell) (body_text cells) 16 (16 * suc i + j) 0 (slot_size cell.stage cell.key) (omega arith)
-    ∙ ap (λ (n : ℕ). get_or (body_text cells) n 0) back ∙ body_at cells i j (omega (arith, low)) lt
+    get_or-append_right (slot_text F cell) (body_text F cells) 16 (16 * suc i + j) 0 (slot_size F cell.stage cell.key) (omega arith)
+    ∙ ap (λ (n : ℕ). get_or (body_text F cells) n 0) back ∙ body_at F cells i j (omega (arith, low)) lt
 
-text_slot : (F : Format) (cells : List Cell) (i : ℕ) → i < length cells → slot_bytes (text_of F cells) i ≡ slot_text (get_or cells i no_cell)
+text_slot : (F : Format) (cells : List Cell) (i : ℕ) → i < length cells → slot_bytes (text_of F cells) i ≡ slot_text F (get_or cells i no_cell)
 text_slot F cells i low =
     let size = text_size F cells in
     let mine : Cell = get_or cells i no_cell in
     let long : length (slot_bytes (text_of F cells) i) ≡ 16 = length-between (text_of F cells) (16 + 16 * i) (32 + 16 * i) (omega (arith, size, low)) ∙ omega arith in
-    same_number_lists (slot_bytes (text_of F cells) i) (slot_text mine) (long ∙ sym (slot_size mine.stage mine.key)) (λ j lt.
+    same_number_lists (slot_bytes (text_of F cells) i) (slot_text F mine) (long ∙ sym (slot_size F mine.stage mine.key)) (λ j lt.
     let small : j < 16 = omega (arith, lt, long) in
     let back : 16 + 16 * i + j - 16 ≡ 16 * i + j = omega arith in
     get_or-between (text_of F cells) (16 + 16 * i) (32 + 16 * i) j 0 (omega (arith, small))
-    ∙ get_or-append_right (open_byte ∷ header_body F (length cells)) (body_text cells) 16 (16 + 16 * i + j) 0 (head_size F (length cells)) (omega arith)
-    ∙ ap (λ (n : ℕ). get_or (body_text cells) n 0) back ∙ body_at cells i j low small)
+    ∙ get_or-append_right (open_byte ∷ header_body F (length cells)) (body_text F cells) 16 (16 + 16 * i + j) 0 (head_size F (length cells)) (omega arith)
+    ∙ ap (λ (n : ℕ). get_or (body_text F cells) n 0) back ∙ body_at F cells i j low small)
 
-slot_says : (F : Format) (stage : Stage) (k : ℕ) → k ≤ largest_of F → IsSteady stage → IsCellOf (slot_read F (slot_text (record { stage = stage; key = k }))) (record { stage = stage; key = k })
-slot_says F Open k fits steady = subst (λ r. IsCellOf r (record { stage = Open; key = k })) (sym (slot_reads_back F k fits)) (refl, refl)
-slot_says F Closed k fits steady = refl
-slot_says F _ k fits steady = absurd steady
+slot_says : (F : Format) (stage : Stage) (k : ℕ) → k ≤ largest_of F → IsSteady stage → (stage ≡ Torn → F ≡ Four) → IsCellOf (slot_read F (slot_text F (record { stage = stage; key = k }))) (record { stage = stage; key = k })
+slot_says F Open k fits steady torn = subst (λ r. IsCellOf r (record { stage = Open; key = k })) (sym (slot_reads_back F k fits)) (refl, refl)
+slot_says Four Closed k fits steady torn = refl
+slot_says F Closed k fits steady torn = refl
+slot_says Four Torn k fits steady torn = refl
+slot_says F Torn k fits steady torn = let four = torn refl in absurd cc
+slot_says F _ k fits steady torn = absurd steady
 
 -- the text names its format
 pub text_format : (F : Format) (cells : List Cell) → format_of (text_of F cells) ≡ F
@@ -81,13 +86,13 @@ text_format One cells = refl
 text_format _ cells = refl
 
 -- the text says of each slot what its cell does
-pub text_says : (F : Format) (cells : List Cell) → ((i : ℕ) (cell : Cell) → slice_get cells i ≡ Some cell → cell.key ≤ largest_of F) → AreSteady cells
+pub text_says : (F : Format) (cells : List Cell) → ((i : ℕ) (cell : Cell) → slice_get cells i ≡ Some cell → cell.key ≤ largest_of F) → AreSteady cells → AreTornIn F cells
     → (i : ℕ) (cell : Cell) → slice_get cells i ≡ Some cell → IsCellOf (slot_at (text_of F cells) i) cell
-text_says F cells keys steady i cell there =
+text_says F cells keys steady torn i cell there =
     let low = slice_get_within cells i cell there in
     let is : get_or cells i no_cell ≡ cell = get_or_from_slice_get cells i cell no_cell there in
     subst (λ (G : Format). IsCellOf (slot_read G (slot_bytes (text_of F cells) i)) cell) (sym (text_format F cells))
-    (subst (λ bytes. IsCellOf (slot_read F bytes) cell) (sym (text_slot F cells i low ∙ ap slot_text is)) (slot_says F cell.stage cell.key (keys i cell there) (steady i cell there)))
+    (subst (λ bytes. IsCellOf (slot_read F bytes) cell) (sym (text_slot F cells i low ∙ ap (slot_text F) is)) (slot_says F cell.stage cell.key (keys i cell there) (steady i cell there) (torn i cell there)))
 
 -- the bytes of these texts are bytes
 small_append : (xs ys : List ℕ) → AreBytes xs → AreBytes ys → AreBytes (xs ++ ys)
@@ -121,24 +126,33 @@ magic_small : (F : Format) → AreBytes (magic F)
 magic_small F (suc (suc (suc (suc (suc (suc zero)))))) = letter_small F
 magic_small F _ = omega arith
 
-gate_small : (xs : List ℕ) → AreBytes xs → AreBytes (open_byte ∷ xs)
-gate_small xs all zero = omega arith
-gate_small xs all (suc i) = all i
+first_small : (b : ℕ) (xs : List ℕ) → b < 256 → AreBytes xs → AreBytes (b ∷ xs)
+first_small b xs low all zero = low
+first_small b xs low all (suc i) = all i
 
 -- and those of a key's body, since its room is one
-pub key_small : (k : ℕ) → k ≤ largest_key → AreBytes (slot_body k)
+key_small : (k : ℕ) → k ≤ largest_key → AreBytes (slot_body k)
 key_small k fits zero = omega (arith, fits)
 key_small k fits (suc i) = small_append (replicate 6 0) (bytes_high_first 8 (number_of k)) (zeros_small 6) (high_small 8 (number_of k)) i
 
-slot_small : (stage : Stage) (k : ℕ) → k ≤ largest_key → AreBytes (slot_text (record { stage = stage; key = k }))
-slot_small Open k fits = gate_small (slot_body k) (key_small k fits)
-slot_small _ k fits = zeros_small 16
+-- and those of a slot that spells a key
+spelled_small : (bytes : List ℕ) → AreBytes bytes → AreBytes (spelled bytes)
+spelled_small [] all i = omega arith
+spelled_small (b ∷ bytes) all zero = let low = all 0 in omega (arith, low)
+spelled_small (b ∷ bytes) all (suc zero) = omega arith
+spelled_small (b ∷ bytes) all (suc (suc i)) = spelled_small bytes (λ j. all (suc j)) i
 
-body_small : (cells : List Cell) → ((i : ℕ) (cell : Cell) → slice_get cells i ≡ Some cell → cell.key ≤ largest_key) → AreBytes (body_text cells)
-body_small [] keys = λ i. omega arith
-body_small (cell ∷ cells) keys = small_append (slot_text cell) (body_text cells) (slot_small cell.stage cell.key (keys 0 cell refl)) (body_small cells (λ i x there. keys (suc i) x there))
+slot_small : (F : Format) (stage : Stage) (k : ℕ) → k ≤ largest_key → AreBytes (slot_text F (record { stage = stage; key = k }))
+slot_small Four Open k fits = spelled_small (bytes_high_first 8 k) (high_small 8 k)
+slot_small F Open k fits = first_small open_byte (slot_body k) (omega arith) (key_small k fits)
+slot_small F Torn k fits = first_small 15 (replicate 15 0) (omega arith) (zeros_small 15)
+slot_small F _ k fits = zeros_small 16
+
+body_small : (F : Format) (cells : List Cell) → ((i : ℕ) (cell : Cell) → slice_get cells i ≡ Some cell → cell.key ≤ largest_key) → AreBytes (body_text F cells)
+body_small F [] keys = λ i. omega arith
+body_small F (cell ∷ cells) keys = small_append (slot_text F cell) (body_text F cells) (slot_small F cell.stage cell.key (keys 0 cell refl)) (body_small F cells (λ i x there. keys (suc i) x there))
 
 pub text_bytes : (F : Format) (cells : List Cell) → ((i : ℕ) (cell : Cell) → slice_get cells i ≡ Some cell → cell.key ≤ largest_of F) → AreBytes (text_of F cells)
-text_bytes F cells keys = small_append (open_byte ∷ header_body F (length cells)) (body_text cells)
-    (gate_small (header_body F (length cells)) (small_append (magic F) (bytes_high_first 8 (length cells)) (magic_small F) (high_small 8 (length cells))))
-    (body_small cells (λ i cell there. key_of_format F cell.key (keys i cell there)))
+text_bytes F cells keys = small_append (open_byte ∷ header_body F (length cells)) (body_text F cells)
+    (first_small open_byte (header_body F (length cells)) (omega arith) (small_append (magic F) (bytes_high_first 8 (length cells)) (magic_small F) (high_small 8 (length cells))))
+    (body_small F cells (λ i cell there. key_of_format F cell.key (keys i cell there)))

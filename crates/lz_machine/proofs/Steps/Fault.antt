@@ -1,15 +1,15 @@
 -- A turn whose device call fails keeps the invariant of an open service.
-use Rattle.std.proofs.Common.{◌≡◌, ◌⊎◌, inl, inr, ℕ, zero, suc, ◌+◌, ◌*◌, if◌then◌else◌, Bool, true, false, List, [], ◌∷◌, Option, Some, None, refl, sym, ap, subst}
+use Rattle.std.proofs.Common.{◌≡◌, inl, inr, ℕ, zero, suc, if◌then◌else◌, Bool, true, false, List, [], Option, Some, None, refl, sym, ap, subst}
 use Rattle.std.specs.Prelude.{unwrap_or, slice_set}
 use Rattle.std.proofs.lemmas.Bool.{cases_Bool}
 use Rattle.lz_slot.specs.declared.command.Command.{Command}
 use Rattle.lz_slot.specs.declared.command.Command.TheVariants.{Add, Remove, Has}
 use Rattle.lz_slot.specs.Sets.{Keys, key_of}
-use Rattle.lz_slot.specs.Bytes.{closed_byte, open_byte, slot_body}
 use Rattle.lz_slot.specs.Histories.{History}
-use Rattle.lz_disk.specs.Images.{Medium, WriteFailed}
-use Rattle.lz_vault.specs.declared.vault.Stage.TheVariants.{KeyLoose, Opening, Closing}
-use Rattle.lz_vault.specs.Vaults.{DeviceCall, NoCall, SyncAll, MayFail}
+use Rattle.lz_disk.specs.Images.{Medium}
+use Rattle.lz_vault.specs.declared.vault.Stage.TheVariants.{Opening, Closing}
+use Rattle.lz_vault.specs.Stages.{Cell, stage_put}
+use Rattle.lz_vault.specs.Vaults.{DeviceCall, NoCall, SyncAll, MayFail, key_call, opening_call, closing_call}
 use Rattle.lz_list.specs.Traces.{Trace}
 use Rattle.lz_machine.specs.declared.event.Event.{Event}
 use Rattle.lz_machine.specs.declared.event.Event.TheVariants.{WriteKey, WriteOpen, WriteClose, Sync}
@@ -21,14 +21,15 @@ use Rattle.lz_machine.specs.declared.caller.Sequence.{Sequence}
 use Rattle.lz_machine.specs.declared.caller.Sequence.TheVariants.{Pinning, Resting, Writing, Adding, Removing, Releasing, Halting}
 use Rattle.lz_machine.specs.declared.caller.Progress.{Progress}
 use Rattle.lz_machine.specs.declared.caller.Progress.TheVariants.{Playing}
-use Rattle.lz_machine.specs.Yards.{Yard, actor_at, cell_in}
-use Rattle.lz_machine.specs.Table.{slot_of, node_of, is_played_dead, is_sure, call_of, call_on, course, line_call, line_failed, vault_failed, with_vault}
+use Rattle.lz_machine.specs.Yards.{Yard, actor_at, cell_in, stage_in}
+use Rattle.lz_machine.specs.Table.{slot_of, node_of, is_played_dead, is_sure, call_of, cells_after, call_on, course, line_call, line_failed, vault_failed, with_vault}
 use Rattle.lz_machine.specs.Calls.{halts}
 use Rattle.lz_machine.specs.Runs.{Caller, caller_at, next_event, reply_at, played}
 use Rattle.lz_machine.specs.Notes.{Notes}
 use Rattle.lz_machine.specs.CallersSound.{view_of, Relies, ReliesOn, is_before_pin}
 use Rattle.lz_machine.specs.Sound.{Sound, UpSound}
 use Rattle.lz_machine.proofs.Frames.OneActor.{moving}
+use Rattle.lz_machine.proofs.Frames.SlotWrite.{key_cells}
 use Rattle.lz_machine.proofs.Steps.Hop.{call_at, own}
 use Rattle.lz_machine.proofs.Steps.Death.{sync_fails_keeps}
 use Rattle.lz_machine.proofs.Steps.WriteClose.{write_close_fails_keeps}
@@ -75,22 +76,24 @@ module _ (n calls : ℕ) (y : Yard) (callers : List (Option Caller)) (disk : Med
   key_fault : (c : Command) (s : ℕ) → IsAt c (Playing (Writing s) 0) → Faults c (Playing (Writing s) 0)
   key_fault c s is new may = faulted c (Playing (Writing s) 0) is refl (WriteKey (key_of c)) refl new may (λ alive fails.
       let mine : s ≡ slot_of (actor_at y a) = sym (ap (λ (q : Option ℕ). unwrap_or q 0) (known c (Playing (Writing s) 0) is).1) in
-      subst (λ (q : ℕ). Sound n calls (with_vault y (record y.vault { cells = slice_set y.vault.cells q (record { stage = KeyLoose; key = key_of c }); dead = true })) (moving callers a (call_at i c (Playing (Writing s) 0)) (halts Device)) new M P notes) mine
-      (write_key_fails_keeps n calls y callers disk M P notes up.sound a i c s is alive new (subst (λ (q : ℕ). (new ≡ disk) ⊎ WriteFailed disk (17 + 16 * q) (slot_body (key_of c)) new) (sym mine) fails)))
+      subst (λ (cells : List Cell). Sound n calls (with_vault y (record y.vault { cells = cells; dead = true })) (moving callers a (call_at i c (Playing (Writing s) 0)) (halts Device)) new M P notes)
+      (sym (key_cells y.vault.format (stage_in y.vault.cells (slot_of (actor_at y a))) (slot_of (actor_at y a)) (key_of c) y.vault.cells (cells_after y (actor_at y a) (WriteKey (key_of c)))))
+      (subst (λ (q : ℕ). Sound n calls (with_vault y (record y.vault { cells = slice_set y.vault.cells q (record { stage = stage_put y.vault.format (stage_in y.vault.cells q); key = key_of c }); dead = true })) (moving callers a (call_at i c (Playing (Writing s) 0)) (halts Device)) new M P notes) mine
+      (write_key_fails_keeps n calls y callers disk M P notes up.sound a i c s is alive new (subst (λ (q : ℕ). MayFail (key_call y.vault.format (stage_in y.vault.cells q) q (key_of c)) disk new) (sym mine) fails))))
 
   -- the write that opens a gate fails
   open_fault : (k s : ℕ) → IsAt (Add k) (Playing (Adding s) 0) → Faults (Add k) (Playing (Adding s) 0)
   open_fault k s is new may = faulted (Add k) (Playing (Adding s) 0) is refl WriteOpen refl new may (λ alive fails.
       let mine : s ≡ slot_of (actor_at y a) = sym (ap (λ (q : Option ℕ). unwrap_or q 0) (known (Add k) (Playing (Adding s) 0) is).1.slot) in
       subst (λ (q : ℕ). Sound n calls (with_vault y (record y.vault { cells = slice_set y.vault.cells q (record { stage = Opening; key = (cell_in y.vault.cells q).key }); dead = true })) (moving callers a (call_at i (Add k) (Playing (Adding s) 0)) (halts Device)) new M P notes) mine
-      (write_open_fails_keeps n calls y callers disk M P notes up.sound a i k s is alive new (subst (λ (q : ℕ). (new ≡ disk) ⊎ WriteFailed disk (16 + 16 * q) (open_byte ∷ []) new) (sym mine) fails)))
+      (write_open_fails_keeps n calls y callers disk M P notes up.sound a i k s is alive new (subst (λ (q : ℕ). MayFail (opening_call y.vault.format q (cell_in y.vault.cells q).key) disk new) (sym mine) fails)))
 
   -- the write that closes a gate fails
   close_fault : (k s : ℕ) → IsAt (Remove k) (Playing (Removing s) 0) → Faults (Remove k) (Playing (Removing s) 0)
   close_fault k s is new may = faulted (Remove k) (Playing (Removing s) 0) is refl WriteClose refl new may (λ alive fails.
       let mine : s ≡ node_of (actor_at y a) = sym (ap (λ (q : Option ℕ). unwrap_or q 0) (known (Remove k) (Playing (Removing s) 0) is).0) in
       subst (λ (q : ℕ). Sound n calls (with_vault y (record y.vault { cells = slice_set y.vault.cells q (record { stage = Closing; key = (cell_in y.vault.cells q).key }); dead = true })) (moving callers a (call_at i (Remove k) (Playing (Removing s) 0)) (halts Device)) new M P notes) mine
-      (write_close_fails_keeps n calls y callers disk M P notes up.sound a i k s is alive new (subst (λ (q : ℕ). (new ≡ disk) ⊎ WriteFailed disk (16 + 16 * q) (closed_byte ∷ []) new) (sym mine) fails)))
+      (write_close_fails_keeps n calls y callers disk M P notes up.sound a i k s is alive new (subst (λ (q : ℕ). MayFail (closing_call y.vault.format q) disk new) (sym mine) fails)))
 
   -- a sync fails, and leaves the disk
   sync_fault : (c : Command) (at : Progress) → IsAt c at → reply_at at ≡ None → is_before_pin at ≡ false → (s : ℕ) (new : Medium) → MayFail (line_call y a (Sync s)) disk new

@@ -1,11 +1,13 @@
 -- A slot that an actor has reserved and not used is given back: what is said of slots, locks and reuse stays.
 use Rattle.std.proofs.Common.{◌≡◌, ◌≢◌, inl, inr, ℕ, ◌≤◌, Bool, true, List, length, Some, None, refl, sym, ap, ◌∙◌, subst, arith, get_or-set_other, get_or-set_same, length-set}
+use mathlib.Core.Bool.{false≢true}
 use Rattle.std.proofs.lemmas.Bool.{cases_eq}
 use Rattle.std.proofs.lemmas.Option.{same_Some, none-some}
 use Rattle.lz_slot.specs.Counted.{set_of_pass}
 use Rattle.lz_slot.proofs.Counted.{of_pass_same, of_pass_other}
 use Rattle.lz_vault.specs.declared.vault.Stage.{Stage}
-use Rattle.lz_vault.specs.Stages.{Cell}
+use Rattle.lz_vault.specs.declared.vault.Stage.TheVariants.{Opening, Open, Closing}
+use Rattle.lz_vault.specs.Stages.{Cell, IsFree}
 use Rattle.lz_allot.specs.Uses.{Use, Free, Taken, use_of, give_back}
 use Rattle.lz_list.specs.Locks.{NodeLocks}
 use Rattle.lz_list.specs.Traces.{Trace}
@@ -13,7 +15,7 @@ use Rattle.lz_machine.specs.declared.actor.Actor.{Actor}
 use Rattle.lz_machine.specs.declared.actor.Hold.{Hold}
 use Rattle.lz_machine.specs.Yards.{Shape, idle_actor, actor_in, stage_in}
 use Rattle.lz_machine.specs.Table.{with_slot, is_unused}
-use Rattle.lz_machine.specs.SlotsSound.{is_free, SlotsSound, IsGateClosed}
+use Rattle.lz_machine.specs.SlotsSound.{is_free, SlotsSound}
 use Rattle.lz_machine.specs.LocksSound.{HasLock, RestsOn, LocksSound}
 use Rattle.lz_machine.specs.Sound.{ReuseSound}
 use Rattle.lz_machine.proofs.Frames.NodeLocks.{held_locks}
@@ -21,14 +23,18 @@ use Rattle.lz_machine.proofs.Frames.Uses.{free_limbo}
 use Rattle.lz_machine.proofs.Frames.OneSlot.{same_nodes, slot_turn}
 
 -- a stage that wasn't used has a closed gate
-pub unused_closed : (stage : Stage) → is_unused stage ≡ true → IsGateClosed stage
-unused_closed stage is = grind arith
+pub unused_closed : (stage : Stage) → is_unused stage ≡ true → IsFree stage
+unused_closed Opening is = absurd (false≢true is)
+unused_closed Open is = absurd (false≢true is)
+unused_closed Closing is = absurd (false≢true is)
+unused_closed _ is = tt
 
 -- and one with a closed gate wasn't used
-pub closed_unused : (stage : Stage) → IsGateClosed stage → is_unused stage ≡ true
-closed_unused stage (inl e) = ap is_unused e
-closed_unused stage (inr (inl e)) = ap is_unused e
-closed_unused stage (inr (inr e)) = ap is_unused e
+pub closed_unused : (stage : Stage) → IsFree stage → is_unused stage ≡ true
+closed_unused Opening free = absurd free
+closed_unused Open free = absurd free
+closed_unused Closing free = absurd free
+closed_unused _ free = refl
 
 module _ (shape : Shape) (cells : List Cell) (dead : Bool) (uses : List Use) (actors : List Actor) (P : Trace) (slots : SlotsSound shape cells dead uses actors P) (a s : ℕ) (low : 1 ≤ a) (high : a ≤ length actors) (has : (actor_in actors a).slot ≡ Some s) (unused : is_unused (stage_in cells s) ≡ true) where
   abbrev x : Actor

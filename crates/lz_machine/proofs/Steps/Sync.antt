@@ -1,5 +1,5 @@
 -- A sync, and the death of the vault, keep the invariant.
-use Rattle.std.proofs.Common.{◌≡◌, ◌≢◌, inl, inr, ℕ, suc, Bool, true, false, List, [], ◌∷◌, map, Option, Some, refl, sym, ap, ◌∙◌, subst, arith}
+use Rattle.std.proofs.Common.{◌≡◌, ◌≢◌, inl, inr, ℕ, suc, Bool, true, false, List, ◌∷◌, map, Option, Some, refl, sym, ap, ◌∙◌, subst, arith}
 use mathlib.Core.Bool.{false≢true}
 use Rattle.std.proofs.lemmas.List.{length-map}
 use Rattle.lz_slot.specs.declared.command.Command.{Command}
@@ -7,8 +7,8 @@ use Rattle.lz_slot.specs.declared.command.Command.TheVariants.{Add, Remove}
 use Rattle.lz_slot.specs.Histories.{History}
 use Rattle.lz_disk.specs.Images.{Medium, synced}
 use Rattle.lz_vault.specs.declared.vault.Stage.{Stage}
-use Rattle.lz_vault.specs.declared.vault.Stage.TheVariants.{Closed, Keyed, Opening}
-use Rattle.lz_vault.specs.Stages.{Cell, Keeps, stage_synced, cell_synced, is_covered}
+use Rattle.lz_vault.specs.declared.vault.Stage.TheVariants.{Closed, Keyed, Opening, Open, Closing}
+use Rattle.lz_vault.specs.Stages.{Cell, Keeps, stage_synced, cell_synced, is_covered, IsFree}
 use Rattle.lz_vault.specs.Vaults.{SyncAll, medium_after, syncs_after, died}
 use Rattle.lz_vault.proofs.Changes.{from_map, sync_keeps}
 use Rattle.lz_list.specs.declared.walk.Look.TheVariants.{AtHead}
@@ -25,7 +25,7 @@ use Rattle.lz_machine.specs.Calls.{progress_after}
 use Rattle.lz_machine.specs.Runs.{Caller, caller_at}
 use Rattle.lz_machine.specs.Ledgers.{Row}
 use Rattle.lz_machine.specs.Notes.{Notes, entries}
-use Rattle.lz_machine.specs.SlotsSound.{IsGateClosed, IsGateOpened, IsGateWritten}
+use Rattle.lz_machine.specs.SlotsSound.{IsGateOpened, IsGateWritten}
 use Rattle.lz_machine.specs.LedgerSound.{HasTail, TailsSound}
 use Rattle.lz_machine.specs.CallersSound.{IsKeyed}
 use Rattle.lz_machine.specs.Sound.{Sound}
@@ -41,10 +41,11 @@ cell_map (c ∷ cells) (suc s) = cell_map cells s
 cell_map _ _ = refl
 
 -- What a sync does to a stage.
-pub closed_synced : (stage : Stage) → IsGateClosed stage → IsGateClosed (stage_synced stage)
-closed_synced stage (inl e) = rw e (inl refl)
-closed_synced stage (inr (inl e)) = rw e (inr (inr refl))
-closed_synced stage (inr (inr e)) = rw e (inr (inr refl))
+pub closed_synced : (stage : Stage) → IsFree stage → IsFree (stage_synced stage)
+closed_synced Opening free = absurd free
+closed_synced Open free = absurd free
+closed_synced Closing free = absurd free
+closed_synced _ free = tt
 
 pub opened_synced : (stage : Stage) → IsGateOpened stage → IsGateOpened (stage_synced stage)
 opened_synced stage (inl e) = rw e (inr refl)
@@ -92,7 +93,7 @@ module _ (cells : List Cell) where
   gate_keeps : (s : ℕ) → KeepsGate (cell_in cells s) (cell_in cells' s)
   gate_keeps s = record {
     opened = synced_is IsGateOpened opened_synced s;
-    shut = synced_is IsGateClosed closed_synced s;
+    shut = synced_is IsFree closed_synced s;
     written = synced_is IsGateWritten written_synced s;
     closed = synced_is (λ stage. stage ≡ Closed) (λ stage e. ap stage_synced e) s;
     key = key_map s;
@@ -200,7 +201,7 @@ module _ (n calls : ℕ) (y : Yard) (callers : List (Option Caller)) (disk : Med
       slots = sound.images.slots;
       count = sound.images.count;
       keys = sound.images.keys;
-      keeps = record { sound = sound.images.keeps.sound; vouches = sound.images.keeps.vouches; reads = λ alive. absurd (false≢true (sym alive)) };
+      keeps = record { suits = sound.images.keeps.suits; sound = sound.images.keeps.sound; vouches = sound.images.keeps.vouches; reads = λ alive. absurd (false≢true (sym alive)) };
     };
     slots = slots_turn y.shape y.vault.cells y.vault.dead true y.uses y.actors y.actors P (λ b. keeps_itself y.vault.dead true (actor_in y.actors b) (actor_in y.actors b) (λ e. refl) refl) sound.slots;
     locks = sound.locks;

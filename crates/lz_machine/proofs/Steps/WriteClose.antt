@@ -1,12 +1,9 @@
 -- WriteClose keeps the invariant: the gate of the node that the remover has checked is closed.
-use Rattle.std.proofs.Common.{◌⊎◌}
-use Rattle.lz_disk.specs.Images.{WriteFailed}
 use Rattle.lz_machine.specs.declared.event.Reply.TheVariants.{Device}
 use Rattle.lz_machine.specs.Table.{with_vault}
 use Rattle.lz_machine.specs.Calls.{halts}
 use Rattle.lz_machine.proofs.Frames.Grip.{closer_locks}
-use Rattle.lz_machine.proofs.Frames.GateWrite.{gate_failed}
-use Rattle.std.proofs.Common.{◌≡◌, ◌≢◌, inl, inr, ℕ, ◌<◌, true, false, List, ◌∷◌, length, Option, Some, refl, sym, ap, ◌∙◌, subst, arith}
+use Rattle.std.proofs.Common.{◌≡◌, ◌≢◌, inl, inr, ℕ, ◌<◌, true, false, List, length, Option, Some, refl, sym, ap, ◌∙◌, subst, arith}
 use mathlib.Core.Bool.{false≢true}
 use Rattle.std.specs.Prelude.{unwrap_or}
 use Rattle.std.proofs.lemmas.Bool.{cases_eq}
@@ -43,22 +40,19 @@ use Rattle.lz_machine.proofs.Steps.Hop.{call_at, own}
 use Rattle.lz_machine.proofs.Frames.Hand.{same_hand, other_hand}
 use Rattle.lz_machine.proofs.Steps.Unlink.{node_place}
 use Rattle.std.specs.Prelude.{slice_set}
-use Rattle.std.proofs.Common.{Bool, [], ◌*◌, ◌+◌}
-use Rattle.lz_slot.specs.Bytes.{closed_byte}
-use Rattle.lz_disk.specs.Images.{written}
+use Rattle.std.proofs.Common.{Bool}
 use Rattle.lz_vault.specs.declared.vault.Stage.{Stage}
 use Rattle.lz_vault.specs.declared.vault.Stage.TheVariants.{Closed, Opening, Closing}
-use Rattle.lz_vault.specs.Stages.{Cell}
-use Rattle.lz_vault.specs.Vaults.{Vaulted, medium_after}
+use Rattle.lz_vault.specs.Stages.{Cell, IsOpened}
+use Rattle.lz_vault.specs.Vaults.{Vaulted, MayFail, medium_after, closing_call}
 use Rattle.lz_machine.specs.Table.{call_of}
 use Rattle.lz_machine.specs.Sound.{DiskSound}
-use Rattle.lz_vault.proofs.Gates.{HasBody}
 use Rattle.lz_machine.proofs.Frames.NodeLocks.{held_locks}
 use Rattle.lz_machine.proofs.Frames.Hand.{reuse_turn}
 use Rattle.lz_machine.proofs.Frames.Cells.{caller_vaulted, cell_same, cell_other, stage_other, cell_stays}
 use Rattle.lz_machine.proofs.Frames.ChainSlots.{chain_stands}
 use Rattle.lz_machine.proofs.Frames.OneSlot.{node_grips, same_nodes, slot_turn}
-use Rattle.lz_machine.proofs.Frames.GateWrite.{gate_written}
+use Rattle.lz_machine.proofs.Frames.SlotWrite.{closing_done, closing_lost}
 use Rattle.lz_machine.proofs.Ledger.Change.{own_tail}
 use Rattle.lz_machine.proofs.Frames.BesideKey.{opened_written}
 use Rattle.lz_machine.proofs.Frames.SameYard.{in_passes, tail_turn}
@@ -126,9 +120,9 @@ module _ (n calls : ℕ) (y : Yard) (callers : List (Option Caller)) (disk : Med
   hand_apart : (b t : ℕ) → (actor_in y.actors b).slot ≡ Some t → t ≢ s
   hand_apart b t slot it = off (subst (λ (q : ℕ). IsLoose y.shape.buckets q P) it (sound.slots.hand b t slot).loose)
 
-  has_body : (stage : Stage) → IsGateOpened stage → HasBody stage
-  has_body stage (inl e) = subst HasBody (sym e) tt
-  has_body stage (inr e) = subst HasBody (sym e) tt
+  may_close : (stage : Stage) → IsGateOpened stage → IsOpened stage
+  may_close stage (inl e) = subst IsOpened (sym e) tt
+  may_close stage (inr e) = subst IsOpened (sym e) tt
 
   closing_opening : Closing ≡ Opening → ⊥
   closing_opening e = absurd cc
@@ -216,21 +210,20 @@ module _ (n calls : ℕ) (y : Yard) (callers : List (Option Caller)) (disk : Med
       let claimed : s ≡ node_of (actor_at y a) = sym (ap (λ (q : Option ℕ). unwrap_or q 0) h.0) in
       let hand_a = same_hand n calls y callers disk M P notes a (call_at i (Remove k) at) is sound x' in
       let hand_b = other_hand n calls y callers disk M P notes a (call_at i (Remove k) at) is sound x' in
-      let images = subst (λ (b : Bool). DiskSound y.shape (record y.vault { cells = cells'; dead = b }) (written disk (16 + 16 * s) (closed_byte ∷ []))) (sym alive)
-      (gate_written y.shape y.vault disk sound.images alive s lt closed_byte (omega arith) Closing (has_body (stage_in y.vault.cells s) facts.1) (λ j bytes e. e) (λ j bytes e opened. absurd (omega (arith, e, opened))) y.vault.syncs) in
+      let images = closing_done y.shape y.vault disk sound.images alive s lt (may_close (stage_in y.vault.cells s) facts.1) in
       let locks = held_locks y.shape y.locks y.actors closers P a hand_b sound.locks
       (λ q lock. my_lock q (subst (λ (z : Actor). HasLock z q) hand_a lock).among)
       (subst (λ (q : Actor). RestsOn y.shape.buckets q.hold q P) (sym hand_a) (record { node = s; curr = h.0; before = before.0; marked = before.1 })) in
       subst (λ (q : ℕ). Sound n calls (record { shape = y.shape; words = y.words; locks = y.locks; vault = record y.vault { cells = slice_set y.vault.cells q (record { stage = Closing; key = (cell_in y.vault.cells q).key }) }; uses = y.uses; actors = closers })
-      (moving callers a (call_at i (Remove k) at) (Playing (Removing s) 1)) (written disk (16 + 16 * q) (closed_byte ∷ [])) M P notes) claimed
-      (closed_sound y.vault.dead x' closers (length-set_of_pass y.actors a x') hand_a hand_b h.0 refl refl refl refl (Playing (Removing s) 1) refl (written disk (16 + 16 * s) (closed_byte ∷ [])) images locks
+      (moving callers a (call_at i (Remove k) at) (Playing (Removing s) 1)) (medium_after (closing_call y.vault.format q) disk) M P notes) claimed
+      (closed_sound y.vault.dead x' closers (length-set_of_pass y.actors a x') hand_a hand_b h.0 refl refl refl refl (Playing (Removing s) 1) refl (medium_after (closing_call y.vault.format s) disk) images locks
       (record { quiet = me.quiet; begins = me.begins; stands = (me.stands.0, me.stands.1, (h.0, h.1, (refl, h.2.1, h.2.2))) }))
 
   -- where the write fails, the vault dies, and the gate may be closed
-  pub write_close_fails_keeps : (medium : Medium) → (medium ≡ disk) ⊎ WriteFailed disk (16 + 16 * s) (closed_byte ∷ []) medium
+  pub write_close_fails_keeps : (medium : Medium) → MayFail (closing_call y.vault.format s) disk medium
       → Sound n calls (with_vault y (record y.vault { cells = cells'; dead = true })) (moving callers a (call_at i (Remove k) at) (halts Device)) medium M P notes
   write_close_fails_keeps medium may =
       closed_sound true (actor_at y a) y.actors refl refl (λ b other. refl) h.0 refl (ap (closes true) h.2.0) (ap unlocks h.2.0) (ap has_removed_node h.2.0) (halts Device) refl medium
-      (gate_failed y.shape y.vault disk sound.images alive s lt closed_byte (omega arith) Closing (has_body (stage_in y.vault.cells s) facts.1) (λ j bytes e. e) (λ j bytes e opened. absurd (omega (arith, e, opened))) y.vault.syncs medium may)
+      (closing_lost y.shape y.vault disk sound.images alive s lt (may_close (stage_in y.vault.cells s) facts.1) medium may)
       sound.locks
       (record { quiet = me.quiet; begins = me.begins; stands = (me.stands.0, me.stands.1, (tt, refl)) })

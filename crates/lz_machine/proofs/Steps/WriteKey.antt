@@ -1,5 +1,5 @@
 -- WriteKey keeps the invariant: the adder's key is put into the slot that it has reserved.
-use Rattle.std.proofs.Common.{◌≡◌, ◌≢◌, ◌⊎◌, inl, inr, ℕ, suc, ◌<◌, ◌≤◌, ◌+◌, ◌*◌, ◌==◌, Bool, true, false, List, ◌∷◌, ◌++◌, Option, Some, refl, sym, ap, ◌∙◌, subst, arith}
+use Rattle.std.proofs.Common.{◌≡◌, ◌≢◌, inl, inr, ℕ, suc, ◌<◌, ◌≤◌, ◌+◌, ◌==◌, Bool, true, false, List, ◌∷◌, ◌++◌, Option, Some, refl, sym, ap, ◌∙◌, subst, arith}
 use mathlib.Core.Bool.{false≢true}
 use Rattle.std.specs.Prelude.{slice_set, unwrap_or}
 use Rattle.std.proofs.lemmas.Bool.Decides.{nat_tests}
@@ -7,12 +7,12 @@ use Rattle.lz_slot.specs.Rooms.{largest_of}
 use Rattle.lz_slot.specs.declared.command.Command.{Command}
 use Rattle.lz_slot.specs.declared.command.Command.TheVariants.{Add, Remove}
 use Rattle.lz_slot.specs.Sets.{key_of}
-use Rattle.lz_slot.specs.Bytes.{slot_body}
 use Rattle.lz_slot.specs.Histories.{History}
-use Rattle.lz_disk.specs.Images.{Medium, WriteFailed, written}
-use Rattle.lz_vault.specs.declared.vault.Stage.TheVariants.{Closed, KeyLoose, Opening}
-use Rattle.lz_vault.specs.Stages.{Cell}
-use Rattle.lz_vault.specs.Vaults.{Vaulted, medium_after}
+use Rattle.lz_disk.specs.Images.{Medium}
+use Rattle.lz_vault.specs.declared.vault.Stage.{Stage}
+use Rattle.lz_vault.specs.declared.vault.Stage.TheVariants.{Closed, Opening}
+use Rattle.lz_vault.specs.Stages.{Cell, IsFree, stage_put}
+use Rattle.lz_vault.specs.Vaults.{Vaulted, MayFail, key_call, medium_after}
 use Rattle.lz_list.specs.declared.publishing.Publishing.TheVariants.{KeyPrepared as key_prepared}
 use Rattle.lz_list.specs.declared.word.Word.TheVariants.{Key as key_at}
 use Rattle.lz_list.specs.Words.{set}
@@ -24,13 +24,13 @@ use Rattle.lz_machine.specs.declared.caller.Sequence.TheVariants.{Writing}
 use Rattle.lz_machine.specs.declared.caller.Progress.{Progress}
 use Rattle.lz_machine.specs.declared.caller.Progress.TheVariants.{Playing}
 use Rattle.lz_machine.specs.Yards.{Yard, actor_at, actor_in, pin_in, cell_in, stage_in}
-use Rattle.lz_machine.specs.Table.{with_vault, call_of, slot_of, yard_done, publishes}
+use Rattle.lz_machine.specs.Table.{with_vault, call_of, cells_after, slot_of, yard_done, publishes}
 use Rattle.lz_machine.specs.Calls.{halts}
 use Rattle.lz_machine.specs.Runs.{Caller, caller_at}
 use Rattle.lz_machine.specs.Notes.{Notes, entries}
-use Rattle.lz_machine.specs.SlotsSound.{opens, shuts, unlocks, IsGateClosed, IsGateOpened, IsGateWritten, IsHandStage, SlotsSound}
+use Rattle.lz_machine.specs.SlotsSound.{opens, shuts, unlocks, IsGateOpened, IsGateWritten, IsHandStage, SlotsSound}
 use Rattle.lz_machine.specs.LocksSound.{RestsOn, LocksSound}
-use Rattle.lz_machine.specs.CallersSound.{Relies, view_of, CallerSound, CallersSound}
+use Rattle.lz_machine.specs.CallersSound.{IsKeyed, Relies, view_of, CallerSound, CallersSound}
 use Rattle.lz_machine.specs.LedgerSound.{HasTail}
 use Rattle.lz_machine.specs.Sound.{DiskSound, ReuseSound, Sound}
 use Rattle.lz_machine.proofs.Frames.ActorTable.{by_actor}
@@ -45,7 +45,9 @@ use Rattle.lz_machine.proofs.Frames.HeldLocks.{key_leaves}
 use Rattle.lz_machine.proofs.Steps.Hop.{call_at, own, goes_on_keeps}
 use Rattle.lz_machine.proofs.Frames.FittingKeys.{adds_fitting}
 use Rattle.lz_machine.proofs.Frames.Cells.{caller_vaulted, cell_same, cell_other, stage_other, cell_stays}
-use Rattle.lz_machine.proofs.Frames.KeyWrite.{key_failed, key_written, rests_prepared}
+use Rattle.lz_machine.proofs.Frames.PreparedSlot.{rests_prepared}
+use Rattle.lz_machine.proofs.Frames.SlotWrite.{key_done, key_failed, key_syncs, put_free, put_keyed}
+use Rattle.lz_machine.proofs.Frames.BesideKey.{opened_shut}
 use Rattle.lz_machine.proofs.Frames.Ranges.{few_slots}
 
 module _ (n calls : ℕ) (y : Yard) (callers : List (Option Caller)) (disk : Medium) (M : History) (P : Trace) (notes : Notes) (sound : Sound n calls y callers disk M P notes) (a i : ℕ) (c : Command) (s : ℕ) (is : caller_at callers a ≡ Some (call_at i c (Playing (Writing s) 0))) where
@@ -69,10 +71,10 @@ module _ (n calls : ℕ) (y : Yard) (callers : List (Option Caller)) (disk : Med
   loose = (sound.slots.hand a s h.1).loose
 
   -- nothing has been done to its gate
-  shut : IsGateClosed (stage_in y.vault.cells s)
+  shut : IsFree (stage_in y.vault.cells s)
   shut = go (sound.slots.hand a s h.1).stage
     where
-      go : IsHandStage y.vault.cells y.vault.dead (actor_in y.actors a) P s → IsGateClosed (stage_in y.vault.cells s)
+      go : IsHandStage y.vault.cells y.vault.dead (actor_in y.actors a) P s → IsFree (stage_in y.vault.cells s)
       go (inl closed) = closed
       go (inr opened) = absurd (false≢true (ap (opens y.vault.dead) (sym h.0.hold) ∙ opened.0))
 
@@ -155,8 +157,11 @@ module _ (n calls : ℕ) (y : Yard) (callers : List (Option Caller)) (disk : Med
 
   -- The cells: the key is put, and the vault may die.
   module _ (dead' : Bool) (dies : y.vault.dead ≡ true → dead' ≡ true) where
+    abbrev stage' : Stage
+    stage' = stage_put y.vault.format (stage_in y.vault.cells s)
+
     abbrev new : Cell
-    new = record { stage = KeyLoose; key = k }
+    new = record { stage = stage'; key = k }
 
     abbrev cells' : List Cell
     cells' = slice_set y.vault.cells s new
@@ -164,24 +169,23 @@ module _ (n calls : ℕ) (y : Yard) (callers : List (Option Caller)) (disk : Med
     abbrev vault' : Vaulted
     vault' = record y.vault { cells = cells'; dead = dead' }
 
-    stage_same : stage_in cells' s ≡ KeyLoose
+    stage_same : stage_in cells' s ≡ stage'
     stage_same = ap (λ (q : Cell). q.stage) (cell_same y.vault.cells s new (omega (arith, lt, sound.images.count)))
 
     key_other : (t : ℕ) → t ≢ s → (cell_in cells' t).key ≡ (cell_in y.vault.cells t).key
     key_other t other = ap (λ (q : Cell). q.key) (cell_other y.vault.cells s new t other)
 
-    -- its gate isn't opened
-    loose_opened : IsGateOpened KeyLoose → ⊥
-    loose_opened (inl e) = absurd cc
-    loose_opened (inr e) = absurd cc
+    still_free : IsFree stage'
+    still_free = put_free y.vault.format (stage_in y.vault.cells s)
 
+    -- its gate isn't opened
     opened_apart : (t : ℕ) → IsGateOpened (stage_in cells' t) → t ≢ s
-    opened_apart t opened it = loose_opened (subst IsGateOpened (ap (stage_in cells') it ∙ stage_same) opened)
+    opened_apart t opened it = opened_shut stage' (subst IsGateOpened (ap (stage_in cells') it ∙ stage_same) opened) still_free
 
     -- so what is said of slots stays
     put_slots : SlotsSound y.shape cells' dead' y.uses y.actors P
     put_slots =
-        prepared_slots y.shape y.vault.cells cells' y.vault.dead dead' y.uses y.actors P P a s dies (cell_other y.vault.cells s new) (same_nodes y.shape.buckets s P) sound.slots h.1 (ap unlocks h.0.hold) loose (inr (inl stage_same))
+        prepared_slots y.shape y.vault.cells cells' y.vault.dead dead' y.uses y.actors P P a s dies (cell_other y.vault.cells s new) (same_nodes y.shape.buckets s P) sound.slots h.1 (ap unlocks h.0.hold) loose (subst IsFree (sym stage_same) still_free)
         (λ b curr is. absurd (others_closed b curr is))
         (λ j t key on_it flag. stage_other y.vault.cells s new (λ q. q ≢ Opening) t (chain_apart j t on_it) (sound.slots.added j t key on_it flag))
         (λ j t key on_it flag. stage_other y.vault.cells s new (λ q. q ≡ Closed) t (chain_apart j t on_it) (sound.slots.removed j t key on_it flag))
@@ -215,13 +219,13 @@ module _ (n calls : ℕ) (y : Yard) (callers : List (Option Caller)) (disk : Med
 
 module _ (n calls : ℕ) (y : Yard) (callers : List (Option Caller)) (disk : Medium) (M : History) (P : Trace) (notes : Notes) (sound : Sound n calls y callers disk M P notes) (a i : ℕ) (c : Command) (s : ℕ) (is : caller_at callers a ≡ Some (call_at i c (Playing (Writing s) 0))) (alive : y.vault.dead ≡ false) where
   abbrev cells_put : List Cell
-  cells_put = slice_set y.vault.cells s (record { stage = KeyLoose; key = key_of c })
+  cells_put = slice_set y.vault.cells s (record { stage = stage_put y.vault.format (stage_in y.vault.cells s); key = key_of c })
 
   abbrev vault_put : Bool → Vaulted
   vault_put dead' = record y.vault { cells = cells_put; dead = dead' }
 
   abbrev medium_put : Medium
-  medium_put = written disk (17 + 16 * s) (slot_body (key_of c))
+  medium_put = medium_after (key_call y.vault.format (stage_in y.vault.cells s) s (key_of c)) disk
 
   abbrev yard_put : Yard
   yard_put = with_vault y (vault_put y.vault.dead)
@@ -233,13 +237,12 @@ module _ (n calls : ℕ) (y : Yard) (callers : List (Option Caller)) (disk : Med
   in_range : s < y.shape.slots
   in_range = lt n calls y callers disk M P notes sound a i c s is
 
-  still_shut : IsGateClosed (stage_in y.vault.cells s)
+  still_shut : IsFree (stage_in y.vault.cells s)
   still_shut = shut n calls y callers disk M P notes sound a i c s is
 
   -- the write is done, and the key isn't published yet
   written_sound : Sound n calls yard_put callers medium_put M P notes
-  written_sound = put_sound n calls y callers disk M P notes sound a i c s is y.vault.dead (λ e. e) medium_put
-      (subst (λ (b : Bool). DiskSound y.shape (vault_put b) medium_put) (sym alive) (key_written y.shape y.vault disk sound.images alive s (key_of c) in_range fits still_shut y.vault.syncs))
+  written_sound = put_sound n calls y callers disk M P notes sound a i c s is y.vault.dead (λ e. e) medium_put (key_done y.shape y.vault disk sound.images alive s in_range (key_of c) fits still_shut)
 
   abbrev yard_keyed : Yard
   yard_keyed = record { shape = y.shape; words = set y.words (key_at s) (key_of c); locks = y.locks; vault = vault_put y.vault.dead; uses = y.uses; actors = y.actors }
@@ -248,7 +251,8 @@ module _ (n calls : ℕ) (y : Yard) (callers : List (Option Caller)) (disk : Med
   keyed_sound : Sound n calls yard_keyed (moving callers a (call_at i c (Playing (Writing s) 0)) (Playing (Writing s) 1)) medium_put M (key_prepared s (key_of c) ∷ P) notes
   keyed_sound =
       let here = h n calls y callers disk M P notes sound a i c s is in
-      let cell : cell_in cells_put s ≡ record { stage = KeyLoose; key = key_of c } = cell_same y.vault.cells s (record { stage = KeyLoose; key = key_of c }) (omega (arith, in_range, sound.images.count)) in
+      let put : Stage = stage_put y.vault.format (stage_in y.vault.cells s) in
+      let cell : cell_in cells_put s ≡ record { stage = put; key = key_of c } = cell_same y.vault.cells s (record { stage = put; key = key_of c }) (omega (arith, in_range, sound.images.count)) in
       goes_on_keeps n calls yard_keyed callers medium_put M (key_prepared s (key_of c) ∷ P) notes a i c (Playing (Writing s) 0) is
       (published_sound n calls yard_put callers medium_put M P notes written_sound a i c s is) (Playing (Writing s) 1) refl (λ none is. absurd (false≢true is))
       (record {
@@ -257,7 +261,7 @@ module _ (n calls : ℕ) (y : Yard) (callers : List (Option Caller)) (disk : Med
           here.1,
           ap (λ (q : Cell). q.key) cell,
           word_same n calls y callers disk M P notes sound a i c s is,
-          inl (ap (λ (q : Cell). q.stage) cell),
+          subst IsKeyed (sym (ap (λ (q : Cell). q.stage) cell)) (put_keyed y.vault.format (stage_in y.vault.cells s)),
           here.2,
         );
         inside = refl;
@@ -268,13 +272,16 @@ module _ (n calls : ℕ) (y : Yard) (callers : List (Option Caller)) (disk : Med
       (medium_after (call_of y (actor_at y a) (WriteKey (key_of c))) disk) M (publishes y (actor_at y a) a (WriteKey (key_of c)) ++ P) notes
   write_key_keeps =
       let mine : s ≡ slot_of (actor_at y a) = sym (ap (λ (q : Option ℕ). unwrap_or q 0) (h n calls y callers disk M P notes sound a i c s is).1) in
-      subst (λ (q : ℕ). Sound n calls (record { shape = y.shape; words = set y.words (key_at q) (key_of c); locks = y.locks; vault = record y.vault { cells = slice_set y.vault.cells q (record { stage = KeyLoose; key = key_of c }) }; uses = y.uses; actors = y.actors })
-      (moving callers a (call_at i c (Playing (Writing s) 0)) (Playing (Writing s) 1)) (written disk (17 + 16 * q) (slot_body (key_of c))) M (key_prepared q (key_of c) ∷ P) notes) mine keyed_sound
+      subst (λ (syncs : ℕ). Sound n calls (record { shape = y.shape; words = set y.words (key_at (slot_of (actor_at y a))) (key_of c); locks = y.locks; vault = record y.vault { cells = cells_after y (actor_at y a) (WriteKey (key_of c)); syncs = syncs }; uses = y.uses; actors = y.actors })
+      (moving callers a (call_at i c (Playing (Writing s) 0)) (Playing (Writing s) 1)) (medium_after (call_of y (actor_at y a) (WriteKey (key_of c))) disk) M (key_prepared (slot_of (actor_at y a)) (key_of c) ∷ P) notes)
+      (sym (key_syncs y.vault.format (stage_in y.vault.cells (slot_of (actor_at y a))) (slot_of (actor_at y a)) (key_of c) y.vault.syncs))
+      (subst (λ (q : ℕ). Sound n calls (record { shape = y.shape; words = set y.words (key_at q) (key_of c); locks = y.locks; vault = record y.vault { cells = slice_set y.vault.cells q (record { stage = stage_put y.vault.format (stage_in y.vault.cells q); key = key_of c }) }; uses = y.uses; actors = y.actors })
+      (moving callers a (call_at i c (Playing (Writing s) 0)) (Playing (Writing s) 1)) (medium_after (key_call y.vault.format (stage_in y.vault.cells q) q (key_of c)) disk) M (key_prepared q (key_of c) ∷ P) notes) mine keyed_sound)
 
   -- the turn in which the write fails: the vault dies, and no word is changed
-  pub write_key_fails_keeps : (medium : Medium) → (medium ≡ disk) ⊎ WriteFailed disk (17 + 16 * s) (slot_body (key_of c)) medium
+  pub write_key_fails_keeps : (medium : Medium) → MayFail (key_call y.vault.format (stage_in y.vault.cells s) s (key_of c)) disk medium
       → Sound n calls (with_vault y (vault_put true)) (moving callers a (call_at i c (Playing (Writing s) 0)) (halts Device)) medium M P notes
   write_key_fails_keeps medium may =
       goes_on_keeps n calls (with_vault y (vault_put true)) callers medium M P notes a i c (Playing (Writing s) 0) is
-      (put_sound n calls y callers disk M P notes sound a i c s is true (λ e. refl) medium (key_failed y.shape y.vault disk sound.images alive s (key_of c) in_range fits still_shut y.vault.syncs medium may))
+      (put_sound n calls y callers disk M P notes sound a i c s is true (λ e. refl) medium (key_failed y.shape y.vault disk sound.images alive s in_range (key_of c) fits still_shut medium may))
       (halts Device) refl (λ none is. refl) (record { relies = (tt, refl); inside = refl })

@@ -1,16 +1,14 @@
 -- WriteOpen keeps the invariant: the gate of the slot that the adder will link is opened.
-use Rattle.std.proofs.Common.{◌≡◌, ◌≢◌, ℕ, ◌+◌, ◌*◌, Bool, false, List, [], ◌∷◌, ◌++◌, Option, Some, refl, sym, ap, subst, arith}
+use Rattle.std.proofs.Common.{◌≡◌, ◌≢◌, ℕ, ◌+◌, Bool, false, List, ◌∷◌, ◌++◌, Option, Some, refl, sym, ap, subst}
 use Rattle.std.specs.Prelude.{slice_set, unwrap_or}
 use Rattle.lz_slot.specs.declared.command.Command.TheVariants.{Add}
-use Rattle.lz_slot.specs.Bytes.{open_byte}
 use Rattle.lz_slot.specs.Counted.{set_of_pass}
 use Rattle.lz_slot.specs.Histories.{History}
 use Rattle.lz_slot.proofs.Counted.{length-set_of_pass}
-use Rattle.lz_disk.specs.Images.{Medium, written}
+use Rattle.lz_disk.specs.Images.{Medium}
 use Rattle.lz_vault.specs.declared.vault.Stage.TheVariants.{Opening}
 use Rattle.lz_vault.specs.Stages.{Cell}
-use Rattle.lz_vault.specs.Vaults.{Vaulted, medium_after}
-use Rattle.lz_vault.proofs.Gates.{keyed_has_body}
+use Rattle.lz_vault.specs.Vaults.{Vaulted, medium_after, opening_call}
 use Rattle.lz_list.specs.declared.publishing.Publishing.TheVariants.{LinkPrepared as link_prepared}
 use Rattle.lz_list.specs.declared.word.Word.TheVariants.{Link as link_at}
 use Rattle.lz_list.specs.Words.{set, link_to}
@@ -20,14 +18,14 @@ use Rattle.lz_machine.specs.declared.actor.Actor.{Actor}
 use Rattle.lz_machine.specs.declared.actor.Hold.TheVariants.{GateOpened}
 use Rattle.lz_machine.specs.declared.caller.Sequence.TheVariants.{Adding}
 use Rattle.lz_machine.specs.declared.caller.Progress.TheVariants.{Playing}
-use Rattle.lz_machine.specs.Yards.{Yard, actor_at, actor_in, pin_in, cell_in, stage_in}
+use Rattle.lz_machine.specs.Yards.{Yard, actor_at, actor_in, pin_in, cell_in}
 use Rattle.lz_machine.specs.Table.{with_hold, call_of, slot_of, yard_done, publishes}
 use Rattle.lz_machine.specs.Runs.{Caller, caller_at}
 use Rattle.lz_machine.specs.Notes.{Notes}
 use Rattle.lz_machine.specs.LocksSound.{has_locks, HasLock, RestsOn, LocksSound}
 use Rattle.lz_machine.specs.CallersSound.{Relies, view_of, CallerSound}
 use Rattle.lz_machine.specs.Sound.{DiskSound, Sound}
-use Rattle.lz_machine.proofs.Frames.GateWrite.{gate_written}
+use Rattle.lz_machine.proofs.Frames.SlotWrite.{opening_done}
 use Rattle.lz_machine.proofs.Frames.OneActor.{moving}
 use Rattle.lz_machine.proofs.Frames.Hand.{same_hand, other_hand}
 use Rattle.lz_machine.proofs.Steps.Hop.{call_at, own}
@@ -81,12 +79,11 @@ module _ (n calls : ℕ) (y : Yard) (callers : List (Option Caller)) (disk : Med
   vault_open dead = record y.vault { cells = cells_open; dead = dead }
 
   abbrev medium_open : Medium
-  medium_open = written disk (16 + 16 * s) (open_byte ∷ [])
+  medium_open = medium_after (opening_call y.vault.format s (cell_in y.vault.cells s).key) disk
 
   -- the disk is as the new cells say
   opened_disk : DiskSound y.shape (vault_open y.vault.dead) medium_open
-  opened_disk = subst (λ (b : Bool). DiskSound y.shape (vault_open b) medium_open) (sym alive)
-      (gate_written y.shape y.vault disk sound.images alive s (lt n calls y callers disk M P notes sound a i k s is) open_byte (omega arith) Opening (keyed_has_body (stage_in y.vault.cells s) known.1.stage) (λ j bytes e. e) (λ j bytes e. e) y.vault.syncs)
+  opened_disk = opening_done y.shape y.vault disk sound.images alive s (lt n calls y callers disk M P notes sound a i k s is) known.1.stage
 
   -- the adder goes on to its linking
   opened_mine : CallerSound (record { buckets = y.shape.buckets; passes = y.shape.passes; format = y.vault.format; cells = cells_open; dead = y.vault.dead; actor = x }) (pin_in y.words.pins a) (Some (call_at i (Add k) (Playing (Adding s) 1))) (notes.begun a) P'' (notes.changed a)
@@ -111,4 +108,4 @@ module _ (n calls : ℕ) (y : Yard) (callers : List (Option Caller)) (disk : Med
   write_open_keeps =
       let claimed : s ≡ slot_of (actor_at y a) = sym (ap (λ (q : Option ℕ). unwrap_or q 0) known.1.slot) in
       subst (λ (q : ℕ). Sound n calls (record { shape = y.shape; words = set y.words (link_at q) link; locks = y.locks; vault = record y.vault { cells = slice_set y.vault.cells q (record { stage = Opening; key = (cell_in y.vault.cells q).key }) }; uses = y.uses; actors = actors' })
-      (moving callers a (call_at i (Add k) (Playing (Adding s) 0)) (Playing (Adding s) 1)) (written disk (16 + 16 * q) (open_byte ∷ [])) M (link_prepared q link ∷ P) notes) claimed opened_sound
+      (moving callers a (call_at i (Add k) (Playing (Adding s) 0)) (Playing (Adding s) 1)) (medium_after (opening_call y.vault.format q (cell_in y.vault.cells q).key) disk) M (link_prepared q link ∷ P) notes) claimed opened_sound

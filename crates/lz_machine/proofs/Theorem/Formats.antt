@@ -4,7 +4,7 @@ use Rattle.lz_slot.specs.declared.format.Format.{Format}
 use Rattle.lz_slot.specs.Bytes.{format_of}
 use Rattle.lz_slot.specs.Histories.{History, Life}
 use Rattle.lz_disk.specs.Images.{Medium, IsImage}
-use Rattle.lz_vault.specs.Vaults.{medium_after}
+use Rattle.lz_vault.specs.Vaults.{DeviceCall, NoCall, WriteAt, SyncAll, MayFail, medium_after}
 use Rattle.lz_vault.proofs.Reading.{image_format}
 use Rattle.lz_list.specs.Traces.{Trace}
 use Rattle.lz_machine.specs.declared.event.Event.{Event}
@@ -13,7 +13,7 @@ use Rattle.lz_machine.specs.declared.course.Course.{Course}
 use Rattle.lz_machine.specs.declared.course.Course.TheVariants.{Refused}
 use Rattle.lz_machine.specs.Yards.{Shape, Yard, actor_at}
 use Rattle.lz_machine.specs.Table.{course, line, line_call, line_on}
-use Rattle.lz_machine.specs.Runs.{Start, IsStart, Caller, Service, State, Up, Down, Transition, Turn, Fails, Trips, Stops, Crashes, CrashesIn, Opens, OpenFails, MayStep, MayLeave, LeftInside, HasTurn, IsRun, point_after, state_after, after_turn, after_fault, played, run, first_point, caller_at, next_event}
+use Rattle.lz_machine.specs.Runs.{Start, IsStart, Caller, Service, State, Up, Down, Transition, Turn, Fails, Trips, Stops, Crashes, CrashesIn, Opens, OpenFails, MayStep, MayLeave, LeftInside, HasTurn, HasFault, IsRun, disk_of, point_after, state_after, after_turn, after_fault, played, run, first_point, caller_at, next_event}
 use Rattle.lz_machine.specs.Notes.{Notes}
 use Rattle.lz_machine.specs.Sound.{UpSound, IsSound}
 use Rattle.lz_machine.specs.Formats.{HasFormat, FormatsStay}
@@ -107,11 +107,46 @@ left_format : (start : Start) (w : State) (M : History) (P : Trace) (calls : ℕ
 left_format start (Up service disk) M P calls sound timely format h t leaves = may_leave_named start service disk M P calls sound (timely service disk refl) t leaves ∙ h
 left_format start (Down shape disk) M P calls sound timely format h t leaves = h t leaves
 
+-- no step changes whether the medium is bytewise
+medium_bytewise : (call : DeviceCall) (disk : Medium) → (medium_after call disk).bytewise ≡ disk.bytewise
+medium_bytewise NoCall disk = refl
+medium_bytewise (WriteAt at bytes) disk = refl
+medium_bytewise SyncAll disk = refl
+
+failed_bytewise : (call : DeviceCall) (old new : Medium) → MayFail call old new → new.bytewise ≡ old.bytewise
+failed_bytewise NoCall old new may = absurd may
+failed_bytewise (WriteAt at bytes) old new (inl same) = ap (λ (m : Medium). m.bytewise) same
+failed_bytewise (WriteAt at bytes) old new (inr failed) = failed.bytewise
+failed_bytewise SyncAll old new same = ap (λ (m : Medium). m.bytewise) same
+
+turn_bytewise : (service : Service) (disk : Medium) (a : ℕ) (who : Option Caller) → (disk_of (after_turn service disk a who)).bytewise ≡ disk.bytewise
+turn_bytewise service disk a None = refl
+turn_bytewise service disk a (Some caller) = medium_bytewise (line_call service.yard a (next_event service.yard caller)) disk
+
+fault_bytewise : (service : Service) (disk new : Medium) (a : ℕ) (who : Option Caller) → HasFault service disk a who new → (disk_of (after_fault service new a who)).bytewise ≡ disk.bytewise
+fault_bytewise service disk new a None may = absurd may
+fault_bytewise service disk new a (Some caller) may = failed_bytewise (line_call service.yard a (next_event service.yard caller)) disk new may
+
+step_bytewise : (i : ℕ) (w : State) (step : Transition) → MayStep w step → (disk_of (state_after i w step)).bytewise ≡ (disk_of w).bytewise
+step_bytewise i (Up service disk) (Turn a) may = turn_bytewise service disk a (caller_at service.callers a)
+step_bytewise i (Up service disk) (Fails a new) may = fault_bytewise service disk new a (caller_at service.callers a) may
+step_bytewise i (Up service disk) _ may = refl
+step_bytewise i (Down shape disk) (OpenFails why true) may = refl
+step_bytewise i (Down shape disk) (OpenFails why false) may = refl
+step_bytewise i (Down shape disk) _ may = refl
+
+run_bytewise : (start : Start) (steps : List Transition) → IsRun (first_point start) steps → (disk_of (run (first_point start) steps).state).bytewise ≡ start.bytewise
+run_bytewise start [] runs = refl
+run_bytewise start (step ∷ steps) runs =
+    let before = run (first_point start) steps in
+    step_bytewise (suc before.calls) before.state step runs.0 ∙ run_bytewise start steps runs.1
+
 pub formats_stay : FormatsStay
 formats_stay start w M P reached =
     let p = run (first_point start) reached.steps in
     let has = run_format start reached.steps reached.starts reached.runs in (
       subst (HasFormat (format_of start.text)) reached.state has,
+      λ four. ap (λ (w : State). (disk_of w).bytewise) (sym reached.state) ∙ run_bytewise start reached.steps reached.runs ∙ reached.starts.suits four,
       λ t leaves. left_format start p.state p.marks p.trace p.calls (reached_sound start reached.steps reached.starts reached.runs)
           (λ service disk state a caller at. in_time_reached start reached.steps reached.starts reached.runs service disk state a caller at)
           (format_of start.text) has t (subst (λ (q : State). MayLeave q t) (sym reached.state) leaves),

@@ -41,7 +41,7 @@ use Rattle.lz_machine.proofs.Frames.OneActor.{caller_range}
 use Rattle.lz_machine.proofs.Frames.Ranges.{on_range}
 use Rattle.lz_machine.proofs.Frames.Uses.{collected_free, free_limbo, left_of, limbo_same, use_map}
 use Rattle.lz_machine.proofs.Alone.Sights.{set_cases, sight_cases, saw, collected_limbo}
-use Rattle.lz_machine.proofs.Alone.Room.{no_limbo_read}
+use Rattle.lz_machine.proofs.Open.FoundSlots.{no_limbo_read}
 use Rattle.lz_machine.proofs.Crash.ImageSlots.{node_stands}
 use Rattle.lz_machine.proofs.Runs.Shape.{line_keeps_shape}
 use Rattle.lz_machine.proofs.Theorem.Needs.{is_marking}

@@ -20,13 +20,14 @@ left_bytes (Up service disk) t (inr (a, left)) = inside_bytes a service disk (ca
 left_bytes (Down shape disk) t image = image.bytes
 
 pub left_is_start : LeftIsStart
-left_is_start start w M P t bytewise buckets passes reached leaves some few =
+left_is_start start w M P t bytewise buckets passes reached leaves some few suits =
     let held = every_history start w M P t reached leaves in
     record {
       buckets = some;
       passes = few;
       bytes = left_bytes w t leaves;
       text = listed t start.shape.slots held.0 held.1;
+      suits = suits;
     }
 
 -- the first of these lives, which stands last, began with this set

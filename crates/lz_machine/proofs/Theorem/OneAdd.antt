@@ -1,53 +1,75 @@
--- One adding to a freshly made set of one slot is a run; and each state that is reached may leave a text.
-use Rattle.std.proofs.Common.{◌≡◌, ◌≢◌, inl, ℕ, zero, suc, ◌<◌, ◌≤◌, List, [], ◌∷◌, slice_get, Option, Some, is_some, refl, ap, subst, arith}
+-- One adding to a freshly made set of one slot, in any format, is a run; and each state that is reached may leave a text.
+use Rattle.std.proofs.Common.{◌≡◌, ◌≢◌, inl, ℕ, zero, suc, ◌<◌, ◌≤◌, false, List, [], ◌∷◌, slice_get, take, Option, Some, is_some, refl, sym, ap, ◌∙◌, subst, arith}
 use Rattle.std.specs.Prelude.{unwrap_or}
 use mathlib.Core.Bool.{false≢true}
-use Rattle.lz_slot.specs.declared.format.Format.TheVariants.{Two}
+use Rattle.lz_slot.specs.declared.format.Format.{Format}
+use Rattle.lz_slot.specs.declared.format.Format.TheVariants.{One, Two, Three, Four}
 use Rattle.lz_slot.specs.declared.slot.SlotRead.TheVariants.{Closed, Member, BadKey}
-use Rattle.lz_slot.specs.Bytes.{slot_at}
+use Rattle.lz_slot.specs.Limits.{most_slots_of}
+use Rattle.lz_slot.specs.Bytes.{open_byte, header_body, format_of, slot_at}
 use Rattle.lz_slot.specs.Rooms.{largest_of}
-use Rattle.lz_vault.specs.Stages.{Cell}
+use Rattle.lz_slot.proofs.Files.ExactBytes.{zero_fits}
+use Rattle.lz_vault.specs.Stages.{Cell, Suits}
 use Rattle.lz_list.specs.Traces.{bucket_of}
 use Rattle.lz_slot.specs.Histories.{Life, lives}
-use Rattle.lz_disk.specs.Images.{IsImage, IsSound}
+use Rattle.lz_disk.specs.Images.{IsImage, IsSound, at_rest}
 use Rattle.lz_machine.specs.declared.event.Outcome.TheVariants.{Done, Value, Slot, Taken, True, NotNow}
-use Rattle.lz_machine.specs.OneAdd.{one_slot, one_add, OneAddRuns, LeavesText}
+use Rattle.lz_machine.specs.OneAdd.{is_bytewise, one_slot, one_add, OneAddRuns, LeavesText}
 use Rattle.lz_machine.specs.Runs.{Start, IsStart, State, Up, Down, Transition, Point, IsRun, MayLeave, disk_of, run, first_point, made_text, start_keys}
 use Rattle.lz_machine.specs.Sound.{PointSound}
 use Rattle.lz_vault.specs.Members.{no_cell}
 use Rattle.lz_machine.proofs.Open.Texts.{text_bytes}
 use Rattle.lz_machine.proofs.Theorem.Reached.{reached_sound}
 
-closed_slot : slot_at (made_text Two 1) 0 ≡ Closed
-closed_slot = refl
+-- what was just made
+closed_slot : (F : Format) → slot_at (made_text F 1) 0 ≡ Closed
+closed_slot One = refl
+closed_slot _ = refl
 
-no_bad : (i : ℕ) → i < 1 → slot_at (made_text Two 1) i ≢ BadKey
-no_bad zero lt bad = absurd (cc (closed_slot, bad))
-no_bad (suc i) lt bad = absurd (omega (arith, lt))
+made_head : (F : Format) → take 16 (made_text F 1) ≡ open_byte ∷ header_body (format_of (made_text F 1)) 1
+made_head One = refl
+made_head _ = refl
+
+made_room : (F : Format) → 1 ≤ most_slots_of (format_of (made_text F 1))
+made_room One = omega arith
+made_room _ = omega arith
+
+made_suits : (F : Format) → Suits (format_of (made_text F 1)) (at_rest (is_bytewise F) (made_text F 1))
+made_suits Four is = refl
+made_suits _ is = absurd cc
+
+no_bad : (F : Format) (i : ℕ) → i < 1 → slot_at (made_text F 1) i ≢ BadKey
+no_bad F zero lt bad = absurd (cc (closed_slot F, bad))
+no_bad F (suc i) lt bad = absurd (omega (arith, lt))
+
+no_member : (F : Format) (i k : ℕ) → i < 1 → slot_at (made_text F 1) i ≢ Member k
+no_member F zero k lt is = absurd (cc (closed_slot F, is))
+no_member F (suc i) k lt is = absurd (omega (arith, lt))
+
+no_key : (F : Format) (k : ℕ) → start_keys (one_slot F) k ≡ false
+no_key One k = refl
+no_key _ k = refl
 
 -- the key of a slot that was just made is one of any format
-fresh_keys : (i : ℕ) (cell : Cell) → slice_get (no_cell ∷ []) i ≡ Some cell → cell.key ≤ largest_of Two
-fresh_keys zero cell is = omega (arith, ap (λ (o : Option Cell). (unwrap_or o no_cell).key) is)
-fresh_keys (suc i) cell is = absurd (false≢true (ap is_some is))
+fresh_keys : (F : Format) (i : ℕ) (cell : Cell) → slice_get (no_cell ∷ []) i ≡ Some cell → cell.key ≤ largest_of F
+fresh_keys F zero cell is = subst (λ (k : ℕ). k ≤ largest_of F) (ap (λ (o : Option Cell). (unwrap_or o no_cell).key) is) (zero_fits F)
+fresh_keys F (suc i) cell is = absurd (false≢true (ap is_some is))
 
-starts : IsStart one_slot
-starts = record {
+starts : (F : Format) → IsStart (one_slot F)
+starts F = record {
   buckets = (omega arith, omega arith);
   passes = (omega arith, omega arith);
-  bytes = text_bytes Two (no_cell ∷ []) fresh_keys;
+  bytes = text_bytes F (no_cell ∷ []) (fresh_keys F);
   text = record {
-    count = (omega arith, omega arith);
+    count = (omega arith, made_room F);
     size = refl;
-    head = refl;
-    no_bad_key = no_bad;
+    head = made_head F;
+    no_bad_key = no_bad F;
     no_key_twice = λ i j k one two first second. omega (arith, one, two);
-    set = λ k. (λ has. absurd (false≢true has), λ found. absurd (none found.0 k found.1 found.2));
+    set = λ k. (λ has. absurd (false≢true (sym (no_key F k) ∙ has)), λ found. absurd (no_member F found.0 k found.1 found.2));
   };
+  suits = made_suits F;
 }
-  where
-    none : (i k : ℕ) → i < 1 → slot_at (made_text Two 1) i ≢ Member k
-    none zero k lt is = absurd (cc (closed_slot, is))
-    none (suc i) k lt is = absurd (omega (arith, lt))
 
 -- an outcome that isn't NotNow
 done : Done ≢ NotNow
@@ -66,13 +88,17 @@ passed : True ≢ NotNow
 passed = λ h. cc
 
 -- each of the fifteen turns may be taken, the last one first
-runs : IsRun (first_point one_slot) one_add
+runs : (F : Format) → IsRun (first_point (one_slot F)) one_add
 unfolding bucket_of
-runs = (done, (done, (done, (done, (done, (done, (passed, (taken, (valued 0, (done, (done, (given 0, (valued 0, (valued 0, (done, (((omega arith, omega arith), refl, refl, omega arith), tt))))))))))))))))
+runs One = (done, (done, (done, (done, (done, (done, (passed, (taken, (valued 0, (done, (done, (given 0, (valued 0, (valued 0, (done, (((omega arith, omega arith), refl, refl, omega arith), tt))))))))))))))))
+runs _ = (done, (done, (done, (done, (done, (done, (passed, (taken, (valued 0, (done, (done, (given 0, (valued 0, (valued 0, (done, (((omega arith, omega arith), refl, refl, omega arith), tt))))))))))))))))
 
 pub one_add_runs : OneAddRuns
 unfolding bucket_of
-one_add_runs = record { starts = starts; runs = runs; marks = refl }
+one_add_runs One = record { starts = starts One; runs = runs One; marks = refl; calls = refl }
+one_add_runs Two = record { starts = starts Two; runs = runs Two; marks = refl; calls = refl }
+one_add_runs Three = record { starts = starts Three; runs = runs Three; marks = refl; calls = refl }
+one_add_runs Four = record { starts = starts Four; runs = runs Four; marks = refl; calls = refl }
 
 -- what is durable, and what is read now, are images of the disk
 sound_disk : (start : Start) (p : Point) (w : State) (L : List Life) → PointSound start p L → p.state ≡ w → IsSound (disk_of w)

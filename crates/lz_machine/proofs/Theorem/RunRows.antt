@@ -5,9 +5,10 @@ use Rattle.lz_slot.specs.Limits.{most_buckets, most_passes}
 use Rattle.lz_slot.specs.declared.format.Format.TheVariants.{Two}
 use Rattle.lz_slot.specs.declared.command.Command.TheVariants.{Add}
 use Rattle.lz_slot.specs.declared.history.Mark.TheVariants.{Call, Answer}
-use Rattle.lz_slot.specs.Bytes.{header_body, open_byte, slot_body}
+use Rattle.lz_slot.specs.Bytes.{header_body, open_byte, slot_body, format_of}
 use Rattle.lz_slot.specs.Sets.{members}
-use Rattle.lz_disk.specs.Images.{Medium, IsImage}
+use Rattle.lz_disk.specs.Images.{Medium, IsImage, at_rest}
+use Rattle.lz_vault.specs.Stages.{Suits}
 use Rattle.lz_list.specs.Traces.{bucket_of}
 use Rattle.lz_machine.specs.JoinedRuns.{Ran, Follow, all_lives}
 use Rattle.lz_machine.specs.OneAdd.{one_slot, one_add}
@@ -114,15 +115,15 @@ module _ (start : Start) (steps : List Transition) (starts : IsStart start) (run
 abbrev first_turns : ℕ → List Transition
 first_turns n = replicate n (Turn 1) ++ Calls 1 (Add 9) ∷ []
 
-ten : IsRun (first_point one_slot) (first_turns 10)
+ten : IsRun (first_point (one_slot Two)) (first_turns 10)
 unfolding bucket_of
-ten = one_add_runs.runs.1.1.1.1.1
+ten = (one_add_runs Two).runs.1.1.1.1.1
 
-nine : IsRun (first_point one_slot) (first_turns 9)
+nine : IsRun (first_point (one_slot Two)) (first_turns 9)
 unfolding bucket_of
 nine = ten.1
 
-five : IsRun (first_point one_slot) (first_turns 5)
+five : IsRun (first_point (one_slot Two)) (first_turns 5)
 unfolding bucket_of
 five = nine.1.1.1.1
 
@@ -131,18 +132,18 @@ abbrev with_slot : ℕ → ℕ → List ℕ
 with_slot gate k = (open_byte ∷ header_body Two 1) ++ gate ∷ slot_body k
 
 -- The tenth turn writes the gate. A crash inside it may leave the gate as it was, or open.
-gate_closed_inside : IsRun (first_point one_slot) (CrashesIn 1 (with_slot 0 9) ∷ first_turns 9)
+gate_closed_inside : IsRun (first_point (one_slot Two)) (CrashesIn 1 (with_slot 0 9) ∷ first_turns 9)
 unfolding bucket_of
-gate_closed_inside = seen_inside one_slot (first_turns 9) one_add_runs.starts nine 1 (with_slot 0 9) refl refl
+gate_closed_inside = seen_inside (one_slot Two) (first_turns 9) (one_add_runs Two).starts nine 1 (with_slot 0 9) refl refl
 
-gate_open_inside : IsRun (first_point one_slot) (CrashesIn 1 (with_slot open_byte 9) ∷ first_turns 9)
+gate_open_inside : IsRun (first_point (one_slot Two)) (CrashesIn 1 (with_slot open_byte 9) ∷ first_turns 9)
 unfolding bucket_of
-gate_open_inside = written_inside one_slot (first_turns 9) one_add_runs.starts nine 1 (with_slot open_byte 9) refl ten refl
+gate_open_inside = written_inside (one_slot Two) (first_turns 9) (one_add_runs Two).starts nine 1 (with_slot open_byte 9) refl ten refl
 
 -- but no other key, whose bytes are durable by then
-other_key_inside : IsRun (first_point one_slot) (CrashesIn 1 (with_slot open_byte 10) ∷ first_turns 9) → ⊥
+other_key_inside : IsRun (first_point (one_slot Two)) (CrashesIn 1 (with_slot open_byte 10) ∷ first_turns 9) → ⊥
 unfolding bucket_of
-other_key_inside h = elim (only_inside one_slot (first_turns 9) one_add_runs.starts nine 1 (with_slot open_byte 10) h) [
+other_key_inside h = elim (only_inside (one_slot Two) (first_turns 9) (one_add_runs Two).starts nine 1 (with_slot open_byte 10) h) [
   | inl image ↦ wrong (image.sure 31 (lit< tt) refl)
   | inr image ↦ wrong (image.sure 31 (lit< tt) refl)
 ]
@@ -151,14 +152,14 @@ other_key_inside h = elim (only_inside one_slot (first_turns 9) one_add_runs.sta
     wrong same = absurd (omega (arith, same))
 
 -- the sixth turn syncs the key: a crash inside it may still leave the file as it was made
-key_lost_inside : IsRun (first_point one_slot) (CrashesIn 1 (made_text Two 1) ∷ first_turns 5)
+key_lost_inside : IsRun (first_point (one_slot Two)) (CrashesIn 1 (made_text Two 1) ∷ first_turns 5)
 unfolding bucket_of
-key_lost_inside = sure_inside one_slot (first_turns 5) one_add_runs.starts five 1 (made_text Two 1) refl refl
+key_lost_inside = sure_inside (one_slot Two) (first_turns 5) (one_add_runs Two).starts five 1 (made_text Two 1) refl refl
 
 -- no crash is inside a call of an actor that has none
-no_call_inside : (t : List ℕ) → IsRun (first_point one_slot) (CrashesIn 2 t ∷ first_turns 9) → ⊥
+no_call_inside : (t : List ℕ) → IsRun (first_point (one_slot Two)) (CrashesIn 2 t ∷ first_turns 9) → ⊥
 unfolding bucket_of
-no_call_inside t h = idle_inside one_slot (first_turns 9) one_add_runs.starts nine 2 t refl h
+no_call_inside t h = idle_inside (one_slot Two) (first_turns 9) (one_add_runs Two).starts nine 2 t refl h
 
 -- a run follows on another one where it begins with what was read then
 follows : (start next : Start) (steps more : List Transition) (starts : IsStart start) (runs : IsRun (first_point start) steps) (starts' : IsStart next) (runs' : IsRun (first_point next) more)
@@ -171,12 +172,12 @@ follows start next steps more starts runs starts' runs' is =
 
 -- one may begin so
 may_begin : (start : Start) (steps : List Transition) (starts : IsStart start) (runs : IsRun (first_point start) steps) (t : List ℕ) (buckets passes : ℕ)
-    → (disk_of (run (first_point start) steps).state).seen ≡ t → (1 ≤ buckets) × (buckets ≤ most_buckets) → (1 ≤ passes) × (passes ≤ most_passes)
+    → (disk_of (run (first_point start) steps).state).seen ≡ t → (1 ≤ buckets) × (buckets ≤ most_buckets) → (1 ≤ passes) × (passes ≤ most_passes) → Suits (format_of t) (at_rest false t)
     → IsStart (record { bytewise = false; shape = record { slots = start.shape.slots; buckets = buckets; passes = passes }; text = t })
-may_begin start steps starts runs t buckets passes is some few =
+may_begin start steps starts runs t buckets passes is some few suits =
     let p = run (first_point start) steps in
     left_is_start start p.state p.marks p.trace t false buckets passes (record { steps = steps; starts = starts; runs = runs; state = refl; marks = refl; trace = refl })
-    (image_left p.state t (subst (IsImage (disk_of p.state)) is (run_sound start steps starts runs).seen)) some few
+    (image_left p.state t (subst (IsImage (disk_of p.state)) is (run_sound start steps starts runs).seen)) some few suits
 
 -- where nobody calls, what doesn't follow
 follows_idle : (start next : Start) (steps more : List Transition) (starts : IsStart start) (runs : IsRun (first_point start) steps) (starts' : IsStart next) (runs' : IsRun (first_point next) more) (n : ℕ)
@@ -191,10 +192,10 @@ later buckets passes = record { bytewise = false; shape = record { slots = 1; bu
 
 later_starts : (buckets passes : ℕ) → (1 ≤ buckets) × (buckets ≤ most_buckets) → (1 ≤ passes) × (passes ≤ most_passes) → IsStart (later buckets passes)
 unfolding bucket_of
-later_starts buckets passes some few = may_begin one_slot one_add one_add_runs.starts one_add_runs.runs (with_slot open_byte 9) buckets passes refl some few
+later_starts buckets passes some few = may_begin (one_slot Two) one_add (one_add_runs Two).starts (one_add_runs Two).runs (with_slot open_byte 9) buckets passes refl some few (λ is. absurd cc)
 
 added : Ran
-added = ran one_slot one_add one_add_runs.starts one_add_runs.runs
+added = ran (one_slot Two) one_add (one_add_runs Two).starts (one_add_runs Two).runs
 
 second : IsStart (later 2 3)
 second = later_starts 2 3 (omega arith, omega arith) (omega arith, omega arith)
@@ -207,7 +208,7 @@ three_follow : Follow (ran (later 4096 1) [] third tt ∷ ran (later 2 3) [] sec
 unfolding bucket_of added
 three_follow = (
   follows (later 2 3) (later 4096 1) [] [] second tt third tt refl,
-  (follows one_slot (later 2 3) one_add [] one_add_runs.starts one_add_runs.runs second tt refl, tt),
+  (follows (one_slot Two) (later 2 3) one_add [] (one_add_runs Two).starts (one_add_runs Two).runs second tt refl, tt),
 )
 
 three_lives : all_lives (ran (later 4096 1) [] third tt ∷ ran (later 2 3) [] second tt ∷ added ∷ [])
@@ -217,10 +218,10 @@ unfolding bucket_of added ran
 three_lives = refl
 
 -- the file as it was made doesn't follow on an adding that was answered
-made_again_follows : Follow (ran one_slot [] one_add_runs.starts tt ∷ added ∷ []) → ⊥
+made_again_follows : Follow (ran (one_slot Two) [] (one_add_runs Two).starts tt ∷ added ∷ []) → ⊥
 unfolding bucket_of added
 made_again_follows h =
-    let image = follows_idle one_slot one_slot one_add [] one_add_runs.starts one_add_runs.runs one_add_runs.starts tt 1 refl h.0 in
+    let image = follows_idle (one_slot Two) (one_slot Two) one_add [] (one_add_runs Two).starts (one_add_runs Two).runs (one_add_runs Two).starts tt 1 refl h.0 in
     wrong (image.sure 16 (lit< tt) refl)
   where
     wrong : ◌≡◌ {A = ℕ} 0 open_byte → ⊥

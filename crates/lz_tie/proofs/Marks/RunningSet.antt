@@ -66,7 +66,7 @@ module _ (b : BoardId) (ns : List Note) (start : Start) (steps : List Transition
   began : Same (start_keys start) (members_of b.opened)
   began k =
       let P = first_trace start.shape start.text in
-      let first = (opened_up start.shape start.text (start_keys start) starts.buckets.0 starts.text starts.bytes start.bytewise 0).began in
+      let first = (opened_up start.shape start.text (start_keys start) starts.buckets.0 starts.text starts.bytes start.bytewise 0 starts.suits).began in
       sym (first.members k) ∙ ap (member k) (upto_all (length P) P (omega arith) ∙ sym begins)
 
   -- each text that a crash may leave there explains what the notes show

@@ -31,31 +31,31 @@ no_runs S T (i ∷ L) runs = absurd runs.1.1
 
 module _ (b : BoardId) (before after : Device) (buckets passes : ℕ) (y : Yard) (opens : OpensYard before after buckets passes y) (in_words : b.sizes ≡ sizes_in y.words) (trace : b.opened ≡ opened_by y.words) where
   abbrev read : List ℕ
-  read = opens.first.0
+  read = opens.first.text
 
   sizes : b.sizes ≡ sizes_of y.shape
-  sizes = in_words ∙ opened_sizes y read opens.first.2 opens.first.3
+  sizes = in_words ∙ opened_sizes y read opens.first.starts opens.first.yard
 
   begins : b.opened ≡ first_trace y.shape read
-  begins = trace ∙ (opens_text y.shape read y.words opens.first.2.text.no_key_twice (ap (λ (x : Yard). x.words) opens.first.3)).1
+  begins = trace ∙ (opens_text y.shape read y.words opens.first.starts.text.no_key_twice (ap (λ (x : Yard). x.words) opens.first.yard)).1
 
   -- the text that was read, which nothing may leave otherwise
-  itself : IsImage (at_rest before.medium.bytewise read) read
-  itself = record { bytes = opens.first.2.bytes; no_shorter = le_refl _; no_longer = le_refl _; sure = λ i low sure. refl; each = λ on i low. inl refl }
+  itself : IsImage (at_rest opens.first.bytewise read) read
+  itself = record { bytes = opens.first.starts.bytes; no_shorter = le_refl _; no_longer = le_refl _; sure = λ i low sure. refl; each = λ on i low. inl refl }
 
   first_explains : Explains b [] read
-  first_explains = explained b [] (record { bytewise = before.medium.bytewise; shape = y.shape; text = read }) [] sizes opens.first.2 tt refl begins (opened_service y.shape read) (at_rest before.medium.bytewise read) refl read itself
+  first_explains = explained b [] (record { bytewise = opens.first.bytewise; shape = y.shape; text = read }) [] sizes opens.first.starts tt refl begins (opened_service y.shape read) (at_rest opens.first.bytewise read) refl read itself
 
   -- the set begins with the members that the text holds which was read
   pub begins_with_read : IsTrue before.honest → Holds before.medium.seen b.sizes.slots (members_of b.opened)
   begins_with_read honest =
       let e = first_explains in
       let same : Same e.found (members_of b.opened) = λ k. sym (no_runs (members_of b.opened) e.found e.calls e.fits.runs k) in
-      subst (λ r. Holds r b.sizes.slots (members_of b.opened)) (opens.first.1 honest) (holds_same_set read b.sizes.slots e.found (members_of b.opened) same e.holds)
+      subst (λ r. Holds r b.sizes.slots (members_of b.opened)) (opens.first.read honest).1 (holds_same_set read b.sizes.slots e.found (members_of b.opened) same e.holds)
 
   -- so each text that might have been left before the open explains no calls, where each holds the set that was read
   pub same_set_explains : (ns : List Note) → IsTrue before.honest → (S : Keys) → Holds before.medium.seen b.sizes.slots S → (t : List ℕ) → Holds t b.sizes.slots S → ExplainsBegun b ns t
   same_set_explains ns honest S seen t holds =
       let e = first_explains in
-      let was = subst (λ r. Holds r b.sizes.slots S) (sym (opens.first.1 honest)) seen in
+      let was = subst (λ r. Holds r b.sizes.slots S) (sym (opens.first.read honest).1) seen in
       no_calls b ns t (record { found = e.found; holds = holds_same_set t b.sizes.slots S e.found (one_set read b.sizes.slots S e.found was e.holds) holds; calls = e.calls; fits = e.fits; lasts = e.lasts })

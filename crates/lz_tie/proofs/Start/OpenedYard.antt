@@ -11,7 +11,7 @@ use Rattle.lz_list.proofs.Tables.WordTable.{length-table}
 use Rattle.lz_machine.specs.Yards.{Yard, opened_yard, first_trace, idle_actor, slots_read}
 use Rattle.lz_machine.specs.Runs.{IsStart, opened_service}
 use Rattle.lz_machine.proofs.Frames.Limbo.{away_new}
-use Rattle.lz_machine.proofs.Alone.Room.{no_limbo_read}
+use Rattle.lz_machine.proofs.Open.FoundSlots.{no_limbo_read}
 use Rattle.lz_yard.specs.Filling.{OpensYard}
 use Rattle.lz_board.specs.declared.view.Sizes.{Sizes}
 use Rattle.lz_board.specs.declared.view.Note.{Note}
@@ -100,7 +100,7 @@ pub opened_locked : (b : BoardId) (ns : List Note) (before after : Device) (buck
     → b.sizes ≡ sizes_in y.words → b.opened ≡ opened_by y.words → ns ≡ [] → IsLocked b ns y after
 opened_locked b ns before after buckets passes y opens sizes opened none =
     let first = opens.first in
-    let words : sizes_in y.words ≡ sizes_of y.shape = opened_sizes y first.0 first.2 first.3 in
+    let words : sizes_in y.words ≡ sizes_of y.shape = opened_sizes y first.text first.starts first.yard in
     subst (λ (l : List Note). IsLocked b l y after) (sym none)
-    (first_locked y first.0 first.2 first.3 b after (sizes ∙ words) opened
-    (λ honest. let was = subst IsTrue opens.vault.honest honest in opens.vault.medium was ∙ ap (at_rest before.medium.bytewise) (sym (first.1 was))))
+    (first_locked y first.text first.starts first.yard b after (sizes ∙ words) opened
+    (λ honest. let was = subst IsTrue opens.vault.honest honest in let same = first.read was in opens.vault.medium was ∙ (λ i. at_rest (sym same.0 i) (sym same.1 i))))

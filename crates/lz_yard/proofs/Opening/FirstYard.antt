@@ -9,18 +9,18 @@ use Rattle.std.proofs.lemmas.Option.{slice_get-get_or}
 use Rattle.std.proofs.lemmas.Bool.{cases_eq, cases_Bool}
 use Rattle.std.proofs.lemmas.Bool.Decides.{nat_tests}
 use Rattle.lz_slot.specs.declared.slot.SlotRead.{SlotRead}
-use Rattle.lz_slot.specs.declared.slot.SlotRead.TheVariants.{Closed as Closed_read, Member as Member_read, BadKey as BadKey_read}
+use Rattle.lz_slot.specs.declared.slot.SlotRead.TheVariants.{Closed as Closed_read, Torn as Torn_read, Member as Member_read, BadKey as BadKey_read}
 use Rattle.lz_slot.specs.Limits.{most_slots_of, most_buckets, most_passes}
 use Rattle.lz_slot.specs.Rooms.{largest_of}
 use Rattle.lz_slot.specs.declared.format.Format.{Format}
 use Rattle.lz_slot.specs.Sets.{members}
 use Rattle.lz_slot.specs.Bytes.{Holds, format_of, open_byte, header_body, slot_at, held, held_key}
-use Rattle.lz_disk.specs.Images.{AreBytes}
-use Rattle.lz_vault.specs.declared.vault.Stage.TheVariants.{Closed}
-use Rattle.lz_vault.specs.Stages.{Cell, AreSteady}
+use Rattle.lz_disk.specs.Images.{AreBytes, at_rest}
+use Rattle.lz_vault.specs.declared.vault.Stage.TheVariants.{Open}
+use Rattle.lz_vault.specs.Stages.{Cell, AreSteady, Suits}
 use Rattle.lz_vault.specs.Vaults.{Vaulted}
 use Rattle.lz_disk.specs.Devices.{Device}
-use Rattle.lz_vault.specs.Opens.{IsCellOf, AreFound, AreBlank}
+use Rattle.lz_vault.specs.Opens.{IsCellOf, AreFound, AreTornIn, AreBlank, MayOpen}
 use Rattle.lz_allot.specs.Uses.{Use, Free, Taken}
 use Rattle.lz_allot.specs.Allots.{Allotted}
 use Rattle.lz_list.specs.Lists.{Listed}
@@ -30,7 +30,7 @@ use Rattle.lz_machine.specs.declared.actor.Actor.{Actor}
 use Rattle.lz_machine.specs.Yards.{cell_read, use_read, slots_read, opened_yard}
 use Rattle.lz_slot.specs.Nodes.{has_node}
 use Rattle.lz_vault.specs.Members.{member_in, member_at, no_cell}
-use Rattle.lz_yard.specs.Filling.{AreTables}
+use Rattle.lz_yard.specs.Filling.{AreTables, IsFirst}
 use Rattle.lz_machine.specs.Runs.{IsStart, keys_found}
 use Rattle.lz_machine.proofs.Open.Texts.{text_of, text_size, text_head, text_format, text_says, text_bytes}
 use Rattle.lz_list.proofs.Chains.ChainNode.{node_slot}
@@ -53,8 +53,11 @@ append_cases k s (f ∷ c) d there = elim (node_cases k s f (c ++ d) there) [
 ]
 
 -- what is said of a slot, and its cell
-cell_same : (r : SlotRead) (cell : Cell) → IsCellOf r cell → (cell.stage ≡ Closed → cell.key ≡ 0) → cell ≡ cell_read r
-cell_same r cell is blank = grind arith
+cell_same : (r : SlotRead) (cell : Cell) → IsCellOf r cell → (cell.stage ≢ Open → cell.key ≡ 0) → cell ≡ cell_read r
+cell_same Closed_read cell is blank = let key = blank (λ opened. absurd cc) in (λ i. record { stage = is i; key = key i })
+cell_same Torn_read cell is blank = let key = blank (λ opened. absurd cc) in (λ i. record { stage = is i; key = key i })
+cell_same (Member_read k) cell is blank = (λ i. record { stage = is.0 i; key = is.1 i })
+cell_same BadKey_read cell is blank = absurd is
 
 module _ (t : List ℕ) where
   read_at : (n i : ℕ) (d : SlotRead) → i < n → slice_index_or (slots_read t n) i d ≡ slot_at t i
@@ -130,6 +133,7 @@ module _ (t : List ℕ) where
         free : (r : SlotRead) → slot_at t i ≡ r → Free ≡ use_read r
         free (Member_read k) is = absurd (false≢true (sym has ∙ node_slot k i es (are.found.all k i low (is_member i k low is))))
         free Closed_read is = refl
+        free Torn_read is = refl
         free BadKey_read is = refl
 
     uses_are : allot.uses ≡ map use_read (slots_read t N)
@@ -160,14 +164,15 @@ module _ (vault : Vaulted) (B S : ℕ) (list : Listed) (allot : Allotted) (actor
   abbrev Begins : Bool → List ℕ → Type 0
   Begins b t = IsStart (record { bytewise = b; shape = record { slots = slots; buckets = B; passes = S }; text = t }) × (opened vault B S slots list allot actors are slots_is ≡ opened_yard (record { slots = slots; buckets = B; passes = S }) t)
 
-  begins : (b : Bool) (t : List ℕ) → AreBytes t → vault.format ≡ format_of t → length t ≡ 16 + 16 * length vault.cells → take 16 t ≡ open_byte ∷ header_body (format_of t) (length vault.cells)
+  begins : (b : Bool) (t : List ℕ) → AreBytes t → Suits (format_of t) (at_rest b t) → vault.format ≡ format_of t → length t ≡ 16 + 16 * length vault.cells → take 16 t ≡ open_byte ∷ header_body (format_of t) (length vault.cells)
       → ((i : ℕ) (cell : Cell) → slice_get vault.cells i ≡ Some cell → IsCellOf (slot_at t i) cell) → Begins b t
-  begins b t bytes named size head each = (
+  begins b t bytes suits named size head each = (
     record {
       buckets = some;
       passes = passes;
       bytes = bytes;
       text = subst (λ (n : ℕ). Holds t n (members (keys_found t n))) (sym slots_is) (holds_listed t (length vault.cells) count.0 few size head fine (no_key_twice t vault B S list allot actors are fresh named each blank));
+      suits = suits;
     },
     yard_is t vault B S list allot actors are fresh named each blank slots slots_is,
   )
@@ -183,19 +188,18 @@ module _ (vault : Vaulted) (B S : ℕ) (list : Listed) (allot : Allotted) (actor
           let mine : Cell = slice_index_or vault.cells i no_cell in
           bad_cell mine (slot_at t i) bad (each i mine (slice_get-get_or vault.cells i no_cell low))
 
-  module _ (before : Device) (keys : (i : ℕ) (cell : Cell) → slice_get vault.cells i ≡ Some cell → cell.key ≤ largest_of vault.format) (steady : AreSteady vault.cells)
-      (found : IsTrue before.honest → AreFound before.medium.seen vault.cells) (format : IsTrue before.honest → vault.format ≡ format_of before.medium.seen) (bytes : IsTrue before.honest → AreBytes before.medium.seen) where
-    pub first_yard : (t : List ℕ) × (IsTrue before.honest → t ≡ before.medium.seen) × IsStart (record { bytewise = before.medium.bytewise; shape = record { slots = slots; buckets = B; passes = S }; text = t })
-        × (opened vault B S slots list allot actors are slots_is ≡ opened_yard (record { slots = slots; buckets = B; passes = S }) t)
+  module _ (before : Device) (keys : (i : ℕ) (cell : Cell) → slice_get vault.cells i ≡ Some cell → cell.key ≤ largest_of vault.format) (steady : AreSteady vault.cells) (torn : AreTornIn vault.format vault.cells)
+      (found : IsTrue before.honest → AreFound before.medium.seen vault.cells) (format : IsTrue before.honest → vault.format ≡ format_of before.medium.seen) (suits : MayOpen before) (bytes : IsTrue before.honest → AreBytes before.medium.seen) where
+    pub first_yard : IsFirst before (opened vault B S slots list allot actors are slots_is)
     first_yard = elim (cases_Bool before.honest) [
       | inl honest ↦
           let told = found honest in
-          let is = begins before.medium.bytewise before.medium.seen (bytes honest) (format honest) told.held.size told.held.head told.each in
-          (before.medium.seen, (λ yes. refl), is.0, is.1)
+          let is = begins before.medium.bytewise before.medium.seen (bytes honest) (suits honest) (format honest) told.held.size told.held.head told.each in
+          record { bytewise = before.medium.bytewise; text = before.medium.seen; read = λ yes. (refl, refl); starts = is.0; yard = is.1 }
       | inr other ↦
           let names = text_format vault.format vault.cells in
-          let is = begins before.medium.bytewise (text_of vault.format vault.cells) (text_bytes vault.format vault.cells keys) (sym names) (text_size vault.format vault.cells)
-          (text_head vault.format vault.cells ∙ ap (λ (F : Format). open_byte ∷ header_body F (length vault.cells)) (sym names)) (text_says vault.format vault.cells keys steady)
+          let is = begins true (text_of vault.format vault.cells) (text_bytes vault.format vault.cells keys) (λ four. refl) (sym names) (text_size vault.format vault.cells)
+          (text_head vault.format vault.cells ∙ ap (λ (F : Format). open_byte ∷ header_body F (length vault.cells)) (sym names)) (text_says vault.format vault.cells keys steady torn)
           in
-          (text_of vault.format vault.cells, (λ yes. absurd (false≢true (sym other ∙ yes))), is.0, is.1)
+          record { bytewise = true; text = text_of vault.format vault.cells; read = λ yes. absurd (false≢true (sym other ∙ yes)); starts = is.0; yard = is.1 }
     ]

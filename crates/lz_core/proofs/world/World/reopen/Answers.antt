@@ -1,8 +1,15 @@
 use Rattle.std.proofs.Common.{◌∙◌, subst, sym}
+use Rattle.lz_disk.specs.Records.{Past, device_of}
+use Rattle.lz_vault.specs.Opens.{MayOpen}
 use Rattle.lz_judge.specs.MarkLines.{AscendFrom}
-use Rattle.lz_core.proofs.Opens.OpenedWorld.{reopened_world, reopened_on}
+use Rattle.lz_core.proofs.Opens.OpenedWorld.{may_reopen, reopened_world, reopened_on}
 use Rattle.lz_core.proofs.Opens.RefusedOpen.{refused_world, told_fault, told_none}
 use Rattle.lz_core.proofs.world.World.reopen.Goals as goal
+
+pub open_again-requires-clause-disk : goal.open_again-requires-clause-disk
+open_again-requires-clause-disk c =
+    subst (λ (d : Past). MayOpen (device_of d)) (sym c.armed.ensures)
+    (may_reopen _ c.self.inside.yard c.self.inside.disk c.self.inside.callers.items c.self.inside.calls c.in-Some.disk (sym c.take.ensures.value ∙ c.in-Some.is) c.self.invariant c.self.inside.tripped)
 
 pub invariant_of-self-in-Ok-open_again : goal.invariant_of-self-in-Ok-open_again
 invariant_of-self-in-Ok-open_again c =

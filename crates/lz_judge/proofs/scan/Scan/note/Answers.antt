@@ -1,19 +1,22 @@
-use Rattle.std.proofs.Common.{◌≡◌, ◌∙◌, refl, sym}
+use Rattle.std.proofs.Common.{◌∙◌, ⊎_elim, refl, sym, ap, subst}
 use Rattle.lz_slot.specs.declared.slot.SlotRead.TheVariants as read
-use Rattle.lz_judge.proofs.Surveys.SlotFinding.{scanned_closed, scanned_more}
+use Rattle.lz_judge.specs.Surveys.{open_slot}
+use Rattle.lz_judge.proofs.Surveys.SlotFinding.{IsOpened, scanned_closed, scanned_more}
 use Rattle.lz_judge.proofs.scan.Scan.note.Goals as goal
 
 pub returns-in-Closed : goal.returns-in-Closed
-returns-in-Closed c = λ says is before. scanned_closed says c.args.slot _ (is ∙ c.in-Closed.is) before
+returns-in-Closed c = λ says is before.
+    let none = ⊎_elim (λ shut. ap (λ r. open_slot r c.args.slot) (is ∙ shut)) (λ torn. ap (λ r. open_slot r c.args.slot) (is ∙ torn)) c.in-Closed.is in
+    scanned_closed says c.args.slot _ none before
 
 pub returns-in-BadKey : goal.returns-in-BadKey
 returns-in-BadKey c = λ says is before.
     let here = is ∙ c.in-BadKey.is in
-    scanned_more says c.args.slot c.args.self.now c.add.new.self _ c.add.result (λ shut. let e : read.BadKey ≡ read.Closed = sym here ∙ shut in cc) refl here c.add.ensures.findings c.add.ensures.table before
+    scanned_more says c.args.slot c.args.self.now c.add.new.self _ c.add.result (subst IsOpened (sym here) tt) refl here c.add.ensures.findings c.add.ensures.table before
 
 pub returns-in-Member : goal.returns-in-Member
 returns-in-Member c = λ says is before.
     let here = is ∙ c.in-Member.is in
     let told = c.found.ensures says here before in
-    scanned_more says c.args.slot c.args.self.now c.add-in-Member.new.self _ c.add-in-Member.result (λ shut. let e : read.Member c.in-Member.key ≡ read.Closed = sym here ∙ shut in cc)
+    scanned_more says c.args.slot c.args.self.now c.add-in-Member.new.self _ c.add-in-Member.result (subst IsOpened (sym here) tt)
     told.1 told.0 c.add-in-Member.ensures.findings c.add-in-Member.ensures.table before

@@ -11,7 +11,7 @@ use Rattle.lz_set.proofs.set.Set+D+G+Brand.open.Goals as goal
 pub new-requires-clause-opened : goal.new-requires-clause-opened
 new-requires-clause-opened g c =
     let first = c.in_ok-yard.ensures.ok.first in
-    subst AreOpened (sym c.words.ensures) (words_opened c.in_ok-yard.yard.yard first.0 first.2 first.3)
+    subst AreOpened (sym c.words.ensures) (words_opened c.in_ok-yard.yard.yard first.text first.starts first.yard)
 
 pub invariant_of-result : goal.invariant_of-result
 invariant_of-result g c =

@@ -18,5 +18,5 @@ returns-in-Ok-clause-ok g c =
       buckets = refl;
       passes = refl;
       first = first_yard _ _ _ _ _ _ c.in-Ok.ensures opens.fresh opens.blank c.requires.buckets c.requires.passes (rw count at c.slots.ensures.range) _ count (g.D.Disk.device c.args.disk)
-          c.slots.ensures.kept.keys opens.steady opens.found opens.format (λ honest. subst AreBytes (bytes honest) (opens.kept honest).sound.seen.bytes);
+          c.slots.ensures.kept.keys opens.steady opens.torn opens.found opens.format c.requires.disk (λ honest. subst AreBytes (bytes honest) (opens.kept honest).sound.seen.bytes);
     }
