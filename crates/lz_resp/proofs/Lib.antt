@@ -5,5 +5,6 @@ pub mod KeyRows
 pub mod LongerTexts
 pub mod QueryRows
 pub mod Rows
+pub mod ScanRows
 pub mod Spellings
 pub mod Texts

@@ -11,13 +11,14 @@ use Rattle.lz_resp.specs.Pieces.{AnyPieces, Feeds, FeedsAll, Items, OneListOfIte
 use Rattle.lz_resp.specs.declared.fault.Fault.{Fault}
 use Rattle.lz_resp.specs.declared.naming.Selected.{Selected}
 use Rattle.lz_resp.specs.declared.item.Item.{Item}
-use Rattle.lz_resp.specs.declared.item.Item.TheVariants.{Asks, Says, Tells, Ends}
+use Rattle.lz_resp.specs.declared.item.Item.TheVariants.{Asks, Says, Lists, Tells, Ends}
 use Rattle.lz_resp.proofs.LongerTexts.{first_fault, first_value, short_waits}
 
 by_goes : (item : Item) (selected : Selected) (after more : List ℕ) (items : List Item) (next : Selected) (rest : List ℕ) → step_by item selected after ≡ goes items next rest
     → (step_by item selected (after ++ more) ≡ goes items next (rest ++ more)) × (after ≡ rest)
 by_goes (Asks form requests) selected after more items next rest h = let same : after ≡ rest = cc in (cc (ap (λ (t : List ℕ). t ++ more) same), same)
 by_goes (Says text) selected after more items next rest h = let same : after ≡ rest = cc in (cc (ap (λ (t : List ℕ). t ++ more) same), same)
+by_goes (Lists scan) selected after more items next rest h = let same : after ≡ rest = cc in (cc (ap (λ (t : List ℕ). t ++ more) same), same)
 by_goes (Tells query) selected after more items next rest h = let same : after ≡ rest = cc in (cc (ap (λ (t : List ℕ). t ++ more) same), same)
 by_goes (Ends text) selected after more items next rest h = absurd (cc)
 
@@ -29,6 +30,7 @@ with_goes selected (word ∷ words) after more items next rest h = by_goes (item
 by_stops : (item : Item) (selected : Selected) (after more : List ℕ) (items : List Item) → step_by item selected after ≡ stops items → step_by item selected (after ++ more) ≡ stops items
 by_stops (Asks form requests) selected after more items h = absurd (cc)
 by_stops (Says text) selected after more items h = absurd (cc)
+by_stops (Lists scan) selected after more items h = absurd (cc)
 by_stops (Tells query) selected after more items h = absurd (cc)
 by_stops (Ends text) selected after more items h = h
 
@@ -179,6 +181,7 @@ any_pieces naming pieces items new fed =
 by_waits : (item : Item) (selected : Selected) (rest : List ℕ) → step_by item selected rest ≡ waits → ⊥
 by_waits (Asks form requests) selected rest h = absurd (cc)
 by_waits (Says text) selected rest h = absurd (cc)
+by_waits (Lists scan) selected rest h = absurd (cc)
 by_waits (Tells query) selected rest h = absurd (cc)
 by_waits (Ends text) selected rest h = absurd (cc)
 

@@ -1,16 +1,17 @@
 -- What frames ask for.
-use Rattle.std.specs.Prelude.{ℕ, ◌-◌, ◌+◌, ◌==◌, ◌&&◌, ◌||◌, nat_lt, Bool, if◌then◌else◌, List, [], ◌∷◌, ◌++◌, length, take, drop, codes, map, is_some, Option, None, Some, option_map, option_and_then, slice_index_or, unwrap_or}
+use Rattle.std.specs.Prelude.{ℕ, ◌-◌, ◌+◌, ◌==◌, ◌&&◌, ◌||◌, min, nat_lt, Bool, if◌then◌else◌, List, [], ◌∷◌, ◌++◌, length, take, drop, codes, map, is_some, Option, None, Some, option_map, option_and_then, slice_index_or, unwrap_or}
 use Rattle.std.specs.Char.{to_ascii_uppercase}
+use Rattle.lz_slot.specs.Limits.{most_slots}
 use Rattle.lz_slot.specs.Numerals.{largest_read, number_in}
 use Rattle.lz_proto.specs.declared.request.Request.{Request}
 use Rattle.lz_proto.specs.declared.request.Request.TheVariants.{Add, Remove, Has}
-use Rattle.lz_resp.specs.Limits.{most_value}
+use Rattle.lz_resp.specs.Limits.{few_listed, most_listed, most_value}
 use Rattle.lz_proto.specs.Lines.{carriage_return, line_feed}
 use Rattle.lz_resp.specs.Frames.{bulk, line_end}
 use Rattle.lz_resp.specs.Keys.{Subset, key_of, of_name, room_of, unnamed}
 use Rattle.lz_resp.specs.Names.{command_of, is_word, name_of, sections_of, subcommand_of, subname_of, subtakes, takes}
 use Rattle.lz_resp.specs.declared.command.Command.{Command}
-use Rattle.lz_resp.specs.declared.command.Command.TheVariants.{Sadd, Srem, Sismember, Smismember, Exists, Del, Unlink, Setnx, Set, Select, Ping, Echo, Quit, Reset, Hello, Client, Catalog, Config, Dbsize, Info as AskInfo, Shutdown}
+use Rattle.lz_resp.specs.declared.command.Command.TheVariants.{Sadd, Srem, Sismember, Smismember, Sscan, Exists, Del, Unlink, Setnx, Set, Select, Ping, Echo, Quit, Reset, Hello, Client, Catalog, Config, Dbsize, Info as AskInfo, Shutdown}
 use Rattle.lz_resp.specs.declared.subcommand.Subcommand.{Subcommand}
 use Rattle.lz_resp.specs.declared.subcommand.Subcommand.TheVariants.{Getname, Setname, Setinfo, NoEvict, NoTouch, Count, Docs, Info, Get}
 use Rattle.lz_resp.specs.declared.form.Form.{Form}
@@ -21,7 +22,7 @@ use Rattle.lz_resp.specs.declared.query.Query.TheVariants as query
 use Rattle.lz_resp.specs.declared.query.Sections.{Sections}
 use Rattle.lz_resp.specs.declared.query.Sections.TheVariants.{All}
 use Rattle.lz_resp.specs.declared.item.Item.{Item}
-use Rattle.lz_resp.specs.declared.item.Item.TheVariants.{Asks, Says, Tells, Ends}
+use Rattle.lz_resp.specs.declared.item.Item.TheVariants.{Asks, Says, Lists, Tells, Ends}
 
 abbrev pub word : List (List ℕ) → ℕ → List ℕ
 word words index = slice_index_or words index []
@@ -52,6 +53,12 @@ no_room = error (codes "DB index is out of range")
 
 abbrev pub bad_syntax : List ℕ
 bad_syntax = error (codes "syntax error")
+
+abbrev pub bad_cursor : List ℕ
+bad_cursor = error (codes "invalid cursor")
+
+abbrev pub no_texts : List ℕ
+no_texts = error (codes "texts are not kept, and none can be listed")
 
 abbrev pub long_value : List ℕ
 long_value = error (codes "values are not kept, and may have 64 bytes")
@@ -143,7 +150,7 @@ subtext_of Setname = ok_text
 subtext_of Setinfo = ok_text
 subtext_of NoEvict = ok_text
 subtext_of NoTouch = ok_text
-subtext_of Count = codes ":21\r\n"
+subtext_of Count = codes ":22\r\n"
 subtext_of Docs = no_words_text
 subtext_of Info = no_words_text
 subtext_of Get = no_words_text
@@ -168,12 +175,34 @@ is_saving word = is_word (codes "nosave") word || is_word (codes "save") word
 abbrev pub may_shut_down : List (List ℕ) → Bool
 may_shut_down words = (length words == 1) || ((length words == 2) && is_saving (word words 1))
 
+-- a page of a room from a slot on, with so many keys at most
+abbrev pub page_of : ℕ → ℕ → Option ℕ → Item
+page_of room from None = Says no_key
+page_of room from (Some most) = if most == 0 then Says bad_syntax else Lists (record { room = room; from = from; most = min most most_listed })
+
+-- the same, as many as the frame asks for, if it does
+abbrev pub page_from : ℕ → Option ℕ → List (List ℕ) → Item
+page_from room None words = Says bad_cursor
+page_from room (Some from) words =
+    if length words == 3 then page_of room from (Some few_listed)
+    else (if (length words == 5) && is_word (codes "count") (word words 3) then page_of room from (number_in 0 largest_read (word words 4)) else Says bad_syntax)
+
+abbrev pub page_in : Option ℕ → List (List ℕ) → Item
+page_in None words = Says no_room
+page_in (Some room) words = page_from room (number_in 0 most_slots (word words 2)) words
+
+-- what is asked of a room's members, one page after the other; a cursor is a slot
+abbrev pub scan_of : Selected → List (List ℕ) → Item
+scan_of (Room n) words = page_in (room_of (word words 1)) words
+scan_of Nameless words = Says no_texts
+
 -- what a frame that the command takes comes to, where this is selected
 abbrev pub item_by : Command → Selected → List (List ℕ) → Item
 item_by Sadd selected words = in_named Added selected words
 item_by Srem selected words = in_named Removed selected words
 item_by Sismember selected words = in_named Found selected words
 item_by Smismember selected words = in_named Each selected words
+item_by Sscan selected words = scan_of selected words
 item_by Exists selected words = in_unnamed Found selected (drop 1 words)
 item_by Del selected words = in_unnamed Removed selected (drop 1 words)
 item_by Unlink selected words = in_unnamed Removed selected (drop 1 words)

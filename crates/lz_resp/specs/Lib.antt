@@ -7,4 +7,5 @@ pub mod Pieces
 pub mod Queries
 pub mod Reading
 pub mod Replies
+pub mod Scans
 pub mod Requests

@@ -13,6 +13,13 @@ most_words = 1024
 abbrev pub most_frame : ℕ
 most_frame = 65536
 
+-- how many keys a page has at most, as far as a frame says and where it says nothing
+abbrev pub most_listed : ℕ
+most_listed = 1024
+
+abbrev pub few_listed : ℕ
+few_listed = 10
+
 -- the most bytes of a value, which isn't kept
 abbrev pub most_value : ℕ
 most_value = 64

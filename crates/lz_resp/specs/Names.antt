@@ -3,7 +3,7 @@ use Rattle.std.specs.Prelude.{ℕ, ◌==◌, ◌||◌, Bool, true, nat_eq, nat_l
 use Rattle.std.specs.Char.{to_ascii_lowercase}
 use Rattle.std.specs.Cmp.Lexicographic.{pointwise}
 use Rattle.lz_resp.specs.declared.command.Command.{Command}
-use Rattle.lz_resp.specs.declared.command.Command.TheVariants.{Sadd, Srem, Sismember, Smismember, Exists, Del, Unlink, Setnx, Set, Select, Ping, Echo, Quit, Reset, Hello, Client, Catalog, Config, Dbsize, Info as AskInfo, Shutdown}
+use Rattle.lz_resp.specs.declared.command.Command.TheVariants.{Sadd, Srem, Sismember, Smismember, Sscan, Exists, Del, Unlink, Setnx, Set, Select, Ping, Echo, Quit, Reset, Hello, Client, Catalog, Config, Dbsize, Info as AskInfo, Shutdown}
 use Rattle.lz_resp.specs.declared.query.Sections.{Sections}
 use Rattle.lz_resp.specs.declared.query.Sections.TheVariants as sections
 use Rattle.lz_resp.specs.declared.subcommand.Subcommand.{Subcommand}
@@ -14,6 +14,7 @@ name_of Sadd = codes "sadd"
 name_of Srem = codes "srem"
 name_of Sismember = codes "sismember"
 name_of Smismember = codes "smismember"
+name_of Sscan = codes "sscan"
 name_of Exists = codes "exists"
 name_of Del = codes "del"
 name_of Unlink = codes "unlink"
@@ -34,7 +35,7 @@ name_of Shutdown = codes "shutdown"
 
 abbrev pub all_commands : List Command
 all_commands =
-    Sadd ∷ Srem ∷ Sismember ∷ Smismember ∷ Exists ∷ Del ∷ Unlink ∷ Setnx ∷ Set ∷ Select ∷ Ping ∷ Echo ∷ Quit ∷ Reset ∷ Hello ∷ Client ∷ Catalog ∷ Config ∷ Dbsize ∷ AskInfo ∷ Shutdown ∷ []
+    Sadd ∷ Srem ∷ Sismember ∷ Smismember ∷ Sscan ∷ Exists ∷ Del ∷ Unlink ∷ Setnx ∷ Set ∷ Select ∷ Ping ∷ Echo ∷ Quit ∷ Reset ∷ Hello ∷ Client ∷ Catalog ∷ Config ∷ Dbsize ∷ AskInfo ∷ Shutdown ∷ []
 
 -- the command takes a frame of so many words
 abbrev pub takes : Command → ℕ → Bool
@@ -42,6 +43,7 @@ takes Sadd n = nat_le 3 n
 takes Srem n = nat_le 3 n
 takes Sismember n = n == 3
 takes Smismember n = nat_le 3 n
+takes Sscan n = nat_le 3 n
 takes Exists n = nat_le 2 n
 takes Del n = nat_le 2 n
 takes Unlink n = nat_le 2 n

@@ -10,7 +10,7 @@ use Rattle.lz_resp.specs.Replies.{fault_text}
 use Rattle.lz_resp.specs.declared.naming.Naming.{Naming}
 use Rattle.lz_resp.specs.declared.naming.Selected.{Selected}
 use Rattle.lz_resp.specs.declared.item.Item.{Item}
-use Rattle.lz_resp.specs.declared.item.Item.TheVariants.{Asks, Says, Tells, Ends}
+use Rattle.lz_resp.specs.declared.item.Item.TheVariants.{Asks, Says, Lists, Tells, Ends}
 use Rattle.lz_resp.specs.declared.fault.Fault.{Fault}
 use Rattle.lz_resp.specs.declared.frames.Next.{Next}
 use Rattle.lz_resp.specs.declared.frames.Next.TheVariants.{Waits, Goes, Stops}
@@ -25,6 +25,7 @@ pub data Step : Type 0 where
 abbrev pub step_by : Item → Selected → List ℕ → Step
 step_by (Asks form requests) selected rest = goes (Asks form requests ∷ []) selected rest
 step_by (Says text) selected rest = goes (Says text ∷ []) selected rest
+step_by (Lists scan) selected rest = goes (Lists scan ∷ []) selected rest
 step_by (Tells query) selected rest = goes (Tells query ∷ []) selected rest
 step_by (Ends text) selected rest = stops (Ends text ∷ [])
 

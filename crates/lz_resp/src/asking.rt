@@ -13,6 +13,7 @@ use crate::item::{Item, Requests};
 use crate::limits::MOST_VALUE;
 use crate::naming::{Selected, room_of};
 use crate::query::{Query, Sections};
+use crate::scanning::scan;
 use crate::subset::Subset;
 use crate::text::{Text, bulk, error};
 use crate::words::{after, word};
@@ -60,6 +61,7 @@ fn item_by(
         Command::Srem => in_named(alloc, Form::Removed, selected, words),
         Command::Sismember => in_named(alloc, Form::Found, selected, words),
         Command::Smismember => in_named(alloc, Form::Each, selected, words),
+        Command::Sscan => scan(alloc, selected, words),
         Command::Exists => in_unnamed(alloc, Form::Found, selected, after(words, 1)),
         Command::Del | Command::Unlink => in_unnamed(
             alloc,

@@ -9,6 +9,7 @@ pub(crate) enum Command {
     Srem,
     Sismember,
     Smismember,
+    Sscan,
     Exists,
     Del,
     Unlink,
@@ -37,6 +38,7 @@ impl Command {
             Command::Srem => "srem",
             Command::Sismember => "sismember",
             Command::Smismember => "smismember",
+            Command::Sscan => "sscan",
             Command::Exists => "exists",
             Command::Del => "del",
             Command::Unlink => "unlink",
@@ -63,6 +65,7 @@ impl Command {
     {
         match self {
             Command::Sadd | Command::Srem | Command::Smismember | Command::Set => 3 <= count,
+            Command::Sscan => 3 <= count,
             Command::Exists | Command::Del | Command::Unlink => 2 <= count,
             Command::Client | Command::Config => 2 <= count,
             Command::Sismember | Command::Setnx => count == 3,
@@ -89,6 +92,9 @@ pub(crate) fn command_of(word: &[u8]) -> Option<Command>
     }
     if is_word(b"smismember", word) {
         return Some(Command::Smismember);
+    }
+    if is_word(b"sscan", word) {
+        return Some(Command::Sscan);
     }
     if is_word(b"exists", word) {
         return Some(Command::Exists);

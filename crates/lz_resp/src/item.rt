@@ -3,6 +3,7 @@ ghost use Rattle.std.specs.Prelude.{◌≡◌, ◌≢◌, [], ◌∷◌, All};
 
 use crate::form::Form;
 use crate::query::Query;
+use crate::scan::Scan;
 use crate::text::Text;
 use lz_proto::Request;
 use std::marker::Model;
@@ -71,6 +72,8 @@ pub enum Item {
     Asks(Form, Requests),
     /// A reply, and nothing is asked.
     Says(Text),
+    /// A page of a room's members is asked for.
+    Lists(Scan),
     /// What the service is asked of itself.
     Tells(Query),
     /// The last reply: nothing is read after it.

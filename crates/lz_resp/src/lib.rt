@@ -1,7 +1,8 @@
 //! The frames and replies of Redis's protocol, RESP2.
 //!
 //! `Frames` cuts a text that comes in pieces into frames, and gives what each asks for; `push_reply` tells the reply to it, by
-//! the replies to its requests, and `Query::text` that to what is asked of the service itself. Each is exact: it gives what the definitions under `specs/` say.
+//! the replies to its requests, `Scan::text` that to a page that was asked for, and `Query::text` that to what is asked of the service
+//! itself. Each is exact: it gives what the definitions under `specs/` say.
 #![tactic(auto)]
 
 mod asking;
@@ -20,6 +21,8 @@ mod naming;
 mod query;
 mod reading;
 mod reply;
+mod scan;
+mod scanning;
 mod subcommand;
 mod subset;
 mod text;
@@ -30,8 +33,9 @@ pub use figures::Figures;
 pub use form::Form;
 pub use frames::Frames;
 pub use item::{Item, Requests};
-pub use limits::{MOST_FRAME, MOST_VALUE, MOST_WORD, MOST_WORDS};
+pub use limits::{MOST_FRAME, MOST_LISTED, MOST_VALUE, MOST_WORD, MOST_WORDS};
 pub use naming::Naming;
 pub use query::{Query, Sections};
 pub use reply::{has_halted, push_reply};
+pub use scan::Scan;
 pub use text::Text;

@@ -9,5 +9,10 @@ pub const MOST_WORDS: usize = 1_024;
 /// The most bytes of a frame.
 pub const MOST_FRAME: usize = 65_536;
 
+/// How many keys a page has at most, as far as a frame says and where it says nothing.
+pub const MOST_LISTED: u64 = 1_024;
+
+pub(crate) const FEW_LISTED: u64 = 10;
+
 /// The most bytes of a value, which isn't kept.
 pub const MOST_VALUE: usize = 64;

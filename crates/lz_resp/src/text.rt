@@ -55,12 +55,20 @@ pub(crate) fn push_number(text: &mut Vec<u8>, number: usize) -> Result<(), Alloc
 pub(crate) fn bulk(alloc: Global, word: &[u8]) -> Result<Text, AllocError>
     ensures { IfOk result (λ text. text ≡ bulk word.now) }
 {
-    let mut text = Vec::from_slice(alloc, b"$")?;
-    push_number(&mut text, word.len())?;
+    let mut text = Vec::new(alloc);
+    push_bulk(&mut text, word)?;
+    Ok(Text::new(text))
+}
+
+/// Puts a word as a bulk string after a text.
+pub(crate) fn push_bulk(text: &mut Vec<u8>, word: &[u8]) -> Result<(), AllocError>
+    ensures { OnOk result (text.new.items ≡ text.old.items ++ bulk word.now) }
+{
+    text.extend_from_slice(b"$")?;
+    push_number(text, word.len())?;
     text.extend_from_slice(b"\r\n")?;
     text.extend_from_slice(word)?;
-    text.extend_from_slice(b"\r\n")?;
-    Ok(Text::new(text))
+    text.extend_from_slice(b"\r\n")
 }
 
 /// A byte of a word that stands in an error: no line ends in it.

@@ -1,5 +1,5 @@
 -- A pass of a loop that answers a request: how its call is played on, and its reply.
-use Rattle.std.proofs.Common.{◌≡◌, ◌+◌, ℕ, true, List, [], Result, Bool, Option, Some, None, refl, sym, subst}
+use Rattle.std.proofs.Common.{◌≡◌, ◌+◌, ℕ, true, List, Result, Bool, Option, Some, None, refl, sym, subst}
 use Rattle.lz_slot.specs.declared.command.Command.{Command}
 use Rattle.lz_slot.specs.declared.format.Format.{Format}
 use Rattle.lz_machine.specs.Orders.{Calling}

@@ -16,14 +16,14 @@ use Rattle.lz_serve.specs.Queues.{queued}
 use Rattle.lz_serve.proofs.LinesUnderWay.{noted_heard}
 
 -- a client of connection 1 whose first line, for key 5, was put to this pass, and the question of such a line
-abbrev asks : Pass → Trace → Asker
-asks put seen = record { connection = 1; lines = 1; told = 0; under = awaited (Add 5) ∷ []; puts = put ∷ []; seen = seen; waiting = []; ended = Done; lost = false }
+abbrev pub asks : Pass → Trace → Asker
+asks put seen = record { connection = 1; lines = 1; told = 0; under = awaited (Add 5) ∷ []; puts = put ∷ []; seen = seen; turns = []; waiting = []; ended = Done; lost = false }
 
-abbrev posed : ℕ → Pass → Posed
+abbrev pub posed : ℕ → Pass → Posed
 posed connection put = record { connection = connection; line = 1; request = Add 5; before = put; earlier = false }
 
 -- its question is its own, and one of another connection may be
-its_own : (p : Pass) → IsOwn (asks p []) (posed 1 p)
+pub its_own : (p : Pass) → IsOwn (asks p []) (posed 1 p)
 its_own p same = (lit≤ tt, λ under. refl)
 
 not_its : (p q : Pass) → IsOwn (asks p []) (posed 2 q)
@@ -34,10 +34,10 @@ heard : (p : Pass) → IsHeard (record (asks p []) { under = replied (Add 5) Yes
 heard p same stands = noted_heard (awaited (Add 5) ∷ []) 0 (Add 5) (Add 5) Yes stands.1
 
 -- where its next line is for another key, it has a line for a pass
-abbrev asks_on : Pass → Request → Asker
+abbrev pub asks_on : Pass → Request → Asker
 asks_on p request = record (asks p []) { waiting = request ∷ [] }
 
-has_line : (p : Pass) → HasLine (asks_on p (Has 6))
+pub has_line : (p : Pass) → HasLine (asks_on p (Has 6))
 has_line p = record {
   there = refl;
   goes = refl;
@@ -65,7 +65,7 @@ same_key p line =
     All-head (λ (l : Line). l.reply ≡ None → key_asked l.request ≢ key_asked line.request) (awaited (Add 5)) [] line.free refl (ap key_asked next)
 
 -- the second has its turn, though the first has a line
-abbrev two : Pass → List ℕ → Askers
+abbrev pub two : Pass → List ℕ → Askers
 two p queue = record { admitted = 2; clients = Some (asks_on p (Has 6)) ∷ None ∷ []; queue = queue }
 
 before_the_first : (p : Pass) (passed rest : List ℕ) → 0 ∷ 1 ∷ [] ≡ passed ++ 1 ∷ rest → All (HasNoneAt (two p [])) passed → ⊥

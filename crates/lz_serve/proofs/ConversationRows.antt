@@ -1,4 +1,5 @@
 -- Worked conversations.
+use Rattle.std.specs.Prelude.{⊤}
 use Rattle.std.proofs.Common.{◌≡◌, ◌≢◌, inl, inr, ℕ, List, [], ◌∷◌, ◌++◌, ◌+◌, suc, length, Option, Some, None, false, refl, sym, ap, subst, ◌∙◌, arith, codes, length-append}
 use Rattle.std.proofs.lemmas.List.{append-nil, nil_from_length}
 use Rattle.std.proofs.lemmas.List.Elements.{All-cons, All-nil}
@@ -21,6 +22,7 @@ use Rattle.lz_board.specs.declared.pass.Pass.{Pass}
 use Rattle.lz_serve.specs.declared.line.Line.{Line}
 use Rattle.lz_serve.specs.Grants.{Grant, IsOfLine, key_asked}
 use Rattle.lz_serve.specs.Lines.{IsFree, awaited}
+use Rattle.lz_serve.specs.Listings.{Listing}
 use Rattle.lz_resp.specs.declared.form.Form.TheVariants.{Added}
 use Rattle.lz_resp.specs.declared.naming.Naming.{Naming}
 use Rattle.lz_serve.specs.declared.language.Language.TheVariants.{Lines, Frames}
@@ -33,6 +35,10 @@ use Rattle.lz_serve.specs.Exchanges as exchange
 use Rattle.lz_serve.specs.Conversations.{AreTold, IsAt, IsTold, Rests, Talk, more, nothing as none_told}
 use Rattle.lz_serve.specs.LineSessions.{IsGranted, IsSession}
 use Rattle.lz_serve.proofs.LineSessions.{lines_are_sessions}
+
+-- whatever is so of pages
+abbrev pub any : Listing → Type 0
+any l = ⊤
 
 -- a request and a fault
 abbrev pub lines : List ℕ
@@ -81,17 +87,17 @@ came : CameFrom Lines lines (first ∷ second ∷ []) (Some (reader.Lines (Some 
 came = (refl, (items, lines_read, refl))
 
 -- the lines came, and nothing was told
-has_come : IsAt 1 [] lines [] (stands its_turns (Add 1 ∷ []) 0 [] ends.Done)
+has_come : IsAt any 1 [] lines [] (stands its_turns (Add 1 ∷ []) 0 [] ends.Done)
 has_come = record { done = []; left = first ∷ second ∷ []; came = came; turns = refl; asked = refl; told = none_told 1; counted = refl }
 
 -- the request is asked
-is_asked : IsAt 1 [] lines [] (record (stands its_turns [] 0 [] ends.Done) { under = awaited (Add 1) ∷ [] })
+is_asked : IsAt any 1 [] lines [] (record (stands its_turns [] 0 [] ends.Done) { under = awaited (Add 1) ∷ [] })
 is_asked = record { done = []; left = first ∷ second ∷ []; came = came; turns = refl; asked = refl; told = none_told 1; counted = refl }
 
-first_told : (p : Pass) → AreTold 1 (first ∷ []) (gets p Yes) (codes "yes\n") ends.Done
+first_told : (p : Pass) → AreTold any 1 (first ∷ []) (gets p Yes) (codes "yes\n") ends.Done
 first_told p = more 1 [] [] [] first (gets p Yes) (codes "yes\n") ends.Done (none_told 1) ((of_first p, tt), refl, refl)
 
-both_told : (p : Pass) → AreTold 1 (first ∷ second ∷ []) (gets p Yes) (codes "yes\nbad 3\n") ends.Done
+both_told : (p : Pass) → AreTold any 1 (first ∷ second ∷ []) (gets p Yes) (codes "yes\nbad 3\n") ends.Done
 both_told p = more 1 (first ∷ []) (gets p Yes) (codes "yes\n") second [] (codes "bad 3\n") ends.Done (first_told p) (refl, refl, refl)
 
 abbrev awaits_one : List Line
@@ -110,30 +116,30 @@ rests_not (inr (inr (inl (request, held)))) = let same : Has 2 ≡ request = cc 
 rests_not (inr (inr (inr all))) = absurd (omega (arith, all))
 
 -- its reply is to be sent
-is_replied : (p : Pass) → IsAt 1 (gets p Yes) lines [] (stands (says (codes "bad 3\n") ∷ []) [] 1 (codes "yes\n") ends.Done)
+is_replied : (p : Pass) → IsAt any 1 (gets p Yes) lines [] (stands (says (codes "bad 3\n") ∷ []) [] 1 (codes "yes\n") ends.Done)
 is_replied p = record { done = first ∷ []; left = second ∷ []; came = came; turns = refl; asked = refl; told = first_told p; counted = refl }
 
 -- the fault was told too, and a part of both texts was sent
-is_half_sent : (p : Pass) → IsAt 1 (gets p Yes) lines (codes "yes\nba") (stands [] [] 1 (codes "d 3\n") ends.Done)
+is_half_sent : (p : Pass) → IsAt any 1 (gets p Yes) lines (codes "yes\nba") (stands [] [] 1 (codes "d 3\n") ends.Done)
 is_half_sent p = record { done = first ∷ second ∷ []; left = []; came = came; turns = refl; asked = refl; told = both_told p; counted = refl }
 
 -- a frame with two members is told by two grants, and one text
-two_members : (p : Pass) → IsTold 1 0 (exchange.asks (wording.Frame Added) (Add 1 ∷ Add 1 ∷ [])) (get p Yes ∷ late p No ∷ []) (codes ":1\r\n") ends.Done
+two_members : (p : Pass) → IsTold any 1 [] (exchange.asks (wording.Frame Added) (Add 1 ∷ Add 1 ∷ [])) (get p Yes ∷ late p No ∷ []) (codes ":1\r\n") ends.Done
 unfolding digits
 two_members p = ((of_first p, (record { of_connection = refl; of_number = refl; of_request = refl; of_reply = refl }, tt)), refl, refl)
 
 -- What must not hold.
 
 -- a frame with two members that one grant tells
-not_two_members : (p : Pass) (said : List ℕ) (ended : End) → IsTold 1 0 (exchange.asks (wording.Frame Added) (Add 1 ∷ Add 1 ∷ [])) (gets p Yes) said ended → ⊥
+not_two_members : (p : Pass) (said : List ℕ) (ended : End) → IsTold any 1 [] (exchange.asks (wording.Frame Added) (Add 1 ∷ Add 1 ∷ [])) (gets p Yes) said ended → ⊥
 not_two_members p said ended told = told.0.1
 
 -- lines that are read as frames
 not_as_frames : (naming : Naming) (text : List ℕ) (exchanges : List Exchange) → CameFrom (Frames naming) text exchanges (Some (reader.Lines (Some []))) → ⊥
 not_as_frames naming text exchanges came = let apart = came.0 in cc
 
-session : (grants : List Grant) (text : List ℕ) (t : Talk) → t.spoken ≡ Lines → IsAt 1 grants text [] t → IsSession 1 grants text [] t
-session grants text t spoken at = lines_are_sessions 1 grants text [] t spoken at
+session : (grants : List Grant) (text : List ℕ) (t : Talk) → t.spoken ≡ Lines → IsAt any 1 grants text [] t → IsSession 1 grants text [] t
+session grants text t spoken at = lines_are_sessions any 1 grants text [] t spoken at
 
 -- lines that ended have these items alone
 only_items : (text : List ℕ) (all done left : List Item) → Reads text all (Some []) → Reads text (done ++ left) (Some []) → length left ≡ 0 → done ≡ all
@@ -152,7 +158,7 @@ fault_begins : (replies : List Reply) → codes "yes\nbad 3\n" ≡ session_text 
 fault_begins replies e = cc
 
 -- a reply's text before that of an earlier fault
-not_before_a_fault : (grants : List Grant) → ¬ IsAt 1 grants (codes "has x\nadd 1\n") [] (stands [] [] 1 (codes "yes\nbad 3\n") ends.Done)
+not_before_a_fault : (grants : List Grant) → ¬ IsAt any 1 grants (codes "has x\nadd 1\n") [] (stands [] [] 1 (codes "yes\nbad 3\n") ends.Done)
 not_before_a_fault grants stood =
     let at = session grants (codes "has x\nadd 1\n") (stands [] [] 1 (codes "yes\nbad 3\n") ends.Done) refl stood in
     let done = only_items (codes "has x\nadd 1\n") (Faulty NoNumber ∷ Asks (Add 1) ∷ []) at.done at.left turned_read at.came at.many in
@@ -168,7 +174,7 @@ ends_there (Worn ∷ replies) e = cc
 ends_there (OldFile ∷ replies) e = cc
 
 -- a text after `halted`
-not_after_halted : (grants : List Grant) → ¬ IsAt 1 grants lines [] (stands [] [] 1 (codes "halted\nbad 3\n") ends.Halted)
+not_after_halted : (grants : List Grant) → ¬ IsAt any 1 grants lines [] (stands [] [] 1 (codes "halted\nbad 3\n") ends.Halted)
 not_after_halted grants stood =
     let at = session grants lines (stands [] [] 1 (codes "halted\nbad 3\n") ends.Halted) refl stood in
     let done = only_items lines items at.done at.left lines_read at.came at.many in
@@ -202,7 +208,7 @@ unserved p (Worn ∷ r ∷ replies) s = s.2
 unserved p (OldFile ∷ r ∷ replies) s = s.2
 
 -- a reply that was granted to another request
-not_of_another : (p : Pass) → ¬ IsAt 1 (gets p Yes) (codes "has 1\n") [] (stands [] [] 1 (codes "yes\n") ends.Done)
+not_of_another : (p : Pass) → ¬ IsAt any 1 (gets p Yes) (codes "has 1\n") [] (stands [] [] 1 (codes "yes\n") ends.Done)
 not_of_another p stood =
     let at = session (gets p Yes) (codes "has 1\n") (stands [] [] 1 (codes "yes\n") ends.Done) refl stood in
     let done = only_items (codes "has 1\n") (Asks (Has 1) ∷ []) at.done at.left has_read at.came at.many in
@@ -250,7 +256,7 @@ one_for_two p (OldFile ∷ []) s e = s.2
 one_for_two p (first ∷ second ∷ replies) s e = not_two p first second replies s
 
 -- two lines that ask the same, of which one was granted a reply
-not_both_by_one : (p : Pass) → ¬ IsAt 1 (gets p Yes) (codes "add 1\nadd 1\n") [] (stands [] [] 1 (codes "yes\nyes\n") ends.Done)
+not_both_by_one : (p : Pass) → ¬ IsAt any 1 (gets p Yes) (codes "add 1\nadd 1\n") [] (stands [] [] 1 (codes "yes\nyes\n") ends.Done)
 not_both_by_one p stood =
     let at = session (gets p Yes) (codes "add 1\nadd 1\n") (stands [] [] 1 (codes "yes\nyes\n") ends.Done) refl stood in
     let done = only_items (codes "add 1\nadd 1\n") both at.done at.left both_read at.came at.many in
@@ -285,7 +291,7 @@ add_read : Reads (codes "add 1\n") (Asks (Add 1) ∷ []) (Some [])
 add_read = (refl, λ rest more its. line (codes "add 1") (Asks (Add 1)) rest more refl (item_read (codes "add 1")) (λ e. cc) its)
 
 -- a reply that was granted to a later line, which asks the same
-not_of_a_later_line : (p : Pass) → ¬ IsAt 1 (late p Yes ∷ []) (codes "add 1\n") [] (stands [] [] 1 (codes "yes\n") ends.Done)
+not_of_a_later_line : (p : Pass) → ¬ IsAt any 1 (late p Yes ∷ []) (codes "add 1\n") [] (stands [] [] 1 (codes "yes\n") ends.Done)
 not_of_a_later_line p stood =
     let at = session (late p Yes ∷ []) (codes "add 1\n") (stands [] [] 1 (codes "yes\n") ends.Done) refl stood in
     let done = only_items (codes "add 1\n") (Asks (Add 1) ∷ []) at.done at.left add_read at.came at.many in

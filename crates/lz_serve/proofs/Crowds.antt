@@ -3,7 +3,7 @@ use Rattle.std.proofs.Common.{◌≡◌, ◌≢◌, ◌≤◌, ◌<◌, ◌+◌,
 use Rattle.std.proofs.lemmas.List.Elements.{All-cons, All-head, All-nil, All-tail, All-weaker}
 use Rattle.std.proofs.lemmas.Option.{slice_get_read}
 use Rattle.lz_list.specs.Traces.{Trace, Begins}
-use Rattle.lz_serve.specs.Clients.{Asker, Askers, HasSeenIn, HaveSeenIn, IsAskedBy, IsAwaited, IsOwn, IsOwnOf, Keeps, KeepsAwaited, KeepsOwn, KeepsSeen, OnlyLeave}
+use Rattle.lz_serve.specs.Clients.{Asker, Askers, ComesAfter, HasSeenIn, HaveSeenIn, IsAskedBy, IsAwaited, IsHeard, IsHeardAt, IsHeardOf, IsNext, IsOwn, IsOwnOf, Keeps, KeepsAwaited, KeepsHeard, KeepsLinesOf, KeepsOwn, KeepsReplies, KeepsSeen, OnlyLeave}
 use Rattle.lz_serve.specs.Grants.{Posed}
 
 pub from_nothing : (known : Trace) → Begins [] known
@@ -11,13 +11,17 @@ from_nothing [] = refl
 from_nothing (e ∷ known) = inr (from_nothing known)
 
 pub keeps_itself : (a : Askers) → Keeps a a
-keeps_itself a = record { awaited = λ token q is. is; seen = λ known are. are }
+keeps_itself a = record { awaited = λ token q is. is; heard = λ token q is heard. heard; seen = λ known are. are }
 
 pub keeps_same : (a b : Askers) → b ≡ a → Keeps a b
 keeps_same a b is = subst (Keeps a) (sym is) (keeps_itself a)
 
 pub keeps_then : (a b c : Askers) → Keeps a b → Keeps b c → Keeps a c
-keeps_then a b c one two = record { awaited = λ token q is. two.awaited token q (one.awaited token q is); seen = λ known are. two.seen known (one.seen known are) }
+keeps_then a b c one two = record {
+  awaited = λ token q is. two.awaited token q (one.awaited token q is);
+  heard = λ token q is heard. two.heard token q (one.awaited token q is) (one.heard token q is heard);
+  seen = λ known are. two.seen known (one.seen known are);
+}
 
 -- a question that is awaited, if there is one
 pub some_kept : (a b : Askers) (token : ℕ) (r : Option Posed) → Keeps a b → IfSome r (λ q. IsAwaited a token q) → IfSome r (λ q. IsAwaited b token q)
@@ -49,6 +53,7 @@ seen_left n known (o ∷ old) (c ∷ new) stay all =
 pub leave_keeps : (a b : Askers) → OnlyLeave a b → Keeps a b
 leave_keeps a b leave = record {
   awaited = λ token q is. record { admitted = subst (λ (n : ℕ). q.connection ≤ n) (sym leave.admitted) is.admitted; own = leave_so (λ (x : Asker). IsOwn x q) a b token leave is.own };
+  heard = λ token q is heard. leave_so (λ (x : Asker). IsHeard x q) a b token leave heard;
   seen = λ known are. subst (λ (n : ℕ). All (HasSeenIn n known) b.clients) (sym leave.admitted) (seen_left a.admitted known a.clients b.clients leave.stay are);
 }
 
@@ -57,8 +62,31 @@ leave_keeps a b leave = record {
 pub same_own : (old new : Option Asker) → new ≡ old → KeepsOwn old new
 same_own old new is q own = subst (λ (c : Option Asker). IsOwnOf c q) (sym is) own
 
+pub same_heard : (old new : Option Asker) → new ≡ old → KeepsHeard old new
+same_heard old new is q own heard = subst (λ (c : Option Asker). IsHeardOf c q) (sym is) heard
+
 pub same_seen : (old new : Option Asker) → new ≡ old → KeepsSeen old new
 same_seen old new is admitted known seen = subst (HasSeenIn admitted known) (sym is) seen
+
+-- a place whose client's lines are the same
+
+pub lines_own : (old new : Option Asker) → KeepsLinesOf old new → KeepsOwn old new
+lines_own None None same q own = tt
+lines_own None (Some b) same q own = absurd same
+lines_own (Some a) None same q own = tt
+lines_own (Some a) (Some b) same q own = subst (λ (x : Asker). IsOwn x q) (sym same) own
+
+pub lines_heard : (old new : Option Asker) → KeepsLinesOf old new → KeepsHeard old new
+lines_heard None None same q own heard = tt
+lines_heard None (Some b) same q own heard = absurd same
+lines_heard (Some a) None same q own heard = tt
+lines_heard (Some a) (Some b) same q own heard = subst (λ (x : Asker). IsHeard x q) (sym same) heard
+
+pub lines_seen : (old new : Option Asker) → KeepsLinesOf old new → KeepsSeen old new
+lines_seen None None same admitted known seen = tt
+lines_seen None (Some b) same admitted known seen = absurd same
+lines_seen (Some a) None same admitted known seen = tt
+lines_seen (Some a) (Some b) same admitted known seen = subst (λ (x : Asker). HasSeenIn admitted known (Some x)) (sym same) seen
 
 -- what a client has seen, whatever its number
 pub only_seen : (admitted : ℕ) (known : Trace) (client : Option Asker) → HasSeenIn admitted known client → IfSome client (λ a. Begins a.seen known)
@@ -71,13 +99,13 @@ module _ {X : Type 0} (f : X → Option Asker) where
   client_there (x ∷ places) zero p is = let same : x ≡ p = cc in ap (λ (y : X). Some (f y)) same
   client_there (x ∷ places) (suc at) p is = client_there places at p is
 
-  own_there : (places : List X) (at : ℕ) (old new : X) (token : ℕ) (q : Posed) → slice_get places at ≡ Some old → (token ≡ at → IsOwnOf (f old) q → IsOwnOf (f new) q) → IfSome (slice_get (map f places) token) (λ c. IsOwnOf c q)
-      → IfSome (slice_get (map f (set places at new)) token) (λ c. IsOwnOf c q)
-  own_there [] at old new token q is keeps own = absurd (cc)
-  own_there (p ∷ places) zero old new zero q is keeps own = let same : p ≡ old = cc in keeps refl (subst (λ (x : X). IsOwnOf (f x) q) same own)
-  own_there (p ∷ places) zero old new (suc token) q is keeps own = own
-  own_there (p ∷ places) (suc at) old new zero q is keeps own = own
-  own_there (p ∷ places) (suc at) old new (suc token) q is keeps own = own_there places at old new token q is (λ same. keeps (ap suc same)) own
+  -- what was so of the client of a place is so of the one that is there now
+  so_there : (P : Option Asker → Type 0) (places : List X) (at : ℕ) (old new : X) (token : ℕ) → slice_get places at ≡ Some old → (token ≡ at → P (f old) → P (f new)) → IfSome (slice_get (map f places) token) P → IfSome (slice_get (map f (set places at new)) token) P
+  so_there P [] at old new token is keeps so = absurd (cc)
+  so_there P (p ∷ places) zero old new zero is keeps so = let same : p ≡ old = cc in keeps refl (subst (λ (x : X). P (f x)) same so)
+  so_there P (p ∷ places) zero old new (suc token) is keeps so = so
+  so_there P (p ∷ places) (suc at) old new zero is keeps so = so
+  so_there P (p ∷ places) (suc at) old new (suc token) is keeps so = so_there P places at old new token is (λ same. keeps (ap suc same)) so
 
   all_there : (P Q : Option Asker → Type 0) → ((c : Option Asker) → P c → Q c) → (places : List X) (at : ℕ) (old new : X) → slice_get places at ≡ Some old → (P (f old) → Q (f new)) → All P (map f places) → All Q (map f (set places at new))
   all_there P Q weaker [] at old new is keeps all = absurd (cc)
@@ -119,7 +147,7 @@ module _ {X : Type 0} (f : X → Option Asker) where
   -- where others wait for their turn
   pub keeps_here : (a : Askers) (n : ℕ) {queue later : List ℕ} (places : List X) → at_places n queue places ≡ a → Keeps a (at_places n later places)
   keeps_here a n {queue} {later} places view_is =
-      subst (λ (b : Askers). Keeps b (at_places n later places)) view_is (record { awaited = λ token q is. record { admitted = is.admitted; own = is.own }; seen = λ known are. are })
+      subst (λ (b : Askers). Keeps b (at_places n later places)) view_is (record { awaited = λ token q is. record { admitted = is.admitted; own = is.own }; heard = λ token q is heard. heard; seen = λ known are. are })
 
   -- the client of a place leaves
   pub leaves_at : (a : Askers) (n : ℕ) {queue later : List ℕ} (places : List X) (at : ℕ) (new : X) → at_places n queue places ≡ a → f new ≡ None → OnlyLeave a (at_places n later (set places at new))
@@ -134,6 +162,15 @@ module _ {X : Type 0} (f : X → Option Asker) where
     pub own_here : (q : Posed) → IsAwaited a at q → IsOwnOf (f old) q
     own_here q is = let mine = subst (λ (b : Askers). IsAwaited b at q) (sym view_is) is in subst (λ (o : Option (Option Asker)). IfSome o (λ c. IsOwnOf c q)) (client_there places at old there) mine.own
 
+    -- a question that this client puts comes after those that are awaited
+    pub next_here : (r : Option Posed) → IfSome r (ComesAfter (f old)) → IfSome r (IsNext a at)
+    next_here None is = tt
+    next_here (Some question) is = λ q awaited same. is q (own_here q awaited) same
+
+    -- where no line of this client awaits the reply, none here does
+    pub heard_here : (q : Posed) → IsHeardOf (f old) q → IsHeardAt a at q
+    heard_here q heard = subst (λ (b : Askers). IsHeardAt b at q) view_is (subst (λ (o : Option (Option Asker)). IfSome o (λ c. IsHeardOf c q)) (sym (client_there places at old there)) heard)
+
     -- what all clients have seen this one has
     pub seen_here : (known : Trace) → HaveSeenIn a known → HasSeenIn a.admitted known (f old)
     seen_here known are =
@@ -142,11 +179,16 @@ module _ {X : Type 0} (f : X → Option Asker) where
     module _ (new : X) where
       pub keeps_awaited : {later : List ℕ} → KeepsOwn (f old) (f new) → KeepsAwaited a (at_places n later (set places at new))
       keeps_awaited {later} own token q is =
-          let mine = subst (λ (b : Askers). IsAwaited b token q) (sym view_is) is in record { admitted = mine.admitted; own = own_there places at old new token q there (λ _. own q) mine.own }
+          let mine = subst (λ (b : Askers). IsAwaited b token q) (sym view_is) is in record { admitted = mine.admitted; own = so_there (λ (c : Option Asker). IsOwnOf c q) places at old new token there (λ _. own q) mine.own }
 
-      pub keeps_at : {later : List ℕ} → KeepsOwn (f old) (f new) → KeepsSeen (f old) (f new) → Keeps a (at_places n later (set places at new))
-      keeps_at {later} own seen = record {
+      pub keeps_heard : (later : List ℕ) → KeepsHeard (f old) (f new) → KeepsReplies a (at_places n later (set places at new))
+      keeps_heard later keeps token q is heard =
+          so_there (λ (c : Option Asker). IsHeardOf c q) places at old new token there (λ same was. keeps q (own_here q (subst (λ (m : ℕ). IsAwaited a m q) same is)) was) (subst (λ (b : Askers). IsHeardAt b token q) (sym view_is) heard)
+
+      pub keeps_at : {later : List ℕ} → KeepsOwn (f old) (f new) → KeepsHeard (f old) (f new) → KeepsSeen (f old) (f new) → Keeps a (at_places n later (set places at new))
+      keeps_at {later} own heard seen = record {
         awaited = keeps_awaited own;
+        heard = keeps_heard later heard;
         seen = λ known are. all_there (HasSeenIn n known) (HasSeenIn n known) (λ c is. is) places at old new there (seen n known) (subst (λ (b : Askers). HaveSeenIn b known) (sym view_is) are);
       }
 
@@ -180,7 +222,12 @@ module _ {X : Type 0} (f : X → Option Asker) where
       awaited = λ token q awaited.
           let mine = subst (λ (b : Askers). IsAwaited b token q) (sym view_is) awaited in
           let low = mine.admitted in
-          record { admitted = omega (arith, low); own = own_there places at old new token q there (λ _ _. subst (λ (c : Option Asker). IsOwnOf c q) (sym is) (λ same. absurd (omega (arith, low, same, numbered)))) mine.own };
+          record { admitted = omega (arith, low); own = so_there (λ (c : Option Asker). IsOwnOf c q) places at old new token there (λ _ _. subst (λ (c : Option Asker). IsOwnOf c q) (sym is) (λ same. absurd (omega (arith, low, same, numbered)))) mine.own };
+      heard = λ token q awaited heard.
+          let low = awaited.admitted in
+          let here = ap (λ (b : Askers). b.admitted) view_is in
+          so_there (λ (c : Option Asker). IsHeardOf c q) places at old new token there (λ _ _. subst (λ (c : Option Asker). IsHeardOf c q) (sym is) (λ same. absurd (omega (arith, low, here, same, numbered))))
+          (subst (λ (b : Askers). IsHeardAt b token q) (sym view_is) heard);
       seen = λ known are.
           all_there (HasSeenIn n known) (HasSeenIn (n + 1) known) (more known) places at old new there
           (λ _. subst (HasSeenIn (n + 1) known) (sym is) (omega (arith, numbered), subst (λ (t : Trace). Begins t known) (sym unseen) (from_nothing known))) (subst (λ (b : Askers). HaveSeenIn b known) (sym view_is) are);

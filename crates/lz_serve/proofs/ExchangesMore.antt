@@ -2,7 +2,7 @@
 use Rattle.std.proofs.Common.{◌≡◌, List, [], ◌∷◌, ◌++◌, map, refl, sym, ap, ◌∙◌, append_assoc}
 use Rattle.lz_proto.specs.declared.request.Request.{Request}
 use Rattle.lz_serve.specs.declared.turn.Turn.{Turn}
-use Rattle.lz_serve.specs.Exchanges.{Exchange, Pending, adding, asks, ends, requests_in, says, tells, turn_of}
+use Rattle.lz_serve.specs.Exchanges.{Exchange, Pending, adding, asks, ends, lists, requests_in, says, tells, turn_of}
 
 pub map_more : {A B : Type 0} (f : A → B) (xs ys : List A) → map f (xs ++ ys) ≡ map f xs ++ map f ys
 map_more f [] ys = refl
@@ -12,6 +12,7 @@ pub requests_more : (xs ys : List Exchange) → requests_in (xs ++ ys) ≡ reque
 requests_more [] ys = refl
 requests_more (asks wording requests ∷ xs) ys = ap (λ (l : List Request). requests ++ l) (requests_more xs ys) ∙ sym (append_assoc requests (requests_in xs) (requests_in ys))
 requests_more (says text ∷ xs) ys = requests_more xs ys
+requests_more (lists scan ∷ xs) ys = requests_more xs ys
 requests_more (tells query ∷ xs) ys = requests_more xs ys
 requests_more (ends text ∷ xs) ys = requests_more xs ys
 

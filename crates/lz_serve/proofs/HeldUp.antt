@@ -4,9 +4,11 @@ use Rattle.lz_proto.specs.declared.request.Request.{Request}
 use Rattle.lz_proto.specs.declared.end.End.TheVariants.{Done}
 use Rattle.lz_serve.specs.declared.line.Line.{Line}
 use Rattle.lz_serve.specs.declared.turn.Turn.{Turn}
-use Rattle.lz_serve.specs.Conversations.{IsHeldUp, Rests, Talk, Told}
+use Rattle.lz_serve.specs.declared.turn.Turn.TheVariants as turn
+use Rattle.lz_serve.specs.Conversations.{IsHeldUp, Paged, Rests, Talk, Told}
 use Rattle.lz_serve.specs.Grants.{key_asked}
 use Rattle.lz_serve.specs.Lines.{IsFree}
+use Rattle.lz_serve.specs.Listings.{Listing}
 
 more_behind : (request : Request) (old more : List Request) → old ≡ request ∷ drop 1 old → old ++ more ≡ request ∷ drop 1 (old ++ more)
 more_behind request [] more is = absurd (cc)
@@ -47,3 +49,8 @@ held_same old new waiting told under ended held = (subst (λ (l : List Request).
 pub told_ended : (told : Bool) (old new : Talk) → (told ≡ true → (turn : Turn) × (old.turns ≡ turn ∷ drop 1 old.turns) × (old.ended ≡ Done) × Told turn old new) → (told ≡ false → new ≡ old) → new.ended ≡ Done → old.ended ≡ Done
 told_ended true old new some none goes = (some refl).2
 told_ended false old new some none goes = sym (ap (λ (t : Talk). t.ended) (none refl)) ∙ goes
+
+-- the same of a page
+pub page_ended : (told : Bool) (l : Listing) (old new : Talk) → (told ≡ true → (old.turns ≡ turn.Lists l.scan ∷ drop 1 old.turns) × (old.ended ≡ Done) × Paged l old new) → (told ≡ false → new ≡ old) → new.ended ≡ Done → old.ended ≡ Done
+page_ended true l old new some none goes = (some refl).1
+page_ended false l old new some none goes = sym (ap (λ (t : Talk). t.ended) (none refl)) ∙ goes

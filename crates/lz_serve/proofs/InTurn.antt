@@ -6,6 +6,7 @@ use Rattle.lz_list.specs.Traces.{Begins, Trace}
 use Rattle.lz_list.specs.declared.publishing.Publishing.{Publishing}
 use Rattle.lz_board.specs.Seats.{BoardId, part}
 use Rattle.lz_serve.specs.Grants.{AreGranted, AreInTurn, Grant, IsAfter, IsGrant, IsLater, Promises, key_asked}
+use Rattle.lz_serve.specs.Listings.{IsListing}
 
 -- grants in turn, and one that comes after them
 pub in_turn_more : (grants : List Grant) (g : Grant) → AreInTurn grants → IsLater grants g → AreInTurn (grants ++ g ∷ [])
@@ -14,8 +15,8 @@ in_turn_more (e ∷ grants) g turn later =
     (All-push (λ (x : Grant). IsAfter e x) grants g turn.0 (All-head (λ (x : Grant). IsAfter x g) e grants later), in_turn_more grants g turn.1 (All-tail (λ (x : Grant). IsAfter x g) e grants later))
 
 -- that a pass of this board gave each, those for one key in turn, may be promised
-pub granted_promises : (b : BoardId) (F : Format) → Promises b F (AreGranted b F)
-granted_promises b F = ((All-nil (IsGrant b F), tt), λ grants g are granted later. (All-push (IsGrant b F) grants g are.0 granted, in_turn_more grants g are.1 later))
+pub granted_promises : (b : BoardId) (F : Format) → Promises b F (AreGranted b F) (IsListing b)
+granted_promises b F = ((All-nil (IsGrant b F), tt), λ grants g are granted later. (All-push (IsGrant b F) grants g are.0 granted, in_turn_more grants g are.1 later), λ l is. is)
 
 -- What must not hold.
 

@@ -16,10 +16,12 @@ pub mod Queues
 pub mod HeldUp
 pub mod Crowds
 pub mod Turns
+pub mod Joins
 pub mod Desks
 pub mod Meetings
 pub mod InTurn
 pub mod ClientRows
+pub mod TurnRows
 pub mod OwnLines
 pub mod OwnLinesRows
 pub mod ExchangesMore
@@ -28,3 +30,5 @@ pub mod LineSessions
 pub mod TalksOnStreams
 pub mod RunningLoops
 pub mod QueryRows
+pub mod Listings
+pub mod PageRows

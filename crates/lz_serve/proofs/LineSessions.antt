@@ -21,6 +21,7 @@ use Rattle.lz_serve.specs.declared.turn.Turn.{Turn}
 use Rattle.lz_serve.specs.Exchanges.{CameFrom, Exchange, asks, end_by, of_line, turn_of}
 use Rattle.lz_serve.specs.Conversations.{AreTold, IsTold, more, nothing}
 use Rattle.lz_serve.specs.Grants.{Grant}
+use Rattle.lz_serve.specs.Listings.{Listing}
 use Rattle.lz_serve.specs.LineSessions.{IsGranted, LinesAreSessions, LinesCame}
 
 -- the items of a front of exchanges
@@ -48,8 +49,8 @@ goes_on_so reply.Halted = refl
 goes_on_so reply.Worn = refl
 goes_on_so reply.OldFile = refl
 
-module _ (connection : ℕ) (grants : List Grant) where
-  request_told : (request : Request) (its : List Grant) (said : List ℕ) (ended : End) → request ≢ Quit → IsTold connection (length grants) (asks Line (request ∷ [])) its said ended
+module _ (L : Listing → Type 0) (connection : ℕ) (grants : List Grant) where
+  request_told : (request : Request) (its : List Grant) (said : List ℕ) (ended : End) → request ≢ Quit → IsTold L connection grants (asks Line (request ∷ [])) its said ended
       → Answered (IsGranted connection) grants (Asks request ∷ []) (grants ++ its) said ended
   request_told request [] said ended other (for, text, goes) = absurd for
   request_told request (g ∷ []) said ended other (for, text, goes) =
@@ -57,7 +58,7 @@ module _ (connection : ℕ) (grants : List Grant) where
       (request_answered (IsGranted connection) grants (grants ++ g ∷ []) request g.reply said other (g, refl, for.0) (text ∙ append-nil (reply_text g.reply)))
   request_told request (g ∷ h ∷ its) said ended other (for, text, goes) = absurd for.1
 
-  item_told : (item : Item) (its : List Grant) (said : List ℕ) (ended : End) → IsTold connection (length grants) (of_line item) its said ended → Answered (IsGranted connection) grants (item ∷ []) (grants ++ its) said ended
+  item_told : (item : Item) (its : List Grant) (said : List ℕ) (ended : End) → IsTold L connection grants (of_line item) its said ended → Answered (IsGranted connection) grants (item ∷ []) (grants ++ its) said ended
   item_told (Asks Quit) its said ended (none, text, goes) =
       record { replies = []; served = ap (λ (gs : List Grant). grants ++ gs) none ∙ append-nil grants; text = text; ends = sym goes }
   item_told (Asks (Add k)) its said ended told = request_told (Add k) its said ended (λ e. cc) told
@@ -77,15 +78,15 @@ no_items : (items : List Item) → map of_line items ≡ [] → [] ≡ items
 no_items [] are = refl
 no_items (item ∷ items) are = absurd (cc)
 
-answered : (connection : ℕ) (exchanges : List Exchange) (grants : List Grant) (text : List ℕ) (ended : End) → AreTold connection exchanges grants text ended → (items : List Item) → map of_line items ≡ exchanges
+answered : (L : Listing → Type 0) (connection : ℕ) (exchanges : List Exchange) (grants : List Grant) (text : List ℕ) (ended : End) → AreTold L connection exchanges grants text ended → (items : List Item) → map of_line items ≡ exchanges
     → Answered (IsGranted connection) [] items grants text ended
-answered _ _ _ _ _ (nothing connection) items are =
+answered L _ _ _ _ _ (nothing connection) items are =
     subst (λ (l : List Item). Answered (IsGranted connection) [] l [] [] ends.Done) (no_items items are) (record { replies = []; served = refl; text = refl; ends = refl })
-answered _ _ _ _ _ (more connection exchanges grants text exchange its said ended before told) items are =
+answered L _ _ _ _ _ (more connection exchanges grants text exchange its said ended before told) items are =
     let f = fronts items exchanges (exchange ∷ []) are in
     let one = one_item f.rest exchange f.others in
-    let first = answered connection exchanges grants text ends.Done before f.front f.first in
-    let last = item_told connection grants one.0 its said ended (subst (λ (e : Exchange). IsTold connection (length grants) e its said ended) (sym one.2) told) in
+    let first = answered L connection exchanges grants text ends.Done before f.front f.first in
+    let last = item_told L connection grants one.0 its said ended (subst (λ (e : Exchange). IsTold L connection grants e its said ended) (sym one.2) told) in
     subst (λ (l : List Item). Answered (IsGranted connection) [] l (grants ++ its) (text ++ said) ended) (sym (f.whole ∙ ap (λ (l : List Item). f.front ++ l) one.1))
     (answered_more (IsGranted connection) [] grants (grants ++ its) f.front (one.0 ∷ []) text said ended first last)
 
@@ -98,8 +99,8 @@ lines_came text exchanges (Some (reader.Lines kept)) came = came.1
 lines_came text exchanges (Some (reader.Frames place)) came = absurd (let apart = came.1 in cc)
 lines_came text exchanges None came = came
 
-pub lines_are_sessions : LinesAreSessions
-lines_are_sessions connection grants text sent t spoken at =
+pub lines_are_sessions : (L : Listing → Type 0) → LinesAreSessions L
+lines_are_sessions L connection grants text sent t spoken at =
     let came = lines_came text (at.done ++ at.left) t.reader (subst (λ (l : Language). CameFrom l text (at.done ++ at.left) t.reader) spoken at.came) in
     let f = fronts came.0 at.done at.left (sym came.2) in
     record {
@@ -107,5 +108,5 @@ lines_are_sessions connection grants text sent t spoken at =
       left = f.rest;
       came = subst (λ (l : List Item). LinesCame text l t.reader) f.whole came.1;
       many = length_map of_line f.rest ∙ ap (λ (l : List Exchange). length l) f.others ∙ length_map turn_of at.left ∙ ap (λ (l : List Turn). length l) at.turns;
-      answered = answered connection at.done grants (sent ++ t.unsent) t.ended at.told f.front f.first;
+      answered = answered L connection at.done grants (sent ++ t.unsent) t.ended at.told f.front f.first;
     }

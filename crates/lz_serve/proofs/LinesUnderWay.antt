@@ -48,6 +48,12 @@ get_last [] at x is = subst (λ (n : ℕ). slice_get (x ∷ []) n ≡ Some x) (s
 get_last (y ∷ xs) zero x is = absurd (omega (arith, is))
 get_last (y ∷ xs) (suc at) x is = get_last xs at x (omega (arith, is))
 
+-- more come behind them
+pub get_before : {X : Type 0} (xs ys : List X) (at : ℕ) → at < length xs → slice_get (xs ++ ys) at ≡ slice_get xs at
+get_before [] ys at low = absurd (omega (arith, low))
+get_before (x ∷ xs) ys zero low = refl
+get_before (x ∷ xs) ys (suc at) low = get_before xs ys at (omega (arith, low))
+
 -- a line that has its reply awaits none
 pub noted_heard : (under : List Line) (at : ℕ) (request other : Request) (reply : Reply) → slice_get (slice_set under at (replied request reply)) at ≡ Some (awaited other) → ⊥
 noted_heard [] at request other reply is = absurd (cc)

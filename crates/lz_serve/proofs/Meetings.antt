@@ -8,7 +8,7 @@ use Rattle.lz_board.proofs.Walk.GlanceAnswer.{halt_since}
 use Rattle.lz_serve.specs.Clients.{Askers, HaveSeenIn}
 use Rattle.lz_serve.specs.Desks.{Knows}
 use Rattle.lz_serve.specs.Halts.{IsCalm, SawHalt, SeesMore}
-use Rattle.lz_serve.proofs.Desks.{seen_later}
+use Rattle.lz_serve.proofs.Joins.{seen_later}
 
 pub sees_halt : (old new : Pass) → SeesMore old new → SawHalt old → SawHalt new
 sees_halt old new more seen = halt_since (part old).known (part new).known (extends_of (part old).known (part new).known more.grows) seen

@@ -10,22 +10,22 @@ use Rattle.lz_resp.proofs.QueryRows.{seen}
 use Rattle.lz_board.specs.declared.pass.Pass.{Pass}
 use Rattle.lz_serve.specs.Conversations.{IsTold}
 use Rattle.lz_serve.specs.Exchanges.{tells}
-use Rattle.lz_serve.proofs.ConversationRows.{gets}
+use Rattle.lz_serve.proofs.ConversationRows.{any, gets}
 
-size : IsTold 1 0 (tells Size) [] (codes ":3\r\n") Done
+size : IsTold any 1 [] (tells Size) [] (codes ":3\r\n") Done
 unfolding digits
 size = (refl, (seen, refl, refl))
 
-ended : IsTold 1 0 (tells Shutdown) [] [] Quit
+ended : IsTold any 1 [] (tells Shutdown) [] [] Quit
 ended = (refl, (seen, refl, refl))
 
-refused : IsTold 1 0 (tells Shutdown) [] (error (codes "SHUTDOWN is taken over a Unix socket alone")) Done
+refused : IsTold any 1 [] (tells Shutdown) [] (error (codes "SHUTDOWN is taken over a Unix socket alone")) Done
 refused = (refl, (record seen { stoppable = false }, refl, refl))
 
 -- What must not hold.
 
 -- nothing is granted for what no pass is asked
-not_granted : (p : Pass) (said : List ℕ) (ended : End) → IsTold 1 0 (tells Size) (gets p Yes) said ended → ⊥
+not_granted : (p : Pass) (said : List ℕ) (ended : End) → IsTold any 1 [] (tells Size) (gets p Yes) said ended → ⊥
 not_granted p said ended told = let none = told.0 in cc
 
 goes_on : (may : Bool) (said : List ℕ) → [] ≡ (if may then [] else 45 ∷ said) → Done ≡ (if may then Quit else Done) → ⊥
@@ -33,5 +33,5 @@ goes_on true said text goes = cc
 goes_on false said text goes = cc
 
 -- a client that ends the service is told nothing more
-not_after_the_end : IsTold 1 0 (tells Shutdown) [] [] Done → ⊥
+not_after_the_end : IsTold any 1 [] (tells Shutdown) [] [] Done → ⊥
 not_after_the_end told = goes_on told.1.0.stoppable _ told.1.1 told.1.2

@@ -20,10 +20,11 @@ use Rattle.lz_serve.specs.declared.reader.Reader.TheVariants as reader
 use Rattle.lz_serve.specs.declared.turn.Turn.{Turn}
 use Rattle.lz_serve.specs.declared.turn.Turn.TheVariants as turn
 use Rattle.lz_serve.specs.declared.turn.Wording.{Wording}
-use Rattle.lz_serve.specs.Exchanges.{CameFrom, EndsWith, Exchange, ReadsMore, asks, end_by, ends, of_frame, of_line, requests_in, says, tells, turn_of, worded}
+use Rattle.lz_serve.specs.Exchanges.{CameFrom, EndsWith, Exchange, ReadsMore, asks, end_by, ends, lists, of_frame, of_line, requests_in, says, tells, turn_of, worded}
 use Rattle.lz_serve.specs.Grants.{Grant}
+use Rattle.lz_serve.specs.Listings.{Listing, listing_end, listing_text}
 use Rattle.lz_serve.specs.Lines.{asked_by, awaited, replied, replies_of}
-use Rattle.lz_serve.specs.Conversations.{AreFor, AreTold, Fed, Finished, IsAt, IsTold, Noted, Talk, Told, more, nothing_yet, query_end, replies_in, nothing as none_told}
+use Rattle.lz_serve.specs.Conversations.{AreFor, AreTold, Fed, Finished, IsAt, IsPageFor, IsTold, Noted, Paged, Talk, Told, more, nothing_yet, query_end, replies_in, nothing as none_told}
 use Rattle.lz_serve.proofs.ExchangesMore.{map_more, requests_more}
 use Rattle.lz_serve.proofs.LineReplies.{asked_more, asked_noted}
 
@@ -89,16 +90,16 @@ for_many connection told (request ∷ requests) (g ∷ grants) are = ap (λ (n :
 for_many connection told [] (g ∷ grants) are = absurd are
 for_many connection told (request ∷ requests) [] are = absurd are
 
-pub begins : (connection : ℕ) (spoken : Language) → IsAt connection [] [] [] (nothing_yet spoken)
-begins connection language.Lines = record { done = []; left = []; came = (refl, ([], (refl, λ rest items its. its), refl)); turns = refl; asked = refl; told = none_told connection; counted = refl }
-begins connection (language.Frames naming) = record { done = []; left = []; came = (naming, refl, ([], (frames.step_empty (at_first naming) [] refl, λ rest items its. its), refl)); turns = refl; asked = refl; told = none_told connection; counted = refl }
+pub begins : (L : Listing → Type 0) (connection : ℕ) (spoken : Language) → IsAt L connection [] [] [] (nothing_yet spoken)
+begins L connection language.Lines = record { done = []; left = []; came = (refl, ([], (refl, λ rest items its. its), refl)); turns = refl; asked = refl; told = none_told connection; counted = refl }
+begins L connection (language.Frames naming) = record { done = []; left = []; came = (naming, refl, ([], (frames.step_empty (at_first naming) [] refl, λ rest items its. its), refl)); turns = refl; asked = refl; told = none_told connection; counted = refl }
 
-module _ (connection : ℕ) (grants : List Grant) (text sent : List ℕ) (t : Talk) (at : IsAt connection grants text sent t) where
-  pub fed : (piece : List ℕ) (new : Talk) → Fed piece t new → IsAt connection grants (text ++ piece) sent new
+module _ (L : Listing → Type 0) (connection : ℕ) (grants : List Grant) (text sent : List ℕ) (t : Talk) (at : IsAt L connection grants text sent t) where
+  pub fed : (piece : List ℕ) (new : Talk) → Fed piece t new → IsAt L connection grants (text ++ piece) sent new
   fed piece new (before, after, exchanges, reads, gives, is) =
       let came : CameFrom t.spoken (text ++ piece) ((at.done ++ at.left) ++ exchanges) (Some after) =
       came_more t.spoken text piece (at.done ++ at.left) exchanges before after (subst (CameFrom t.spoken text (at.done ++ at.left)) reads at.came) gives in
-      subst (IsAt connection grants (text ++ piece) sent) (sym is)
+      subst (IsAt L connection grants (text ++ piece) sent) (sym is)
       (record {
         done = at.done;
         left = at.left ++ exchanges;
@@ -109,11 +110,11 @@ module _ (connection : ℕ) (grants : List Grant) (text sent : List ℕ) (t : Ta
         counted = at.counted;
       })
 
-  pub finished : (new : Talk) → Finished t new → IsAt connection grants text sent new
+  pub finished : (new : Talk) → Finished t new → IsAt L connection grants text sent new
   finished new (before, exchanges, reads, at_end, is) =
       let came : CameFrom t.spoken text ((at.done ++ at.left) ++ exchanges) None =
       came_whole t.spoken text (at.done ++ at.left) exchanges before (subst (CameFrom t.spoken text (at.done ++ at.left)) reads at.came) at_end in
-      subst (IsAt connection grants text sent) (sym is)
+      subst (IsAt L connection grants text sent) (sym is)
       (record {
         done = at.done;
         left = at.left ++ exchanges;
@@ -125,35 +126,34 @@ module _ (connection : ℕ) (grants : List Grant) (text sent : List ℕ) (t : Ta
       })
 
   -- the next request is handed out
-  pub handed_out : (request : Request) (new : Talk) → t.waiting ≡ request ∷ drop 1 t.waiting → new ≡ record t { waiting = drop 1 t.waiting; under = t.under ++ awaited request ∷ [] } → IsAt connection grants text sent new
+  pub handed_out : (request : Request) (new : Talk) → t.waiting ≡ request ∷ drop 1 t.waiting → new ≡ record t { waiting = drop 1 t.waiting; under = t.under ++ awaited request ∷ [] } → IsAt L connection grants text sent new
   handed_out request new next is =
       let same : asked_by t.under ++ t.waiting ≡ asked_by (t.under ++ awaited request ∷ []) ++ drop 1 t.waiting =
       ap (λ (x : List Request). asked_by t.under ++ x) next ∙ sym (append_assoc (asked_by t.under) (request ∷ []) (drop 1 t.waiting)) ∙ ap (λ (x : List Request). x ++ drop 1 t.waiting) (sym (asked_more t.under (awaited request ∷ []))) in
-      subst (IsAt connection grants text sent) (sym is)
+      subst (IsAt L connection grants text sent) (sym is)
       (record { done = at.done; left = at.left; came = at.came; turns = at.turns; asked = at.asked ∙ same; told = at.told; counted = at.counted })
 
   -- a reply is noted
-  pub noted : (number : ℕ) (request : Request) (reply : Reply) (new : Talk) → Noted number request reply t new → IsAt connection grants text sent new
+  pub noted : (number : ℕ) (request : Request) (reply : Reply) (new : Talk) → Noted number request reply t new → IsAt L connection grants text sent new
   noted number request reply new is =
       let same : asked_by t.under ++ t.waiting ≡ asked_by (slice_set t.under (number - suc t.told) (replied request reply)) ++ t.waiting =
       ap (λ (x : List Request). x ++ t.waiting) (sym (asked_noted t.under (number - suc t.told) request reply is.0.1)) in
-      subst (IsAt connection grants text sent) (sym is.1)
+      subst (IsAt L connection grants text sent) (sym is.1)
       (record { done = at.done; left = at.left; came = at.came; turns = at.turns; asked = at.asked ∙ same; told = at.told; counted = at.counted })
 
-  pub sent_more : (count : ℕ) (new : Talk) → new ≡ record t { unsent = drop count t.unsent } → IsAt connection grants text (sent ++ take count t.unsent) new
+  pub sent_more : (count : ℕ) (new : Talk) → new ≡ record t { unsent = drop count t.unsent } → IsAt L connection grants text (sent ++ take count t.unsent) new
   sent_more count new is =
       let same : sent ++ t.unsent ≡ (sent ++ take count t.unsent) ++ drop count t.unsent =
       ap (λ (x : List ℕ). sent ++ x) (sym (take-append-drop count t.unsent)) ∙ sym (append_assoc sent (take count t.unsent) (drop count t.unsent)) in
-      subst (IsAt connection grants text (sent ++ take count t.unsent)) (sym is)
-      (record { done = at.done; left = at.left; came = at.came; turns = at.turns; asked = at.asked; told = subst (λ (w : List ℕ). AreTold connection at.done grants w t.ended) same at.told; counted = at.counted })
+      subst (IsAt L connection grants text (sent ++ take count t.unsent)) (sym is)
+      (record { done = at.done; left = at.left; came = at.came; turns = at.turns; asked = at.asked; told = subst (λ (w : List ℕ). AreTold L connection at.done grants w t.ended) same at.told; counted = at.counted })
 
   -- an exchange more is told
   module _ (goes : t.ended ≡ Done) (e : Exchange) (left : List Exchange) (first : at.left ≡ e ∷ left) where
-    told_more : (its : List Grant) (said : List ℕ) (ended : End) → IsTold connection t.told e its said ended → AreTold connection (at.done ++ e ∷ []) (grants ++ its) (sent ++ (t.unsent ++ said)) ended
+    told_more : (its : List Grant) (said : List ℕ) (ended : End) → IsTold L connection grants e its said ended → AreTold L connection (at.done ++ e ∷ []) (grants ++ its) (sent ++ (t.unsent ++ said)) ended
     told_more its said ended is =
-        let before : AreTold connection at.done grants (sent ++ t.unsent) Done = subst (AreTold connection at.done grants (sent ++ t.unsent)) goes at.told in
-        let now : IsTold connection (length grants) e its said ended = subst (λ (n : ℕ). IsTold connection n e its said ended) (sym at.counted) is in
-        subst (λ (w : List ℕ). AreTold connection (at.done ++ e ∷ []) (grants ++ its) w ended) (append_assoc sent t.unsent said) (more connection at.done grants (sent ++ t.unsent) e its said ended before now)
+        let before : AreTold L connection at.done grants (sent ++ t.unsent) Done = subst (AreTold L connection at.done grants (sent ++ t.unsent)) goes at.told in
+        subst (λ (w : List ℕ). AreTold L connection (at.done ++ e ∷ []) (grants ++ its) w ended) (append_assoc sent t.unsent said) (more connection at.done grants (sent ++ t.unsent) e its said ended before is)
 
     came_so : CameFrom t.spoken text ((at.done ++ e ∷ []) ++ left) t.reader
     came_so = subst (λ (l : List Exchange). CameFrom t.spoken text l t.reader) (ap (λ (l : List Exchange). at.done ++ l) first ∙ sym (append_assoc at.done (e ∷ []) left)) at.came
@@ -168,8 +168,8 @@ module _ (connection : ℕ) (grants : List Grant) (text sent : List ℕ) (t : Ta
     requests_are = ap (λ (l : List Exchange). requests_in l) (sym first) ∙ at.asked
 
   -- one that asks nothing
-  text_told : (goes : t.ended ≡ Done) (e : Exchange) (left : List Exchange) (first : at.left ≡ e ∷ left) (said : List ℕ) (ended : End) → IsTold connection t.told e [] said ended → requests_in (e ∷ left) ≡ requests_in left
-      → IsAt connection grants text sent (record t { turns = drop 1 t.turns; unsent = t.unsent ++ said; ended = ended })
+  text_told : (goes : t.ended ≡ Done) (e : Exchange) (left : List Exchange) (first : at.left ≡ e ∷ left) (said : List ℕ) (ended : End) → IsTold L connection grants e [] said ended → requests_in (e ∷ left) ≡ requests_in left
+      → IsAt L connection grants text sent (record t { turns = drop 1 t.turns; unsent = t.unsent ++ said; ended = ended })
   text_told goes e left first said ended is asks_none =
       record {
         done = at.done ++ e ∷ [];
@@ -177,14 +177,14 @@ module _ (connection : ℕ) (grants : List Grant) (text sent : List ℕ) (t : Ta
         came = came_so goes e left first;
         turns = left_turns goes e left first;
         asked = sym asks_none ∙ requests_are goes e left first;
-        told = subst (λ (gs : List Grant). AreTold connection (at.done ++ e ∷ []) gs (sent ++ (t.unsent ++ said)) ended) (append-nil grants) (told_more goes e left first [] said ended is);
+        told = subst (λ (gs : List Grant). AreTold L connection (at.done ++ e ∷ []) gs (sent ++ (t.unsent ++ said)) ended) (append-nil grants) (told_more goes e left first [] said ended is);
         counted = at.counted;
       }
 
   -- one whose requests have their replies
   replies_told : (goes : t.ended ≡ Done) (wording : Wording) (requests : List Request) (left : List Exchange) (first : at.left ≡ asks wording requests ∷ left) (count : ℕ) (its : List Grant) (replies : List Reply)
       → length requests ≡ count → count ≤ length t.under → AreFor connection t.told (asked_by (take count t.under)) its → replies_in its ≡ replies
-      → IsAt connection (grants ++ its) text sent (record t { turns = drop 1 t.turns; told = t.told + count; under = drop count t.under; unsent = t.unsent ++ worded wording replies; ended = end_by replies })
+      → IsAt L connection (grants ++ its) text sent (record t { turns = drop 1 t.turns; told = t.told + count; under = drop count t.under; unsent = t.unsent ++ worded wording replies; ended = end_by replies })
   replies_told goes wording requests left first count its replies long few for are =
       let e = asks wording requests in
       let many : length requests ≤ length (asked_by t.under) = let n = length_asked t.under in omega (arith, long, few, n) in
@@ -192,7 +192,7 @@ module _ (connection : ℕ) (grants : List Grant) (text sent : List ℕ) (t : Ta
       let its_are : requests ≡ asked_by (take count t.under) = s.front ∙ ap (λ (n : ℕ). take n (asked_by t.under)) long ∙ asked_first count t.under in
       let so : AreFor connection t.told requests its = subst (λ (rs : List Request). AreFor connection t.told rs its) (sym its_are) for in
       let n : length its ≡ count = for_many connection t.told requests its so ∙ long in
-      let is : IsTold connection t.told e its (worded wording replies) (end_by replies) = (so, ap (λ (r : List Reply). worded wording r) (sym are), ap (λ (r : List Reply). end_by r) (sym are)) in
+      let is : IsTold L connection grants e its (worded wording replies) (end_by replies) = (subst (λ (n : ℕ). AreFor connection n requests its) (sym at.counted) so, ap (λ (r : List Reply). worded wording r) (sym are), ap (λ (r : List Reply). end_by r) (sym are)) in
       record {
         done = at.done ++ e ∷ [];
         left = left;
@@ -220,42 +220,51 @@ first_of other [] = other
 first_of other (turn ∷ turns) = turn
 
 -- the first exchange is told
-module _ (connection : ℕ) (grants : List Grant) (text sent : List ℕ) (t new : Talk) (at : IsAt connection grants text sent t) (its : List Grant) (goes : t.ended ≡ Done) where
+module _ (L : Listing → Type 0) (connection : ℕ) (grants : List Grant) (text sent : List ℕ) (t new : Talk) (at : IsAt L connection grants text sent t) (its : List Grant) (goes : t.ended ≡ Done) where
   first_is : (e : Exchange) (left : List Exchange) (first : Turn) → at.left ≡ e ∷ left → t.turns ≡ first ∷ drop 1 t.turns → turn_of e ≡ first
   first_is e left first is next = ap (λ (l : List Turn). first_of first l) (ap (λ (l : List Exchange). map turn_of l) (sym is) ∙ at.turns ∙ next)
 
-  no_grants : its ≡ [] → IsAt connection grants text sent new → IsAt connection (grants ++ its) text sent new
-  no_grants none so = subst (λ (gs : List Grant). IsAt connection gs text sent new) (sym (append-nil grants) ∙ ap (λ (gs : List Grant). grants ++ gs) (sym none)) so
+  no_grants : its ≡ [] → IsAt L connection grants text sent new → IsAt L connection (grants ++ its) text sent new
+  no_grants none so = subst (λ (gs : List Grant). IsAt L connection gs text sent new) (sym (append-nil grants) ∙ ap (λ (gs : List Grant). grants ++ gs) (sym none)) so
 
-  by_left : (left : List Exchange) → at.left ≡ left → (first : Turn) → t.turns ≡ first ∷ drop 1 t.turns → HasGrants connection t first its → Told first t new → IsAt connection (grants ++ its) text sent new
+  by_left : (left : List Exchange) → at.left ≡ left → (first : Turn) → t.turns ≡ first ∷ drop 1 t.turns → HasGrants connection t first its → Told first t new → IsAt L connection (grants ++ its) text sent new
   by_left [] is first next has step = absurd (let none : [] ≡ first ∷ drop 1 t.turns = ap (λ (l : List Exchange). map turn_of l) (sym is) ∙ at.turns ∙ next in cc)
   by_left (asks wording requests ∷ left) is (turn.Asks w n) next (for, replies_are) (replies, few, of, new_is) =
       let same : turn.Asks wording (length requests) ≡ turn.Asks w n = first_is (asks wording requests) left (turn.Asks w n) is next in
       let wording_is : wording ≡ w = cc in
       let long : length requests ≡ n = cc in
       let are : replies_in its ≡ replies = some_same (replies_in its) replies (sym replies_are ∙ of) in
-      subst (IsAt connection (grants ++ its) text sent)
+      subst (IsAt L connection (grants ++ its) text sent)
       (ap (λ (x : Wording). record t { turns = drop 1 t.turns; told = t.told + n; under = drop n t.under; unsent = t.unsent ++ worded x replies; ended = end_by replies }) wording_is ∙ sym new_is)
-      (replies_told connection grants text sent t at goes wording requests left is n its replies long few for are)
+      (replies_told L connection grants text sent t at goes wording requests left is n its replies long few for are)
   by_left (says said ∷ left) is (turn.Says x) next has step =
       let same : turn.Says said ≡ turn.Says x = first_is (says said) left (turn.Says x) is next in
       let said_is : said ≡ x = cc in
       no_grants has
-      (subst (IsAt connection grants text sent) (ap (λ (y : List ℕ). record t { turns = drop 1 t.turns; unsent = t.unsent ++ y }) said_is ∙ sym step)
-      (subst (λ (e : End). IsAt connection grants text sent (record t { turns = drop 1 t.turns; unsent = t.unsent ++ said; ended = e })) (sym goes)
-      (text_told connection grants text sent t at goes (says said) left is said Done (refl, refl, refl) refl)))
+      (subst (IsAt L connection grants text sent) (ap (λ (y : List ℕ). record t { turns = drop 1 t.turns; unsent = t.unsent ++ y }) said_is ∙ sym step)
+      (subst (λ (e : End). IsAt L connection grants text sent (record t { turns = drop 1 t.turns; unsent = t.unsent ++ said; ended = e })) (sym goes)
+      (text_told L connection grants text sent t at goes (says said) left is said Done (refl, refl, refl) refl)))
   by_left (tells query ∷ left) is (turn.Tells q) next has (f, told_so) =
       let same : turn.Tells query ≡ turn.Tells q = first_is (tells query) left (turn.Tells q) is next in
       let query_is : query ≡ q = cc in
       no_grants has
-      (subst (IsAt connection grants text sent) (ap (λ (y : Query). record t { turns = drop 1 t.turns; unsent = t.unsent ++ query_text y f; ended = query_end y f }) query_is ∙ sym told_so)
-      (text_told connection grants text sent t at goes (tells query) left is (query_text query f) (query_end query f) (refl, (f, refl, refl)) refl))
+      (subst (IsAt L connection grants text sent) (ap (λ (y : Query). record t { turns = drop 1 t.turns; unsent = t.unsent ++ query_text y f; ended = query_end y f }) query_is ∙ sym told_so)
+      (text_told L connection grants text sent t at goes (tells query) left is (query_text query f) (query_end query f) (refl, (f, refl, refl)) refl))
   by_left (ends said ∷ left) is (turn.Ends x) next has step =
       let same : turn.Ends said ≡ turn.Ends x = first_is (ends said) left (turn.Ends x) is next in
       let said_is : said ≡ x = cc in
       no_grants has
-      (subst (IsAt connection grants text sent) (ap (λ (y : List ℕ). record t { turns = drop 1 t.turns; unsent = t.unsent ++ y; ended = Quit }) said_is ∙ sym step)
-      (text_told connection grants text sent t at goes (ends said) left is said Quit (refl, refl, refl) refl))
+      (subst (IsAt L connection grants text sent) (ap (λ (y : List ℕ). record t { turns = drop 1 t.turns; unsent = t.unsent ++ y; ended = Quit }) said_is ∙ sym step)
+      (text_told L connection grants text sent t at goes (ends said) left is said Quit (refl, refl, refl) refl))
+  by_left (lists scan ∷ left) is (turn.Asks w n) next has step = absurd (let same = first_is (lists scan) left (turn.Asks w n) is next in cc)
+  by_left (lists scan ∷ left) is (turn.Says x) next has step = absurd (let same = first_is (lists scan) left (turn.Says x) is next in cc)
+  by_left (lists scan ∷ left) is (turn.Tells q) next has step = absurd (let same = first_is (lists scan) left (turn.Tells q) is next in cc)
+  by_left (lists scan ∷ left) is (turn.Ends x) next has step = absurd (let same = first_is (lists scan) left (turn.Ends x) is next in cc)
+  by_left (asks wording requests ∷ left) is (turn.Lists scan) next has step = absurd step
+  by_left (says said ∷ left) is (turn.Lists scan) next has step = absurd step
+  by_left (lists other ∷ left) is (turn.Lists scan) next has step = absurd step
+  by_left (tells query ∷ left) is (turn.Lists scan) next has step = absurd step
+  by_left (ends said ∷ left) is (turn.Lists scan) next has step = absurd step
   by_left (asks wording requests ∷ left) is (turn.Says x) next has step = absurd (let same = first_is (asks wording requests) left (turn.Says x) is next in cc)
   by_left (asks wording requests ∷ left) is (turn.Ends x) next has step = absurd (let same = first_is (asks wording requests) left (turn.Ends x) is next in cc)
   by_left (says said ∷ left) is (turn.Asks w n) next has step = absurd (let same = first_is (says said) left (turn.Asks w n) is next in cc)
@@ -269,5 +278,21 @@ module _ (connection : ℕ) (grants : List Grant) (text sent : List ℕ) (t new 
   by_left (ends said ∷ left) is (turn.Asks w n) next has step = absurd (let same = first_is (ends said) left (turn.Asks w n) is next in cc)
   by_left (ends said ∷ left) is (turn.Says x) next has step = absurd (let same = first_is (ends said) left (turn.Says x) is next in cc)
 
-  pub told : (first : Turn) → t.turns ≡ first ∷ drop 1 t.turns → HasGrants connection t first its → Told first t new → IsAt connection (grants ++ its) text sent new
+  pub told : (first : Turn) → t.turns ≡ first ∷ drop 1 t.turns → HasGrants connection t first its → Told first t new → IsAt L connection (grants ++ its) text sent new
   told first next has step = by_left at.left refl first next has step
+
+  -- the first exchange is told, which asks for a page
+  page_left : (left : List Exchange) → at.left ≡ left → (l : Listing) → t.turns ≡ turn.Lists l.scan ∷ drop 1 t.turns → IsPageFor L l.scan grants l → Paged l t new → IsAt L connection grants text sent new
+  page_left [] is l next for step = absurd (let none : [] ≡ turn.Lists l.scan ∷ drop 1 t.turns = ap (λ (x : List Exchange). map turn_of x) (sym is) ∙ at.turns ∙ next in cc)
+  page_left (asks wording requests ∷ left) is l next for step = absurd (let same = first_is (asks wording requests) left (turn.Lists l.scan) is next in cc)
+  page_left (says said ∷ left) is l next for step = absurd (let same = first_is (says said) left (turn.Lists l.scan) is next in cc)
+  page_left (tells query ∷ left) is l next for step = absurd (let same = first_is (tells query) left (turn.Lists l.scan) is next in cc)
+  page_left (ends said ∷ left) is l next for step = absurd (let same = first_is (ends said) left (turn.Lists l.scan) is next in cc)
+  page_left (lists scan ∷ left) is l next for step =
+      let same : turn.Lists scan ≡ turn.Lists l.scan = first_is (lists scan) left (turn.Lists l.scan) is next in
+      let scan_is : l.scan ≡ scan = cc in
+      subst (IsAt L connection grants text sent) (sym step)
+      (text_told L connection grants text sent t at goes (lists scan) left is (listing_text l) (listing_end l) (refl, (l, record { so = for.so; its = scan_is; late = for.late }, refl, refl)) refl)
+
+  pub page_told : (l : Listing) → t.turns ≡ turn.Lists l.scan ∷ drop 1 t.turns → IsPageFor L l.scan grants l → Paged l t new → IsAt L connection grants text sent new
+  page_told l next for step = page_left at.left refl l next for step

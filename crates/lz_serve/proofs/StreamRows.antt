@@ -8,6 +8,7 @@ use Rattle.lz_proto.specs.Pieces.{Reads}
 use Rattle.lz_proto.specs.Sessions.{Answered}
 use Rattle.lz_proto.proofs.Texts.{only, some_items}
 use Rattle.lz_serve.specs.Grants.{Grant}
+use Rattle.lz_serve.specs.Listings.{Listing}
 use Rattle.lz_serve.specs.declared.stream.Received.TheVariants as received
 use Rattle.lz_serve.specs.declared.stream.Taken.TheVariants as taken
 use Rattle.lz_serve.specs.declared.language.Language.TheVariants.{Lines}
@@ -55,9 +56,9 @@ unread items (Some (reader.Frames place)) goes came = absurd came
 unread items None goes came = absurd (true≢false goes)
 
 -- something is told to a client that has sent nothing
-told_unasked : (P : List Grant → Type 0) (text : List ℕ) → MayTake P (Some (traffic [] [])) (1 ∷ text) → ⊥
-told_unasked P text (connection, t, (grants, may, at, spoken, goes), rest, begins) =
-    let s = lines_are_sessions connection grants [] [] t spoken at in
+told_unasked : (P : List Grant → Type 0) (L : Listing → Type 0) (text : List ℕ) → MayTake P L (Some (traffic [] [])) (1 ∷ text) → ⊥
+told_unasked P L text (connection, t, (grants, may, at, spoken, goes), rest, begins) =
+    let s = lines_are_sessions L connection grants [] [] t spoken at in
     let none : s.done ≡ [] = empty_front s.done s.left (unread (s.done ++ s.left) t.reader goes s.came) in
     let unsent : t.unsent ≡ [] = silent connection grants s.done t.unsent t.ended none s.answered in
     absurd (cc)

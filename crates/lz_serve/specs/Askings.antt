@@ -1,5 +1,5 @@
 -- A pass of a loop, and the request that it answers, if it answers one.
-use Rattle.std.specs.Prelude.{◌≡◌, ◌⊎◌, ◌+◌, ◌&&◌, ℕ, Bool, true, false, List, Option, Some, None, IfSome, IsSomeAnd, is_none, nat_lt}
+use Rattle.std.specs.Prelude.{◌≡◌, ◌⊎◌, ◌+◌, ◌<◌, ◌&&◌, ℕ, Bool, true, false, List, Option, Some, None, IfSome, IsSomeAnd, is_none, nat_lt}
 use Rattle.lz_slot.specs.declared.command.Command.{Command}
 use Rattle.lz_slot.specs.declared.format.Format.{Format}
 use Rattle.lz_machine.specs.Orders.{Calling}
@@ -75,6 +75,11 @@ pub record IsSameQuestion (old new : Asked) : Type 0 where
 -- it waits for slots: its next call is yet to begin, and isn't the second one, which nothing is to wait for
 abbrev pub waits_for_slots : Asked → Bool
 waits_for_slots a = is_none a.call && nat_lt 1 a.tries
+
+-- it answers another question, which came after the one before if both are of the same client
+abbrev pub IsAnother : Asked → Asked → Type 0
+IsAnother old new =
+    (question : Posed) × (new.question ≡ Some question) × ((before : Posed) → old.question ≡ Some before → new.token ≡ old.token → before.connection ≡ question.connection → before.line < question.line)
 
 -- Why a call isn't played on now; none of it asks whose call it is, or whether its client is still there.
 

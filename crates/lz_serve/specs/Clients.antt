@@ -1,20 +1,24 @@
 -- Clients as their owner sees them, and which questions are those of their lines.
-use Rattle.std.specs.Prelude.{◌≡◌, ◌≢◌, ◌⊎◌, ◌-◌, ◌<◌, ◌≤◌, ◌++◌, ℕ, suc, All, Bool, true, false, List, [], ◌∷◌, drop, map, Option, Some, None, IfSome, IsSomeAnd, slice_get}
+use Rattle.std.specs.Prelude.{◌≡◌, ◌≢◌, ◌⊎◌, ⊤, ◌-◌, ◌<◌, ◌≤◌, ◌++◌, ℕ, suc, All, Bool, true, false, List, [], ◌∷◌, drop, map, Option, Some, None, IfSome, IsSomeAnd, slice_get}
 use Rattle.std.specs.declared.snapshot.Snapshot.{Snapshot}
 use Rattle.lz_list.specs.Traces.{Trace, Begins}
 use Rattle.lz_board.specs.declared.pass.Pass.{Pass}
 use Rattle.lz_board.specs.Seats.{part}
+use Rattle.lz_resp.specs.declared.query.Query.{Query}
 use Rattle.lz_serve.specs.declared.line.Line.{Line}
+use Rattle.lz_serve.specs.declared.turn.Turn.{Turn}
+use Rattle.lz_serve.specs.declared.turn.Turn.TheVariants as turn
 use Rattle.lz_proto.specs.declared.request.Request.{Request}
 use Rattle.lz_proto.specs.declared.end.End.{End}
 use Rattle.lz_proto.specs.declared.end.End.TheVariants.{Done}
+use Rattle.lz_serve.specs.Conversations.{IsReady}
 use Rattle.lz_serve.specs.Grants.{Posed, key_asked}
 use Rattle.lz_serve.specs.Lines.{IsFree, StandsAt}
 use Rattle.lz_serve.specs.Queues.{is_in}
 
 -- The number of its connection; how many lines were handed out, and how many of them were told their replies; the others; the pass to which
--- each of these was put, as it was then; what the passes had seen that answered it; the requests that wait; and how its conversation has
--- ended, `Done` while it goes on, and whether the connection is lost.
+-- each of these was put, as it was then; what the passes had seen that answered it; the turns of the exchanges that weren't told, and the
+-- requests that wait; and how its conversation has ended, `Done` while it goes on, and whether the connection is lost.
 pub record Asker : Type 0 where
   pub connection : ℕ
   pub lines : ℕ
@@ -22,6 +26,7 @@ pub record Asker : Type 0 where
   pub under : List Line
   pub puts : List Pass
   pub seen : Trace
+  pub turns : List Turn
   pub waiting : List Request
   pub ended : End
   pub lost : Bool
@@ -49,7 +54,19 @@ KeepsOwn old new = (q : Posed) → IsOwnOf old q → IsOwnOf new q
 
 -- its lines are the same
 abbrev pub KeepsLines : Asker → Asker → Type 0
-KeepsLines old new = new ≡ record old { waiting = new.waiting; ended = new.ended; lost = new.lost }
+KeepsLines old new = new ≡ record old { turns = new.turns; waiting = new.waiting; ended = new.ended; lost = new.lost }
+
+-- a client is there where one was, whose lines are the same
+abbrev pub KeepsLinesOf : Option Asker → Option Asker → Type 0
+KeepsLinesOf None None = ⊤
+KeepsLinesOf (Some old) (Some new) = KeepsLines old new
+KeepsLinesOf old new = ⊥
+
+-- a client is there where one was, of the same connection
+abbrev pub Remains : Option Asker → Option Asker → Type 0
+Remains None None = ⊤
+Remains (Some old) (Some new) = new.connection ≡ old.connection
+Remains old new = ⊥
 
 -- It has a line for a pass: it goes on, this request waits first and may have a number, and no line under way awaits the reply for its key.
 pub record HasLine (a : Asker) : Type 0 where
@@ -72,6 +89,26 @@ IsHeard a q = q.connection ≡ a.connection → StandsAt a.told q.line q.request
 abbrev pub IsHeardOf : Option Asker → Posed → Type 0
 IsHeardOf client q = IfSome client (λ a. IsHeard a q)
 
+-- where no line awaited the reply to a question of the client's own before, none does now
+abbrev pub KeepsHeard : Option Asker → Option Asker → Type 0
+KeepsHeard old new = (q : Posed) → IsOwnOf old q → IsHeardOf old q → IsHeardOf new q
+
+-- while it goes on, its first exchange isn't one that has its replies, or asks for none
+abbrev pub HasNoReady : Asker → Type 0
+HasNoReady a = a.ended ≡ Done → (first : Turn) → a.turns ≡ first ∷ drop 1 a.turns → IsReady first a.under → ⊥
+
+-- nor one that asks the service itself
+abbrev pub HasNoQuery : Asker → Type 0
+HasNoQuery a = a.ended ≡ Done → (query : Query) → a.turns ≡ turn.Tells query ∷ drop 1 a.turns → ⊥
+
+-- It has told each exchange that may be told, unless it is lost. (A page is told once a pass has listed it.)
+abbrev pub HasTold : Asker → Type 0
+HasTold a = a.lost ≡ false → HasNoReady a × HasNoQuery a
+
+-- the client is there no more, or has told what it may where a line of it awaited this question's reply before
+abbrev pub TellsOf : Option Asker → Posed → Option Asker → Type 0
+TellsOf old q new = (IsHeardOf old q → ⊥) → IfSome new HasTold
+
 -- the client, if there is one, is of one of so many connections, and all that it has seen was seen here
 abbrev pub HasSeenIn : ℕ → Trace → Option Asker → Type 0
 HasSeenIn admitted known client = IfSome client (λ a. (a.connection ≤ admitted) × Begins a.seen known)
@@ -83,6 +120,10 @@ KeepsSeen old new = (admitted : ℕ) (known : Trace) → HasSeenIn admitted know
 -- the question is one of the client that is there
 abbrev pub IsAskedBy : Option Asker → Posed → Type 0
 IsAskedBy client q = IsSomeAnd client (λ a. (q.connection ≡ a.connection) × IsOwn a q)
+
+-- the question comes after each that is the client's own, if it is of the same connection
+abbrev pub ComesAfter : Option Asker → Posed → Type 0
+ComesAfter client question = (q : Posed) → IsOwnOf client q → q.connection ≡ question.connection → q.line < question.line
 
 -- How many clients were admitted; the client at each place, if it has one; and the places, by their tokens, that wait for their turn.
 pub record Askers : Type 0 where
@@ -99,9 +140,17 @@ pub record IsAwaited (a : Askers) (token : ℕ) (q : Posed) : Type 0 where
   pub admitted : q.connection ≤ a.admitted
   pub own : IfSome (slice_get a.clients token) (λ client. IsOwnOf client q)
 
+-- the question comes after each that is awaited by the client at this place, if it is of the same connection
+abbrev pub IsNext : Askers → ℕ → Posed → Type 0
+IsNext a token question = (q : Posed) → IsAwaited a token q → q.connection ≡ question.connection → q.line < question.line
+
 -- no line of the client at this place, if there is one, awaits the question's reply
 abbrev pub IsHeardAt : Askers → ℕ → Posed → Type 0
 IsHeardAt a token q = IfSome (slice_get a.clients token) (λ client. IsHeardOf client q)
+
+-- where a line of the client at this place awaited the reply before, that has told what it may, if it is still there
+abbrev pub TellsAt : Askers → ℕ → Posed → Askers → Type 0
+TellsAt old token q new = (IsHeardAt old token q → ⊥) → IfSome (slice_get new.clients token) (λ client. IfSome client HasTold)
 
 -- the client at this place, if there is one, has no line for a pass
 abbrev pub HasNoneAt : Askers → ℕ → Type 0
@@ -139,7 +188,12 @@ pub record OnlyLeave (old new : Askers) : Type 0 where
 abbrev pub KeepsAwaited : Askers → Askers → Type 0
 KeepsAwaited old new = (token : ℕ) (q : Posed) → IsAwaited old token q → IsAwaited new token q
 
--- Each question that was awaited is, and no client has seen more.
+-- each that was heard is
+abbrev pub KeepsReplies : Askers → Askers → Type 0
+KeepsReplies old new = (token : ℕ) (q : Posed) → IsAwaited old token q → IsHeardAt old token q → IsHeardAt new token q
+
+-- Each question that was awaited is, and heard where it was, and no client has seen more.
 pub record Keeps (old new : Askers) : Type 0 where
   pub awaited : KeepsAwaited old new
+  pub heard : KeepsReplies old new
   pub seen : (known : Trace) → HaveSeenIn old known → HaveSeenIn new known

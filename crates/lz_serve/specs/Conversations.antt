@@ -1,19 +1,23 @@
 -- Where a conversation stands.
-use Rattle.std.specs.Prelude.{◌≡◌, ◌≢◌, ◌⊎◌, ◌≤◌, ⊤, ℕ, if◌then◌else◌, List, [], ◌∷◌, ◌++◌, drop, length, map, slice_set, suc, ◌+◌, ◌-◌, take, Option, None, Some}
+use Rattle.std.specs.Prelude.{◌≡◌, ◌≢◌, ◌⊎◌, ◌≤◌, ⊤, All, ℕ, if◌then◌else◌, List, [], ◌∷◌, ◌++◌, drop, length, map, slice_set, suc, ◌+◌, ◌-◌, take, Option, None, Some}
+use Rattle.lz_list.specs.Traces.{Begins}
+use Rattle.lz_board.specs.Seats.{part}
 use Rattle.lz_proto.specs.declared.request.Request.{Request}
 use Rattle.lz_proto.specs.declared.reply.Reply.{Reply}
 use Rattle.lz_proto.specs.declared.end.End.{End}
 use Rattle.lz_proto.specs.declared.end.End.TheVariants.{Done, Quit}
 use Rattle.lz_resp.specs.declared.figures.Figures.{Figures}
 use Rattle.lz_resp.specs.declared.query.Query.{Query}
+use Rattle.lz_resp.specs.declared.scan.Scan.{Scan}
 use Rattle.lz_resp.specs.Queries.{ends_service, query_text}
 use Rattle.lz_serve.specs.declared.language.Language.{Language}
 use Rattle.lz_serve.specs.declared.line.Line.{Line}
 use Rattle.lz_serve.specs.declared.reader.Reader.{Reader}
 use Rattle.lz_serve.specs.declared.turn.Turn.{Turn}
 use Rattle.lz_serve.specs.declared.turn.Turn.TheVariants as turn
-use Rattle.lz_serve.specs.Exchanges.{CameFrom, EndsWith, Exchange, Pending, ReadsMore, adding, asks, says, tells, ends, end_by, requests_in, turn_of, unread, worded}
+use Rattle.lz_serve.specs.Exchanges.{CameFrom, EndsWith, Exchange, Pending, ReadsMore, adding, asks, says, lists, tells, ends, end_by, requests_in, turn_of, unread, worded}
 use Rattle.lz_serve.specs.Grants.{Grant, IsOfLine, key_asked}
+use Rattle.lz_serve.specs.Listings.{Listing, listing_end, listing_text}
 use Rattle.lz_serve.specs.Lines.{IsFree, StandsAt, asked_by, replied, replies_of}
 
 -- What a conversation holds: its language; what reads the client's text, none once that has ended; the turns of the exchanges that came and
@@ -50,31 +54,39 @@ replies_in grants = map (λ g. g.reply) grants
 abbrev pub query_end : Query → Figures → End
 query_end query f = if ends_service query f then Quit else Done
 
--- After so many requests of the connection an exchange was told by these grants, or by what was known of the service: this is its text, and so it
--- goes on.
-abbrev pub IsTold : ℕ → ℕ → Exchange → List Grant → List ℕ → End → Type 0
-IsTold connection told (asks wording requests) grants text ended = AreFor connection told requests grants × (text ≡ worded wording (replies_in grants)) × (ended ≡ end_by (replies_in grants))
-IsTold connection told (says said) grants text ended = (grants ≡ []) × (text ≡ said) × (ended ≡ Done)
-IsTold connection told (tells query) grants text ended = (grants ≡ []) × ((f : Figures) × (text ≡ query_text query f) × (ended ≡ query_end query f))
-IsTold connection told (ends said) grants text ended = (grants ≡ []) × (text ≡ said) × (ended ≡ Quit)
+-- The page was listed for this scan, by a pass that had seen all that those of these grants had at their answers. L is what is so of pages.
+pub record IsPageFor (L : Listing → Type 0) (scan : Scan) (before : List Grant) (l : Listing) : Type 0 where
+  pub so : L l
+  pub its : l.scan ≡ scan
+  pub late : All (λ e. Begins (part e.after).known (part l.before).known) before
+
+-- After these grants of the connection an exchange was told by those, or by a page, or by what was known of the service: this is its text, and
+-- so it goes on.
+abbrev pub IsTold : (Listing → Type 0) → ℕ → List Grant → Exchange → List Grant → List ℕ → End → Type 0
+IsTold L connection before (asks wording requests) grants text ended =
+    AreFor connection (length before) requests grants × (text ≡ worded wording (replies_in grants)) × (ended ≡ end_by (replies_in grants))
+IsTold L connection before (says said) grants text ended = (grants ≡ []) × (text ≡ said) × (ended ≡ Done)
+IsTold L connection before (lists scan) grants text ended = (grants ≡ []) × ((l : Listing) × IsPageFor L scan before l × (text ≡ listing_text l) × (ended ≡ listing_end l))
+IsTold L connection before (tells query) grants text ended = (grants ≡ []) × ((f : Figures) × (text ≡ query_text query f) × (ended ≡ query_end query f))
+IsTold L connection before (ends said) grants text ended = (grants ≡ []) × (text ≡ said) × (ended ≡ Quit)
 
 -- The exchanges were told in their order, one text after the other, each by the grants that come next. After one that has ended the
 -- conversation none is told.
-pub data AreTold : ℕ → List Exchange → List Grant → List ℕ → End → Type 0 where
-  nothing : (connection : ℕ) → AreTold connection [] [] [] Done
+pub data AreTold (L : Listing → Type 0) : ℕ → List Exchange → List Grant → List ℕ → End → Type 0 where
+  nothing : (connection : ℕ) → AreTold L connection [] [] [] Done
   more : (connection : ℕ) (exchanges : List Exchange) (grants : List Grant) (text : List ℕ) (exchange : Exchange) (its : List Grant) (said : List ℕ) (ended : End)
-      → AreTold connection exchanges grants text Done → IsTold connection (length grants) exchange its said ended
-      → AreTold connection (exchanges ++ exchange ∷ []) (grants ++ its) (text ++ said) ended
+      → AreTold L connection exchanges grants text Done → IsTold L connection grants exchange its said ended
+      → AreTold L connection (exchanges ++ exchange ∷ []) (grants ++ its) (text ++ said) ended
 
 -- All that came is this text, and this is what was sent. Of the text's exchanges the first ones were told, by these grants: their texts, in
 -- their order, are what was sent and what is to be sent. The turns and the requests are those of the others.
-pub record IsAt (connection : ℕ) (grants : List Grant) (text sent : List ℕ) (t : Talk) : Type 0 where
+pub record IsAt (L : Listing → Type 0) (connection : ℕ) (grants : List Grant) (text sent : List ℕ) (t : Talk) : Type 0 where
   pub done : List Exchange
   pub left : List Exchange
   pub came : CameFrom t.spoken text (done ++ left) t.reader
   pub turns : map turn_of left ≡ t.turns
   pub asked : requests_in left ≡ asked_by t.under ++ t.waiting
-  pub told : AreTold connection done grants (sent ++ t.unsent) t.ended
+  pub told : AreTold L connection done grants (sent ++ t.unsent) t.ended
   pub counted : length grants ≡ t.told
 
 -- no further exchange will be told
@@ -93,11 +105,17 @@ Rests t = (t.ended ≢ Done) ⊎ (t.waiting ≡ []) ⊎ ((request : Request) × 
 abbrev pub IsHeldUp : Talk → Type 0
 IsHeldUp t = (t.waiting ≢ []) × Rests t
 
--- where the turn is the first, each of its requests has its reply, and the service itself isn't asked
-abbrev pub IsReady : Turn → Talk → Type 0
-IsReady (turn.Asks wording count) t = (replies : List Reply) × (count ≤ length t.under) × (replies_of (take count t.under) ≡ Some replies)
-IsReady (turn.Tells query) t = ⊥
-IsReady other t = ⊤
+-- where the turn is the first, each of its requests has its reply among these lines, and neither a page nor the service itself is asked for
+abbrev pub IsReady : Turn → List Line → Type 0
+IsReady (turn.Asks wording count) under = (replies : List Reply) × (count ≤ length under) × (replies_of (take count under) ≡ Some replies)
+IsReady (turn.Lists scan) under = ⊥
+IsReady (turn.Tells query) under = ⊥
+IsReady other under = ⊤
+
+-- the exchange asks for keys
+abbrev pub AsksKeys : Turn → Type 0
+AsksKeys (turn.Asks wording count) = ⊤
+AsksKeys other = ⊥
 
 -- a piece more of the client's text has come
 abbrev pub Fed : List ℕ → Talk → Talk → Type 0
@@ -120,11 +138,16 @@ Noted number request reply old new =
 abbrev pub Queried : Query → Figures → Talk → Talk → Type 0
 Queried query f old new = new ≡ record old { turns = drop 1 old.turns; unsent = old.unsent ++ query_text query f; ended = query_end query f }
 
--- the first exchange was told, whose turn this is
+-- the first exchange was told, which asks for this page
+abbrev pub Paged : Listing → Talk → Talk → Type 0
+Paged l old new = new ≡ record old { turns = drop 1 old.turns; unsent = old.unsent ++ listing_text l; ended = listing_end l }
+
+-- the first exchange was told, whose turn this is, and which asks for no page
 abbrev pub Told : Turn → Talk → Talk → Type 0
 Told (turn.Asks wording count) old new =
     (replies : List Reply) × (count ≤ length old.under) × (replies_of (take count old.under) ≡ Some replies)
     × (new ≡ record old { turns = drop 1 old.turns; told = old.told + count; under = drop count old.under; unsent = old.unsent ++ worded wording replies; ended = end_by replies })
 Told (turn.Says text) old new = new ≡ record old { turns = drop 1 old.turns; unsent = old.unsent ++ text }
+Told (turn.Lists scan) old new = ⊥
 Told (turn.Tells query) old new = (f : Figures) × Queried query f old new
 Told (turn.Ends text) old new = new ≡ record old { turns = drop 1 old.turns; unsent = old.unsent ++ text; ended = Quit }

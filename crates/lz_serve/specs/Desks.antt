@@ -1,10 +1,10 @@
 -- What a loop works at: its clients, its passes, and the calls under way. One of several passes makes no call, and meets the others.
-use Rattle.std.specs.Prelude.{◌≡◌, ◌+◌, ◌≤◌, ℕ, All, List, [], Option, Some, None, IfSome, length}
+use Rattle.std.specs.Prelude.{◌≡◌, ◌⊎◌, ◌+◌, ◌≤◌, ℕ, All, List, [], Option, Some, None, IfSome, length}
 use Rattle.lz_list.specs.Traces.{Trace}
 use Rattle.lz_board.specs.Seats.{part}
 use Rattle.lz_set.specs.declared.underway.Stage.{Stage}
-use Rattle.lz_serve.specs.Askings.{Asked}
-use Rattle.lz_serve.specs.Clients.{Askers, HaveSeenIn, IsAwaited}
+use Rattle.lz_serve.specs.Askings.{Asked, IsAnother}
+use Rattle.lz_serve.specs.Clients.{Askers, HaveSeenIn, IsAwaited, IsHeardAt}
 use Rattle.lz_serve.specs.Grants.{Posed}
 
 -- How many passes were taken in, for how many there is room, and how many answer nothing; and where each call under way stands.
@@ -25,6 +25,14 @@ pub record IsCalled (a : Askers) (meeting : Option Trace) (asked : Asked) : Type
   pub asks : asked.question ≡ Some question
   pub awaited : IsAwaited a asked.token question
   pub knows : Knows a meeting (part question.before).known
+
+-- the client of its token, if it is still there, has the reply to its question
+abbrev pub IsReplied : Askers → Asked → Type 0
+IsReplied a asked = IfSome asked.question (IsHeardAt a asked.token)
+
+-- one more call is to be made for its question, or that has its reply and it answers another
+abbrev pub GoesAnew : Askers → Asked → Asked → Type 0
+GoesAnew a old new = (new.tries ≡ old.tries + 1) ⊎ (IsReplied a old × IsAnother old new)
 
 -- how many these are
 abbrev pub count_of : {X : Type 0} → Option X → ℕ

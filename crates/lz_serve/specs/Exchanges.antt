@@ -16,6 +16,7 @@ use Rattle.lz_resp.specs.declared.item.Item.{Item as FrameItem}
 use Rattle.lz_resp.specs.declared.item.Item.TheVariants as frame
 use Rattle.lz_resp.specs.declared.naming.Naming.{Naming}
 use Rattle.lz_resp.specs.declared.query.Query.{Query}
+use Rattle.lz_resp.specs.declared.scan.Scan.{Scan}
 use Rattle.lz_resp.specs.Keys.{at_first}
 use Rattle.lz_resp.specs.Pieces.{Feeds as FeedsFrames, Items as FrameItems, Reads as ReadsFrames, start}
 use Rattle.lz_resp.specs.Replies.{is_halted, text_of}
@@ -28,10 +29,11 @@ use Rattle.lz_serve.specs.declared.turn.Turn.TheVariants as turn
 use Rattle.lz_serve.specs.declared.reader.Reader.{Reader}
 use Rattle.lz_serve.specs.declared.reader.Reader.TheVariants as reader
 
--- Requests whose replies are worded so; a text, and nothing is asked; what is asked of the service itself; or a text after which nothing comes.
+-- Requests whose replies are worded so; a text, and nothing is asked; a page that is asked for; what is asked of the service itself; or a text after which nothing comes.
 pub data Exchange : Type 0 where
   asks : Wording → List Request → Exchange
   says : List ℕ → Exchange
+  lists : Scan → Exchange
   tells : Query → Exchange
   ends : List ℕ → Exchange
 
@@ -45,6 +47,7 @@ of_line (line.Faulty bad) = says (bad_text bad)
 abbrev pub of_frame : FrameItem → Exchange
 of_frame (frame.Asks form requests) = asks (Frame form) requests
 of_frame (frame.Says text) = says text
+of_frame (frame.Lists scan) = lists scan
 of_frame (frame.Tells query) = tells query
 of_frame (frame.Ends text) = ends text
 
@@ -52,6 +55,7 @@ of_frame (frame.Ends text) = ends text
 abbrev pub turn_of : Exchange → Turn
 turn_of (asks wording requests) = turn.Asks wording (length requests)
 turn_of (says text) = turn.Says text
+turn_of (lists scan) = turn.Lists scan
 turn_of (tells query) = turn.Tells query
 turn_of (ends text) = turn.Ends text
 
@@ -60,6 +64,7 @@ abbrev pub requests_in : List Exchange → List Request
 requests_in [] = []
 requests_in (asks wording requests ∷ exchanges) = requests ++ requests_in exchanges
 requests_in (says text ∷ exchanges) = requests_in exchanges
+requests_in (lists scan ∷ exchanges) = requests_in exchanges
 requests_in (tells query ∷ exchanges) = requests_in exchanges
 requests_in (ends text ∷ exchanges) = requests_in exchanges
 

@@ -7,6 +7,7 @@ use Rattle.lz_proto.specs.declared.request.Request.TheVariants.{Add, Remove, Has
 use Rattle.lz_proto.specs.declared.reply.Reply.{Reply}
 use Rattle.lz_board.specs.declared.pass.Pass.{Pass}
 use Rattle.lz_board.specs.Seats.{BoardId, part}
+use Rattle.lz_serve.specs.Listings.{IsListing, Listing}
 use Rattle.lz_serve.specs.Replies.{SeatAnswers}
 
 -- A request as it was put: the numbers of its connection and of the line there, the pass that is to answer as it was then, and whether an
@@ -59,6 +60,8 @@ AreInTurn (e ∷ grants) = All (λ g. IsAfter e g) grants × AreInTurn grants
 abbrev pub AreGranted : BoardId → Format → List Grant → Type 0
 AreGranted b F grants = All (IsGrant b F) grants × AreInTurn grants
 
--- It holds of no grants, and of those of which it holds with one more that a pass of this board gives and that comes after them.
-abbrev pub Promises : BoardId → Format → (List Grant → Type 0) → Type 0
-Promises b F P = P [] × ((grants : List Grant) (g : Grant) → P grants → IsGrant b F g → IsLater grants g → P (grants ++ g ∷ []))
+-- P holds of no grants, and of those of which it holds with one more that a pass of this board gives and that comes after them; L of what
+-- a pass of this board lists.
+abbrev pub Promises : BoardId → Format → (List Grant → Type 0) → (Listing → Type 0) → Type 0
+Promises b F P L =
+    P [] × ((grants : List Grant) (g : Grant) → P grants → IsGrant b F g → IsLater grants g → P (grants ++ g ∷ [])) × ((l : Listing) → IsListing b l → L l)

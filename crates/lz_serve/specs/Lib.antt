@@ -7,6 +7,7 @@ pub mod Grants
 pub mod OwnLines
 pub mod Askings
 pub mod Lines
+pub mod Listings
 pub mod Exchanges
 pub mod Conversations
 pub mod LineSessions

@@ -11,6 +11,7 @@ use Rattle.lz_serve.specs.declared.reader.Reader.{Reader}
 use Rattle.lz_serve.specs.declared.reader.Reader.TheVariants as reader
 use Rattle.lz_serve.specs.Conversations.{IsAt, Talk}
 use Rattle.lz_serve.specs.Grants.{Grant, IsOfLine}
+use Rattle.lz_serve.specs.Listings.{Listing}
 
 -- One reply more was granted: this one, to this request, which is the line after as many as were granted replies before, on this connection.
 abbrev pub IsGranted : ℕ → List Grant → Request → Reply → List Grant → Type 0
@@ -31,6 +32,6 @@ pub record IsSession (connection : ℕ) (grants : List Grant) (text sent : List 
   pub many : length left ≡ length t.turns
   pub answered : Answered (IsGranted connection) [] done grants (sent ++ t.unsent) t.ended
 
--- A conversation of lines stands within a session.
-abbrev pub LinesAreSessions : Type 0
-LinesAreSessions = (connection : ℕ) (grants : List Grant) (text sent : List ℕ) (t : Talk) → t.spoken ≡ Lines → IsAt connection grants text sent t → IsSession connection grants text sent t
+-- A conversation of lines stands within a session, whatever is so of pages.
+abbrev pub LinesAreSessions : (Listing → Type 0) → Type 0
+LinesAreSessions L = (connection : ℕ) (grants : List Grant) (text sent : List ℕ) (t : Talk) → t.spoken ≡ Lines → IsAt L connection grants text sent t → IsSession connection grants text sent t

@@ -2,6 +2,7 @@
 use Rattle.std.specs.Prelude.{◌≡◌, ℕ, Bool, true, false, List, [], ◌++◌, take, ⊤, Option, None, Some, is_none}
 use Rattle.lz_serve.specs.declared.language.Language.{Language}
 use Rattle.lz_serve.specs.Grants.{Grant}
+use Rattle.lz_serve.specs.Listings.{Listing}
 use Rattle.lz_serve.specs.Conversations.{IsAt, Talk}
 use Rattle.lz_serve.specs.declared.stream.Received.{Received}
 use Rattle.lz_serve.specs.declared.stream.Received.TheVariants as received
@@ -41,15 +42,15 @@ Takes (Some t) after taken.Later text = after ≡ Some t
 Takes (Some t) after taken.Failed text = after ≡ Some t
 
 -- The conversation is that of the stream, in its language: it came of all that was received, all that it told was taken or is still to be
--- sent, and each of its replies was granted to its request on this connection, in an order that is promised.
-abbrev pub IsTalkOf : (List Grant → Type 0) → ℕ → Option Traffic → Talk → Type 0
-IsTalkOf P connection None t = ⊤
-IsTalkOf P connection (Some traffic) t =
-    (grants : List Grant) × P grants × IsAt connection grants traffic.received traffic.taken t × (t.spoken ≡ traffic.spoken) × (is_none t.reader ≡ traffic.ended)
+-- sent, and each of its replies was granted to its request on this connection, in an order that is promised, and each page listed as is promised.
+abbrev pub IsTalkOf : (List Grant → Type 0) → (Listing → Type 0) → ℕ → Option Traffic → Talk → Type 0
+IsTalkOf P L connection None t = ⊤
+IsTalkOf P L connection (Some traffic) t =
+    (grants : List Grant) × P grants × IsAt L connection grants traffic.received traffic.taken t × (t.spoken ≡ traffic.spoken) × (is_none t.reader ≡ traffic.ended)
 
 -- the text is the next to be sent in a conversation of the stream, on one connection
-abbrev pub MayTake : (List Grant → Type 0) → Option Traffic → List ℕ → Type 0
-MayTake P traffic text = (connection : ℕ) × (t : Talk) × IsTalkOf P connection traffic t × (rest : List ℕ) × (t.unsent ≡ text ++ rest)
+abbrev pub MayTake : (List Grant → Type 0) → (Listing → Type 0) → Option Traffic → List ℕ → Type 0
+MayTake P L traffic text = (connection : ℕ) × (t : Talk) × IsTalkOf P L connection traffic t × (rest : List ℕ) × (t.unsent ≡ text ++ rest)
 
 -- nothing has come and nothing was sent yet
 abbrev pub IsFresh : Option Traffic → Type 0

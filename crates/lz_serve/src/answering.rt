@@ -4,8 +4,8 @@ ghost use Rattle.lz_list.specs.Traces.{Begins};
 ghost use Rattle.lz_board.specs.Seats.{part};
 ghost use Rattle.lz_set.specs.declared.underway.Stage.TheVariants as stage;
 ghost use Rattle.lz_serve.specs.Askings.{IsBeforeSync, IsBusy, WaitsForSlots, waits_for_slots};
-ghost use Rattle.lz_serve.specs.Clients.{HaveSeenIn, IsAwaited, Keeps, KeepsAwaited};
-ghost use Rattle.lz_serve.specs.Desks.{IsCalled, Knows};
+ghost use Rattle.lz_serve.specs.Clients.{HaveSeenIn, IsAwaited, IsNext, Keeps, KeepsAwaited};
+ghost use Rattle.lz_serve.specs.Desks.{GoesAnew, IsCalled, IsReplied, Knows};
 ghost use Rattle.lz_serve.specs.Grants.{Posed, Promises};
 
 use crate::asking::Asking;
@@ -51,14 +51,16 @@ where
     B: Given,
     R: Wait,
     O: Observer,
-    requires promised { Promises N.board N.format S.promised }
+    requires promised { Promises N.board N.format S.promised S.listed }
     requires called { IsCalled crowd.old (option_map (λ free. (part free.pass).known) meeting.old) asking.old }
     requires met { IfSome meeting.old (λ free. HaveSeenIn crowd.old (part free.pass).known) }
     ensures kept { KeepsAwaited crowd.old crowd.new }
     ensures met { IfSome meeting.new (λ free. HaveSeenIn crowd.new (part free.pass).known) }
     ensures none { (meeting.new ≡ None) ↔ (meeting.old ≡ None) }
     ensures waits { result ≡ Next.Waits → WaitsForSlots tries asking.old asking.new ⊎ IsBusy asking.old asking.new ⊎ IsSomeAnd kept.new (λ l. IsBeforeSync l.yard asking.new) }
+    ensures anew { result ≡ Next.GoesOn → GoesAnew crowd.new asking.old asking.new }
     ensures goes { result ≢ Next.Rests → IsCalled crowd.new (option_map (λ free. (part free.pass).known) meeting.new) asking.new }
+    ensures replied { result ≡ Next.Rests → IsReplied crowd.new asking.old }
     ensures rests { result ≡ Next.Rests → (asking.new.question ≡ None) × HaveSeenIn crowd.new (part asking.new.pass).known }
 {
     if asking.waits() && !tries {
@@ -92,7 +94,7 @@ where
     B: Given,
     R: Wait,
     O: Observer,
-    requires promised { Promises N.board N.format S.promised }
+    requires promised { Promises N.board N.format S.promised S.listed }
     requires stands { asking.old.stage ≡ Some stage.Answers }
     requires called { IsCalled crowd.old (option_map (λ free. (part free.pass).known) meeting.old) asking.old }
     requires met { IfSome meeting.old (λ free. HaveSeenIn crowd.old (part free.pass).known) }
@@ -100,7 +102,9 @@ where
     ensures met { IfSome meeting.new (λ free. HaveSeenIn crowd.new (part free.pass).known) }
     ensures none { (meeting.new ≡ None) ↔ (meeting.old ≡ None) }
     ensures waits { result ≡ Next.Waits → (waits_for_slots asking.new ≡ true) × (asking.new.tries ≡ asking.old.tries + 1) }
+    ensures anew { result ≡ Next.GoesOn → GoesAnew crowd.new asking.old asking.new }
     ensures goes { result ≢ Next.Rests → IsCalled crowd.new (option_map (λ free. (part free.pass).known) meeting.new) asking.new }
+    ensures replied { result ≡ Next.Rests → IsReplied crowd.new asking.old }
     ensures rests { result ≡ Next.Rests → (asking.new.question ≡ None) × HaveSeenIn crowd.new (part asking.new.pass).known }
 {
     let token = asking.token();
@@ -164,6 +168,7 @@ where
     requires rests { asking.old.question ≡ None }
     requires seen { HaveSeenIn crowd.old (part asking.old.pass).known }
     ensures kept { Keeps crowd.old crowd.new }
+    ensures later { result ≡ true → IfSome asking.new.question (IsNext crowd.old asking.new.token) }
     ensures begun { result ≡ true → (question : Posed) × (asking.new.question ≡ Some question) × (question.before ≡ asking.old.pass) × IsAwaited crowd.new asking.new.token question }
     ensures rests { result ≡ false → asking.new ≡ asking.old }
 {
@@ -196,7 +201,7 @@ where
     B: Given,
     R: Wait + Clock,
     O: Observer,
-    requires promised { Promises N.board N.format S.promised }
+    requires promised { Promises N.board N.format S.promised S.listed }
     requires seen { HaveSeenIn crowd.old (part free.old.pass).known }
     ensures kept { KeepsAwaited crowd.old crowd.new }
     ensures seen { HaveSeenIn crowd.new (part free.new.pass).known }

@@ -1,21 +1,21 @@
-//! One client, and the questions that its lines put.
-ghost use Rattle.std.specs.Prelude.{◌≡◌, ◌≢◌, ◌↔◌, ◌+◌, ◌≤◌, ◌<◌, ◌++◌, [], ◌∷◌, IfSome, IsTrue, List, None, Some, false, length, true};
+//! One client.
+ghost use Rattle.std.specs.Prelude.{◌≡◌, ◌<◌, ◌++◌, [], ◌∷◌, List, None, Some, false, length, true};
 ghost use Rattle.lz_list.specs.Traces.{Begins};
 ghost use Rattle.lz_board.specs.Seats.{part};
 ghost use Rattle.lz_proto.specs.declared.end.End.TheVariants.{Done};
-ghost use Rattle.lz_serve.specs.Clients.{HasLine, IsHeard, IsOwn, KeepsLines, KeepsOwn};
-ghost use Rattle.lz_serve.specs.Grants.{Grant, IsGrant, IsLater, Posed, key_asked};
-ghost use Rattle.lz_serve.specs.Lines.{IsFree, awaited};
-ghost use Rattle.lz_serve.specs.Replies.{command_of};
+ghost use Rattle.lz_serve.specs.Clients.{HasLine, HasNoQuery, HasNoReady, HasTold, IsHeard, IsOwn, KeepsLines, KeepsOwn, TellsOf};
+ghost use Rattle.lz_serve.specs.Grants.{Grant, IsGrant, IsLater, Posed};
 ghost use Rattle.lz_serve.specs.Streams.{IsFresh};
+
+mod page;
+mod question;
 
 use crate::asking::Granted;
 use crate::conversation::{Conversation, pass_over};
 use crate::observer::Observer;
 use crate::stream::{Received, Stream, Taken};
-use lz_proto::Request;
 use lz_set::{Named, Pass};
-use lz_slot::Command;
+pub use question::Question;
 use std::alloc::Global;
 use std::collections::VecDeque;
 use std::marker::Model;
@@ -28,96 +28,6 @@ const LITTLE: usize = 1_024;
 
 /// How many bytes are to be sent at most while lines of the client still wait: its replies go out together.
 const HELD: usize = 256;
-
-/// A request with the number of its connection and that of its line there. Contracts see the pass that is to answer it too, as it was
-/// when the question was put. It can't be copied, and a reply to it uses it up.
-#[derive(Drop)]
-pub struct Question {
-    connection: u64,
-    line: u64,
-    request: Request,
-    before: Snapshot<Pass>,
-    /// An earlier line of its connection wasn't answered when it was put.
-    earlier: bool,
-}
-
-impl Model for Question {
-    ghost use Rattle.std.specs.Prelude.{◌≡◌, ◌≢◌, ◌<◌, true};
-    ghost use Rattle.lz_proto.specs.declared.request.Request.TheVariants.{Quit};
-    ghost use Rattle.lz_serve.specs.Grants.{Posed};
-
-    ghost Value = { Posed };
-
-    ghost view = { λ q. record { connection = q.connection; line = q.line; request = q.request; before = q.before.value; earlier = q.earlier } };
-
-    ghost invariant = { λ q. (q.request ≢ Quit) × (q.earlier ≡ true → 1 < q.line) };
-}
-
-impl Question {
-    // The line of this number on a connection is put to a pass. Nobody but the client of that connection makes one, and one for each line.
-    fn new(connection: u64, line: u64, request: Request, pass: &Pass, earlier: bool) -> Question
-        requires asks { request ≢ Request.Quit }
-        requires later { earlier ≡ true → 1 < line }
-        ensures { result ≡ record { connection = connection; line = line; request = request; before = pass.now; earlier = earlier } }
-    {
-        Question {
-            connection,
-            line,
-            request,
-            before: Snapshot::of(pass),
-            earlier,
-        }
-    }
-
-    /// A request is put to a pass that is of no connection.
-    pub fn of_none(request: Request, pass: &Pass) -> Question
-        requires { request ≢ Request.Quit }
-        ensures { result ≡ record { connection = 0; line = 0; request = request; before = pass.now; earlier = false } }
-    {
-        Question::new(0, 0, request, pass, false)
-    }
-
-    /// The number of its connection; 0 where it is of none.
-    pub(crate) fn connection(&self) -> u64
-        ensures { result ≡ self.now.connection }
-    {
-        self.connection
-    }
-
-    /// The number of its line on that connection.
-    pub(crate) fn line(&self) -> u64
-        ensures { result ≡ self.now.line }
-    {
-        self.line
-    }
-
-    /// What is asked.
-    pub fn request(&self) -> Request
-        ensures request { result ≡ self.now.request }
-        ensures asks { result ≢ Request.Quit }
-    {
-        self.request
-    }
-
-    /// Whether an earlier line of its connection wasn't answered when it was put.
-    pub(crate) fn earlier(&self) -> bool
-        ensures { result ≡ self.now.earlier }
-    {
-        self.earlier
-    }
-
-    /// The command that it asks for.
-    pub(crate) fn command(&self) -> Command
-        ensures { command_of self.now.request ≡ Some result }
-    {
-        match self.request {
-            Request::Add(key) => Command::Add(key),
-            Request::Remove(key) => Command::Remove(key),
-            Request::Has(key) => Command::Has(key),
-            Request::Quit => unreachable!(),
-        }
-    }
-}
 
 /// A connection with its conversation. What is sent on it is what the conversation tells.
 #[derive(Drop)]
@@ -145,11 +55,11 @@ impl<S: Stream> Model for Client<S> {
 
     ghost Value = { Asker };
 
-    ghost view = { λ c. record { connection = c.connection; lines = c.talk.told + length c.talk.under; told = c.talk.told; under = c.talk.under; puts = passes_of c.puts.items; seen = seen_by c.seen; waiting = c.talk.waiting; ended = c.talk.ended; lost = c.lost } };
+    ghost view = { λ c. record { connection = c.connection; lines = c.talk.told + length c.talk.under; told = c.talk.told; under = c.talk.under; puts = passes_of c.puts.items; seen = seen_by c.seen; turns = c.talk.turns; waiting = c.talk.waiting; ended = c.talk.ended; lost = c.lost } };
 
     ghost invariant = { λ c. (c.ended ≡ false → IsSome c.talk.reader)
         × AreEarned S.promised (seen_by c.seen) c.connection c.talk.told c.talk.under (passes_of c.puts.items)
-        × (c.lost ≡ false → IsTalkOf (AreBefore S.promised (seen_by c.seen) c.talk.under (passes_of c.puts.items)) c.connection (S.traffic c.stream) c.talk)
+        × (c.lost ≡ false → IsTalkOf (AreBefore S.promised (seen_by c.seen) c.talk.under (passes_of c.puts.items)) S.listed c.connection (S.traffic c.stream) c.talk)
         × (c.held ≡ true → c.lost ≡ false → IsHeldUp c.talk) };
 }
 
@@ -158,7 +68,7 @@ impl<S: Stream> Client<S> {
     pub fn new(alloc: Global, number: u64, stream: S) -> Client<S>
         requires fresh { IsFresh (S.traffic stream) }
         requires promised { S.promised [] }
-        ensures { result ≡ record { connection = number; lines = 0; told = 0; under = []; puts = []; seen = []; waiting = []; ended = Done; lost = false } }
+        ensures { result ≡ record { connection = number; lines = 0; told = 0; under = []; puts = []; seen = []; turns = []; waiting = []; ended = Done; lost = false } }
     {
         let language = stream.language();
         Client {
@@ -236,49 +146,6 @@ impl<S: Stream> Client<S> {
         }
     }
 
-    /// The next line, if one has come, as a question to this pass. It is under way then, beside those before it; one waits until those
-    /// that asked for the same key were answered. The pass has seen what those had that answered the client.
-    pub fn ask(&mut self, pass: &Pass) -> Option<Question>
-        requires { Begins self.old.seen (part pass.now).known }
-        ensures asked { IfSome result (λ question. self.new.under ≡ self.old.under ++ awaited question.request ∷ []) }
-        ensures free { IfSome result (λ question. IsFree self.old.under (key_asked question.request)) }
-        ensures before { IfSome result (λ question. question.before ≡ pass.now) }
-        ensures earlier { IfSome result (λ question. IsTrue question.earlier ↔ (self.old.under ≢ [])) }
-        ensures number { IfSome result (λ question. (question.connection ≡ self.new.connection) × (question.line ≡ self.new.lines)) }
-        ensures lines { IfSome result (λ question. self.new.lines ≡ self.old.lines + 1) }
-        ensures connection { self.new.connection ≡ self.old.connection }
-        ensures own { IfSome result (λ question. IsOwn self.new question) }
-        ensures kept { KeepsOwn (Some self.old) (Some self.new) }
-        ensures seen { self.new.seen ≡ self.old.seen }
-        ensures lines_kept { result ≡ None → KeepsLines self.old self.new }
-        ensures none { result ≡ None → HasLine self.new → ⊥ }
-    {
-        if self.lost {
-            return None;
-        }
-        let Ok(()) = self.puts.reserve(1) else {
-            self.lost = true;
-            return None;
-        };
-        let earlier = self.talk.told() < self.talk.lines();
-        match self.talk.next() {
-            Ok(Some(request)) => {
-                self.held = false;
-                let line = self.talk.lines();
-                self.puts.push_back_reserved(Snapshot::of(pass));
-                Some(Question::new(self.connection, line, request, pass, earlier))
-            }
-            Ok(None) => {
-                self.held = self.talk.waits();
-                None
-            }
-            Err(_) => {
-                self.lost = true;
-                None
-            }
-        }
-    }
-
     /// Takes the reply that was granted to a line of its own that awaits one, and no other, and tells those that no earlier line
     /// holds up. This pass has seen what those had that answered the client, this reply included.
     pub fn reply<N: Named, O: Observer>(&mut self, granted: Granted<N>, pass: &Pass, observer: &O)
@@ -290,6 +157,7 @@ impl<S: Stream> Client<S> {
         ensures lines { self.new.lines ≡ self.old.lines }
         ensures kept { KeepsOwn (Some self.old) (Some self.new) }
         ensures heard { IsHeard self.new granted.question }
+        ensures told { TellsOf (Some self.old) granted.question (Some self.new) }
         ensures seen { self.new.seen ≡ (part pass.now).known }
     {
         self.seen = Some(Snapshot::of(pass));
@@ -309,7 +177,7 @@ impl<S: Stream> Client<S> {
         ensures { KeepsLines self.old self.new }
     {
         'turns: for _ in 0..u64::MAX {
-            if !self.tell_text() && !self.tell_query(observer) {
+            if !self.talk.has_text() || !self.tell_text() && !self.tell_query(observer) {
                 return;
             }
         }
@@ -333,7 +201,9 @@ impl<S: Stream> Client<S> {
 
     // Tells the first exchange, if it asks the service itself, and says whether it did.
     fn tell_query<O: Observer>(&mut self, observer: &O) -> bool
-        ensures { KeepsLines self.old self.new }
+        ensures lines { KeepsLines self.old self.new }
+        ensures fewer { result ≡ true → length self.new.turns < length self.old.turns }
+        ensures rests { result ≡ false → self.new.lost ≡ false → (self.new ≡ self.old) × HasNoQuery self.old }
     {
         if self.lost {
             return false;
@@ -360,13 +230,23 @@ impl<S: Stream> Client<S> {
         ensures lines { self.new.lines ≡ self.old.lines }
         ensures kept { KeepsOwn (Some self.old) (Some self.new) }
         ensures heard { (q : Posed) → IsHeard self.old q → IsHeard self.new q }
+        ensures told { HasTold self.new }
         ensures seen { self.new.seen ≡ self.old.seen }
     {
-        'turns: for _ in 0..u64::MAX {
-            if !self.tell() && !self.tell_query(observer) {
-                return;
-            }
-        }
+        'turns: while self.tell_one(observer) {}
+    }
+
+    // Tells the first exchange, if it can be told, and says whether it did.
+    fn tell_one<O: Observer>(&mut self, observer: &O) -> bool
+        ensures connection { self.new.connection ≡ self.old.connection }
+        ensures lines { self.new.lines ≡ self.old.lines }
+        ensures kept { KeepsOwn (Some self.old) (Some self.new) }
+        ensures heard { (q : Posed) → IsHeard self.old q → IsHeard self.new q }
+        ensures seen { self.new.seen ≡ self.old.seen }
+        ensures fewer { result ≡ true → length self.new.turns < length self.old.turns }
+        ensures told { result ≡ false → HasTold self.new }
+    {
+        !self.talk.has_told() && (self.tell() || self.tell_query(observer))
     }
 
     // Tells the first exchange, if its requests have their replies, and says whether it did.
@@ -376,6 +256,9 @@ impl<S: Stream> Client<S> {
         ensures kept { KeepsOwn (Some self.old) (Some self.new) }
         ensures heard { (q : Posed) → IsHeard self.old q → IsHeard self.new q }
         ensures seen { self.new.seen ≡ self.old.seen }
+        ensures fewer { result ≡ true → length self.new.turns < length self.old.turns }
+        ensures same { result ≡ false → self.new.turns ≡ self.old.turns }
+        ensures rests { result ≡ false → self.new.lost ≡ false → (self.new ≡ self.old) × HasNoReady self.old }
     {
         if self.lost {
             return false;
@@ -425,7 +308,7 @@ impl<S: Stream> Client<S> {
 
     /// Whether what is unsent is held back: lines wait, whose replies are to go out with it.
     pub(crate) fn holds_back(&self) -> bool {
-        self.waits() && !self.talk.is_over() && self.talk.unsent().len() < HELD
+        self.waits() && !self.lists() && !self.talk.is_over() && self.talk.unsent().len() < HELD
     }
 
     /// Whether nothing more is to be told.
@@ -435,7 +318,7 @@ impl<S: Stream> Client<S> {
 
     /// Whether there is more to do for it before it is read again.
     pub(crate) fn is_occupied(&self) -> bool {
-        self.is_over() || self.has_unsent() || self.waits()
+        self.is_over() || self.has_unsent() || self.waits() || self.lists()
     }
 
     /// Where it has nothing to do, it keeps no more room than a little.

@@ -3,9 +3,11 @@ ghost use Rattle.std.specs.Prelude.{◌≡◌, ◌≢◌, ◌↔◌, ◌⊎◌, 
 ghost use Rattle.lz_resp.specs.declared.query.Query.{Query as AQuery};
 ghost use Rattle.lz_serve.specs.declared.line.Line.{Line as ALine};
 ghost use Rattle.lz_serve.specs.declared.turn.Turn.{Turn as ATurn};
-ghost use Rattle.lz_serve.specs.Conversations.{Fed, Finished, IsOver, IsReady, Noted, Queried, Rests, Told, nothing_yet};
+ghost use Rattle.lz_serve.specs.Conversations.{AsksKeys, Fed, Finished, IsOver, IsReady, Noted, Queried, Rests, Told, nothing_yet};
 ghost use Rattle.lz_serve.specs.Grants.{key_asked};
 ghost use Rattle.lz_serve.specs.Lines.{IsFree, StandsAt, awaited, replied};
+
+mod page;
 
 use crate::exchanges::Exchanges;
 use crate::language::Language;
@@ -131,11 +133,11 @@ impl Conversation {
     }
 
     /// Tells the first exchange that wasn't told, if its requests have their replies, and says whether they do. `Halted` ends the
-    /// conversation, and so does `quit`. What is asked of the service itself is told by `tell_query`.
+    /// conversation, and so does `quit`. What is asked of the service itself is told by `tell_query`, a page by `tell_page`.
     pub fn tell(&mut self) -> Result<bool, AllocError>
         ensures told { IfOk result (λ told. told ≡ true → (turn : ATurn) × (self.old.turns ≡ turn ∷ drop 1 self.old.turns) × (self.old.ended ≡ End.Done) × Told turn self.old self.new) }
         ensures none { IfOk result (λ told. told ≡ false → self.new ≡ self.old) }
-        ensures rests { IfOk result (λ told. told ≡ false → self.old.ended ≡ End.Done → (turn : ATurn) → self.old.turns ≡ turn ∷ drop 1 self.old.turns → IsReady turn self.old → ⊥) }
+        ensures rests { IfOk result (λ told. told ≡ false → self.old.ended ≡ End.Done → (turn : ATurn) → self.old.turns ≡ turn ∷ drop 1 self.old.turns → IsReady turn self.old.under → ⊥) }
         ensures err { OnErr result (self.new ≡ record self.old { unsent = self.new.unsent }) }
     {
         let turn = match (self.ended, self.exchanges.first()) {
@@ -152,7 +154,7 @@ impl Conversation {
                 self.exchanges.pass();
                 Ok(true)
             }
-            Turn::Tells(_) => Ok(false),
+            Turn::Lists(_) | Turn::Tells(_) => Ok(false),
             Turn::Ends(text) => {
                 self.text.extend_from_slice(text.as_bytes())?;
                 self.exchanges.pass();
@@ -171,6 +173,23 @@ impl Conversation {
         match self.exchanges.first() {
             Some(Turn::Says(_) | Turn::Ends(_)) => self.tell(),
             _ => Ok(false),
+        }
+    }
+
+    /// Whether each exchange that has come was told.
+    pub fn has_told(&self) -> bool
+        ensures { IsTrue result ↔ (self.now.turns ≡ []) }
+    {
+        self.exchanges.are_told()
+    }
+
+    /// Whether the first exchange that wasn't told asks for no key.
+    pub fn has_text(&self) -> bool
+        ensures { result ≡ false → (turn : ATurn) → self.now.turns ≡ turn ∷ drop 1 self.now.turns → AsksKeys turn }
+    {
+        match self.exchanges.first() {
+            Some(Turn::Says(_) | Turn::Lists(_) | Turn::Tells(_) | Turn::Ends(_)) => true,
+            Some(Turn::Asks(_, _)) | None => false,
         }
     }
 
@@ -216,7 +235,9 @@ impl Conversation {
         ensures { self.new ≡ record self.old { unsent = drop count self.old.unsent } }
     {
         let left = self.text.len() - count;
-        self.text.rotate_left(count);
+        if left > 0 {
+            self.text.rotate_left(count);
+        }
         self.text.truncate(left);
     }
 
@@ -331,7 +352,7 @@ impl Conversation {
         requires goes_on { self.old.ended ≡ End.Done }
         ensures told { IfOk result (λ told. told ≡ true → Told (Turn.Asks wording count) self.old self.new) }
         ensures none { IfOk result (λ told. told ≡ false → self.new ≡ self.old) }
-        ensures rests { IfOk result (λ told. told ≡ false → IsReady (Turn.Asks wording count) self.old → ⊥) }
+        ensures rests { IfOk result (λ told. told ≡ false → IsReady (Turn.Asks wording count) self.old.under → ⊥) }
         ensures err { OnErr result (self.new ≡ record self.old { unsent = self.new.unsent }) }
     {
         if !gather(&self.under, count, &mut self.replies)? {

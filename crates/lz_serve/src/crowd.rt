@@ -1,15 +1,18 @@
 //! The clients of the loop.
-ghost use Rattle.std.specs.Prelude.{◌≡◌, ◌≤◌, ◌⊎◌, [], All, IfOk, IfSome, None, false, slice_get, true};
+ghost use Rattle.std.specs.Prelude.{◌≡◌, ◌≤◌, ◌↔◌, ◌⊎◌, [], All, IfOk, IfSome, IsTrue, None, false, length, slice_get, true};
 ghost use Rattle.lz_list.specs.Traces.{Begins};
 ghost use Rattle.lz_board.specs.Seats.{part};
-ghost use Rattle.lz_serve.specs.Clients.{HasNoneAt, HaveSeenIn, IsAwaited, IsHeardAt, IsInTurn, Keeps, KeepsAwaited, OnlyLeave, TakesTurn, Turned};
+ghost use Rattle.lz_serve.specs.Clients.{HasNoneAt, HaveSeenIn, IsAwaited, IsHeardAt, IsInTurn, IsNext, Keeps, KeepsAwaited, OnlyLeave, TakesTurn, TellsAt, Turned};
 ghost use Rattle.lz_serve.specs.Grants.{Promises};
 ghost use Rattle.lz_serve.specs.Queues.{queued};
 ghost use Rattle.lz_serve.specs.Streams.{IsFresh};
 
+mod page;
+mod parting;
+
 use crate::asking::Granted;
 use crate::client::{Client, Question};
-use crate::moments::millis;
+use crate::clock::Clock;
 use crate::observer::Observer;
 use crate::place::{Place, Turn, Wish};
 use crate::poller::Ready;
@@ -20,14 +23,8 @@ use std::alloc::{AllocError, Global};
 use std::marker::Model;
 use std::time::Duration;
 
-/// For how many milliseconds a turn counts at most: in a longer one the loop didn't listen, and no client was silent.
-const LONGEST_TURN: u64 = 1_000;
-
 /// How many clients wait for their turn where it is worth more to send replies together than to send each at once.
 const MANY: usize = 64;
-
-/// After how many milliseconds it is looked again which clients were silent for too long.
-const TENTH: u64 = 100;
 
 /// The clients of the loop, each at a place with a number, its token. Those that have a line for a pass wait in a queue, each once. One
 /// that has more after it waits behind the others.
@@ -38,6 +35,8 @@ pub struct Crowd<S: Stream> {
     queue: Queue,
     /// Those that were answered, or had no line in their turn, and weren't tended to since.
     back: Vec<usize>,
+    /// Those that wait for a page.
+    scans: Vec<usize>,
     /// How many were admitted, and how many of these have left.
     admitted: u64,
     parted: u64,
@@ -45,11 +44,7 @@ pub struct Crowd<S: Stream> {
     leaving: usize,
     /// How many replies were given since the last sync whose clients haven't asked again.
     out: usize,
-    /// The time by its own clock, in milliseconds, and when it was looked last which clients were silent.
-    now: u64,
-    looked: u64,
-    /// The time by the system's clock, as it was noted last, in milliseconds.
-    noted: Option<u64>,
+    clock: Clock,
 }
 
 impl<S: Stream> Model for Crowd<S> {
@@ -64,12 +59,15 @@ impl<S: Stream> Model for Crowd<S> {
 impl<S: Stream> Crowd<S> {
     /// Room for so many clients at once.
     pub fn new(alloc: Global, most: usize) -> Result<Crowd<S>, AllocError>
-        ensures { IfOk result (λ crowd. HaveSeenIn crowd []) }
+        ensures places { IfOk result (λ crowd. length crowd.clients ≡ most) }
+        ensures empty { IfOk result (λ crowd. (crowd.admitted ≡ 0) × (crowd.queue ≡ [])) }
+        ensures seen { IfOk result (λ crowd. HaveSeenIn crowd []) }
     {
         let mut places = Vec::with_capacity(alloc, most)?;
         let mut vacant = Vec::with_capacity(alloc, most)?;
         let queue = Queue::new(alloc, most)?;
         let back = Vec::with_capacity(alloc, most)?;
+        let scans = Vec::with_capacity(alloc, most)?;
         for token in 0..most {
             places.push(Place::empty())?;
             vacant.push(token)?;
@@ -79,23 +77,26 @@ impl<S: Stream> Crowd<S> {
             vacant,
             queue,
             back,
+            scans,
             admitted: 0,
             parted: 0,
             leaving: 0,
             out: 0,
-            now: 0,
-            looked: 0,
-            noted: None,
+            clock: Clock::new(),
         })
     }
 
     /// How many places there are.
-    pub fn most(&self) -> usize {
+    pub fn most(&self) -> usize
+        ensures { result ≡ length self.now.clients }
+    {
         self.places.len()
     }
 
     /// How many clients were admitted.
-    pub fn admitted(&self) -> u64 {
+    pub fn admitted(&self) -> u64
+        ensures { result ≡ self.now.admitted }
+    {
         self.admitted
     }
 
@@ -110,7 +111,9 @@ impl<S: Stream> Crowd<S> {
     }
 
     /// Whether none waits for its turn.
-    pub fn is_quiet(&self) -> bool {
+    pub fn is_quiet(&self) -> bool
+        ensures { IsTrue result ↔ (self.now.queue ≡ []) }
+    {
         self.queue.is_empty()
     }
 
@@ -153,7 +156,7 @@ impl<S: Stream> Crowd<S> {
         };
         self.admitted += 1;
         let client = Client::new(alloc, self.admitted, stream);
-        place.admit(client, self.now);
+        place.admit(client, self.clock.now());
         self.tend(token, observer, buffer);
     }
 
@@ -165,7 +168,7 @@ impl<S: Stream> Crowd<S> {
         let Some(place) = self.places.get_mut(token) else {
             return;
         };
-        place.hear(ends, self.now);
+        place.hear(ends, self.clock.now());
         self.tend(token, observer, buffer);
     }
 
@@ -178,12 +181,13 @@ impl<S: Stream> Crowd<S> {
         pass: &Pass,
         observer: &O,
     )
-        requires promised { Promises N.board N.format S.promised }
+        requires promised { Promises N.board N.format S.promised S.listed }
         requires awaited { IsAwaited self.old token granted.question }
         requires seen { HaveSeenIn self.old (part pass.now).known }
         requires after { Begins (part granted.after).known (part pass.now).known }
         ensures kept { KeepsAwaited self.old self.new }
         ensures heard { IsHeardAt self.new token granted.question }
+        ensures told { TellsAt self.old token granted.question self.new }
         ensures waits { IsInTurn self.new token }
         ensures seen { HaveSeenIn self.new (part pass.now).known }
     {
@@ -191,7 +195,7 @@ impl<S: Stream> Crowd<S> {
             return;
         };
         self.out = self.out.saturating_add(1);
-        let is_next = place.reply(granted, pass, observer, self.now);
+        let is_next = place.reply(granted, pass, observer, self.clock.now());
         let is_back = place.give_back();
         self.put(token, is_next);
         self.put_back(token, is_back);
@@ -223,6 +227,7 @@ impl<S: Stream> Crowd<S> {
         requires { HaveSeenIn self.old (part pass.now).known }
         ensures before { IfSome result (λ turn. turn.1.before ≡ pass.now) }
         ensures awaited { IfSome result (λ turn. IsAwaited self.new turn.0 turn.1) }
+        ensures later { IfSome result (λ turn. IsNext self.old turn.0 turn.1) }
         ensures turn { IfSome result (λ turn. TakesTurn self.old self.new turn.0) }
         ensures none { result ≡ None → All (HasNoneAt self.new) self.old.queue × (self.new.queue ≡ []) }
         ensures kept { Keeps self.old self.new }
@@ -241,6 +246,7 @@ impl<S: Stream> Crowd<S> {
         requires { HaveSeenIn self.old (part pass.now).known }
         ensures before { IfSome result (λ turn. IfSome turn.1 (λ question. question.before ≡ pass.now)) }
         ensures awaited { IfSome result (λ turn. IfSome turn.1 (λ question. IsAwaited self.new turn.0 question)) }
+        ensures later { IfSome result (λ turn. IfSome turn.1 (IsNext self.old turn.0)) }
         ensures turned { IfSome result (λ turn. Turned self.old self.new turn.0 turn.1) }
         ensures none { result ≡ None → (self.old.queue ≡ []) × (self.new ≡ self.old) }
         ensures kept { Keeps self.old self.new }
@@ -270,6 +276,8 @@ impl<S: Stream> Crowd<S> {
         requires { HaveSeenIn self.old (part pass.now).known }
         ensures before { IfSome result (λ question. question.before ≡ pass.now) }
         ensures awaited { IfSome result (λ question. IsAwaited self.new token question) }
+        ensures later { IfSome result (IsNext self.old token) }
+        ensures none { result ≡ None → HasNoneAt self.new token }
         ensures kept { Keeps self.old self.new }
     {
         let Some(place) = self.places.get_mut(token) else {
@@ -278,70 +286,11 @@ impl<S: Stream> Crowd<S> {
         place.take_last(pass, observer, buffer)
     }
 
-    /// Notes the time by the system's clock. Its own goes on as that does, but not by more than a second at once.
+    /// Notes the time by the system's clock.
     pub fn note_time(&mut self, now: Duration)
         ensures { self.new ≡ self.old }
     {
-        let now = millis(now);
-        if let Some(passed) = self.noted.and_then(|noted| now.checked_sub(noted)) {
-            self.now = self.now.saturating_add(passed.min(LONGEST_TURN));
-        }
-        self.noted = Some(now);
-    }
-
-    /// Closes the connections on which nothing came or went for longer than so, and those of clients that don't leave, ten times in a
-    /// second.
-    pub fn close_idle(&mut self, idle: Option<Duration>)
-        ensures { Keeps self.old self.new }
-    {
-        if self.now.saturating_sub(self.looked) < TENTH {
-            return;
-        }
-        self.looked = self.now;
-        let idle = idle.map(millis);
-        for token in 0..self.places.len() {
-            if self.is_idle(token, idle) {
-                self.close(token);
-            }
-        }
-    }
-
-    // Whether the client of this token is to be closed, since it was idle for more milliseconds than so.
-    fn is_idle(&self, token: usize, idle: Option<u64>) -> bool {
-        let now = self.now;
-        let queued = self.queue.has(token);
-        self.places
-            .get(token)
-            .is_some_and(|place| place.is_idle(now, idle, queued))
-    }
-
-    /// Ends each session, once what is unsent is sent.
-    pub fn part_all<O: Observer>(&mut self, observer: &O, buffer: &mut [u8])
-        ensures { Keeps self.old self.new }
-    {
-        for token in 0..self.places.len() {
-            self.part(token, observer, buffer);
-        }
-    }
-
-    // Ends a session, once what is unsent is sent.
-    fn part<O: Observer>(&mut self, token: usize, observer: &O, buffer: &mut [u8])
-        ensures { Keeps self.old self.new }
-    {
-        let Some(place) = self.places.get_mut(token) else {
-            return;
-        };
-        place.part();
-        self.tend(token, observer, buffer);
-    }
-
-    /// Closes each connection.
-    pub fn close_all(&mut self)
-        ensures { Keeps self.old self.new }
-    {
-        for token in 0..self.places.len() {
-            self.close(token);
-        }
+        self.clock.note(now);
     }
 
     // Does for a client what needs no pass, and queues it where it wants a turn.
@@ -353,12 +302,13 @@ impl<S: Stream> Crowd<S> {
             return;
         };
         let was_leaving = place.leaves();
-        let wish = place.tend(observer, buffer, crowded, self.now);
+        let wish = place.tend(observer, buffer, crowded, self.clock.now());
         let left = place.leaves() && !was_leaving;
         self.leaving = self.leaving.saturating_add(usize::from(left));
         match wish {
             Wish::Nothing => {}
             Wish::Turn => self.put(token, true),
+            Wish::Page => self.put_scan(token),
             Wish::Close => self.close(token),
         }
     }

@@ -5,6 +5,8 @@ ghost use Rattle.lz_set.specs.declared.underway.Stage.TheVariants as stage;
 ghost use Rattle.lz_serve.specs.Clients.{HaveSeenIn, KeepsAwaited};
 ghost use Rattle.lz_serve.specs.Grants.{Promises};
 
+mod pages;
+
 use crate::answering::{Next, answer_one, begin_next, meet, play_call};
 use crate::asking::Asking;
 use crate::crowd::Crowd;
@@ -160,7 +162,7 @@ impl<S: Stream, N: Named, B: Given> Desk<S, N, B> {
         G: StepGate,
         R: Wait + Clock,
         O: Observer,
-        requires { Promises N.board N.format S.promised }
+        requires { Promises N.board N.format S.promised S.listed }
         ensures { self.new.given ≡ self.old.given }
     {
         let tries = self.tries.pass(rt.monotonic().ok());
@@ -170,6 +172,9 @@ impl<S: Stream, N: Named, B: Given> Desk<S, N, B> {
             if at >= self.calls.len() {
                 break;
             }
+            // The only pass is to rest before its next call where a client waits for a page.
+            let is_wanted = self.meeting.is_none() && self.crowd.scans() > 0;
+            let rests = self.ends || is_wanted;
             let asking = &mut self.calls[at];
             match play_call(
                 rt,
@@ -179,7 +184,7 @@ impl<S: Stream, N: Named, B: Given> Desk<S, N, B> {
                 &mut self.meeting,
                 asking,
                 observer,
-                self.ends,
+                rests,
                 tries,
             ) {
                 Next::GoesOn => {}
@@ -246,7 +251,7 @@ impl<S: Stream, N: Named, B: Given> Desk<S, N, B> {
         G: StepGate,
         R: Wait + Clock,
         O: Observer,
-        requires { Promises N.board N.format S.promised }
+        requires { Promises N.board N.format S.promised S.listed }
         ensures given { self.new.given ≡ self.old.given }
         ensures rests { self.new.free ≡ self.new.given }
     {
@@ -275,7 +280,7 @@ impl<S: Stream, N: Named, B: Given> Desk<S, N, B> {
         R: Wait + Clock,
         O: Observer,
         requires rests { self.old.free ≡ self.old.given }
-        requires promised { Promises N.board N.format S.promised }
+        requires promised { Promises N.board N.format S.promised S.listed }
         ensures given { self.new.given ≡ self.old.given }
         ensures rests { self.new.free ≡ self.new.given }
     {
@@ -316,7 +321,7 @@ impl<S: Stream, N: Named, B: Given> Desk<S, N, B> {
 
     // Whether there is something to do, with nothing heard of the connections.
     fn is_busy(&self) -> bool {
-        !self.rests() || !self.free.is_empty() && !self.crowd.is_quiet()
+        !self.rests() || self.crowd.scans() > 0 || !self.free.is_empty() && !self.crowd.is_quiet()
     }
 
     /// Whether a client was told that the service halted, or so many connections were served; 0 for no end.
@@ -361,7 +366,7 @@ where
     B: Given,
     R: Wait + Clock,
     O: Observer,
-    requires promised { Promises N.board N.format S.promised }
+    requires promised { Promises N.board N.format S.promised S.listed }
     requires seen { HaveSeenIn crowd.old (part free.old.pass).known }
     ensures kept { KeepsAwaited crowd.old crowd.new }
     ensures seen { HaveSeenIn crowd.new (part free.new.pass).known }

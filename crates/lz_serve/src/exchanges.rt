@@ -66,6 +66,7 @@ impl Exchanges {
                 self.put_requests(Wording::Frame(form), requests.as_slice())
             }
             FrameItem::Says(text) => self.put_turn(Turn::Says(text)),
+            FrameItem::Lists(scan) => self.put_turn(Turn::Lists(scan)),
             FrameItem::Tells(query) => self.put_turn(Turn::Tells(query)),
             FrameItem::Ends(text) => self.put_turn(Turn::Ends(text)),
         }

@@ -10,9 +10,12 @@ ghost use Rattle.lz_serve.specs.Halts.{IsCalmAfter, SawHalt, SeesMore};
 use crate::asking::{Granted, grant, says_halted};
 use crate::client::Question;
 use crate::given::Given;
+use crate::listed::{Listed, has_halted, list_page};
 use crate::server::Served;
 use lz_disk::Disk;
+use lz_resp::Scan;
 use lz_set::{Named, Pass, Set, StepGate};
+use std::alloc::Global;
 use std::marker::PhantomData;
 use std::sync::Wait;
 use std::time::Clock;
@@ -88,6 +91,23 @@ impl<N: Named, B: Given> FreePass<N, B> {
             self.halted = true;
         }
         granted
+    }
+
+    /// Lists a page. There is none where memory is missing.
+    pub fn list<D: Disk, G: StepGate>(
+        &mut self,
+        alloc: Global,
+        set: &Set<D, G, N>,
+        scan: Scan,
+    ) -> Option<Listed<N>>
+        ensures listed { IfSome result (λ listed. (listed.scan ≡ scan) × (listed.before ≡ self.old.pass) × (listed.after ≡ self.new.pass)) }
+        ensures grows { Begins (part self.old.pass).known (part self.new.pass).known }
+    {
+        let listed = list_page(alloc, set, &mut self.pass, scan);
+        if has_halted(&listed) {
+            self.halted = true;
+        }
+        listed
     }
 
     /// The pass, and whether a reply of it told that the service halted.

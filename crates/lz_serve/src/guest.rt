@@ -61,6 +61,8 @@ impl<O: Observer> Stream for Guest<'_, O> {
 
     ghost promised = { λ _. ⊤ };
 
+    ghost listed = { λ _. ⊤ };
+
     fn language(&self) -> Language {
         Language::Lines
     }

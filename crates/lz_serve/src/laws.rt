@@ -2,6 +2,8 @@
 ghost use Rattle.lz_serve.specs.LineSessions.{LinesAreSessions};
 ghost use Rattle.lz_serve.specs.OwnLines.{OwnLinesArePlain};
 
+use crate::stream::Stream;
+
 /// What a connection is told of keys that nobody else changes is what a plain set tells, in the order of its lines, whatever it pipelines and
 /// by whatever passes. A loop and a thread's pass grant each connection its replies so, those for one key in turn.
 pub fn own_lines_are_plain()
@@ -9,6 +11,6 @@ pub fn own_lines_are_plain()
 {}
 
 /// What is sent in a conversation of lines is the text of its session, by the replies that were granted.
-pub fn lines_are_sessions()
-    ensures { LinesAreSessions }
+pub fn lines_are_sessions<S: Stream>()
+    ensures { LinesAreSessions S.listed }
 {}

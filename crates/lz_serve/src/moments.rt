@@ -26,10 +26,3 @@ impl Moments {
         true
     }
 }
-
-/// A time in whole milliseconds.
-pub(crate) fn millis(time: Duration) -> u64 {
-    time.as_secs()
-        .saturating_mul(1_000)
-        .saturating_add(u64::from(time.subsec_millis()))
-}

@@ -160,7 +160,7 @@ where
     B: Given,
     R: Wait + Clock,
     O: Observer,
-    requires promised { Promises N.board N.format S.promised }
+    requires promised { Promises N.board N.format S.promised S.listed }
     requires seen { Begins client.old.seen (part free.old.pass).known }
 {
     let mut buffer = [0; MOST_PIECE];

@@ -2,13 +2,15 @@
 ghost use Rattle.std.specs.Prelude.{◌≡◌, ℕ, IfSome, None, Some, false};
 ghost use Rattle.lz_list.specs.Traces.{Begins};
 ghost use Rattle.lz_board.specs.Seats.{part};
-ghost use Rattle.lz_serve.specs.Clients.{HasNone, HasSeenIn, IsAskedBy, IsHeardOf, IsOwnOf, KeepsLines, KeepsOwn, KeepsSeen};
+ghost use Rattle.lz_serve.specs.Clients.{ComesAfter, HasNone, HasSeenIn, HasTold, IsAskedBy, IsHeardOf, IsOwnOf, KeepsHeard, KeepsLines, KeepsLinesOf, KeepsOwn, KeepsSeen, Remains, TellsOf};
 ghost use Rattle.lz_serve.specs.Grants.{Promises};
 
 use crate::asking::Granted;
 use crate::client::{Client, Question};
+use crate::listed::Listed;
 use crate::observer::Observer;
 use crate::stream::Stream;
+use lz_resp::Scan;
 use lz_set::{Named, Pass};
 
 /// How many pieces of one client are read in a turn, at most.
@@ -24,6 +26,8 @@ pub(crate) enum Wish {
     Nothing,
     /// Its turn: it has a request, or there may be more to read.
     Turn,
+    /// A page.
+    Page,
     /// Nothing more: its connection is to be closed.
     Close,
 }
@@ -48,6 +52,8 @@ pub(crate) struct Place<S: Stream> {
     ends: bool,
     /// It was answered, and wasn't tended to since.
     back: bool,
+    /// It waits for a page, which was noted.
+    lists: bool,
     /// Its session is to end once all is sent, whatever waits.
     parts: bool,
     /// Its session is over, and what it still sends is thrown away.
@@ -65,6 +71,7 @@ impl<S: Stream> Place<S> {
             readable: false,
             ends: false,
             back: false,
+            lists: false,
             parts: false,
             leaves: false,
             moved: 0,
@@ -79,6 +86,7 @@ impl<S: Stream> Place<S> {
         self.readable = true;
         self.ends = false;
         self.back = false;
+        self.lists = false;
         self.parts = false;
         self.leaves = false;
         self.moved = now;
@@ -93,12 +101,14 @@ impl<S: Stream> Place<S> {
         observer: &O,
         now: u64,
     ) -> bool
-        requires promised { Promises N.board N.format S.promised }
+        requires promised { Promises N.board N.format S.promised S.listed }
         requires own { IsOwnOf self.old.client granted.question }
         requires seen { IfSome self.old.client (λ client. Begins client.seen (part pass.now).known) }
         requires after { Begins (part granted.after).known (part pass.now).known }
+        ensures stays { Remains self.old.client self.new.client }
         ensures kept { KeepsOwn self.old.client self.new.client }
         ensures heard { IsHeardOf self.new.client granted.question }
+        ensures told { TellsOf self.old.client granted.question self.new.client }
         ensures next { result ≡ false → HasNone self.new.client }
         ensures seen { (admitted : ℕ) → HasSeenIn admitted (part pass.now).known self.old.client → HasSeenIn admitted (part pass.now).known self.new.client }
     {
@@ -108,6 +118,40 @@ impl<S: Stream> Place<S> {
         client.reply(granted, pass, observer);
         self.moved = now;
         self.may_ask()
+    }
+
+    /// The page for which its client waits, if it waits for one.
+    pub(crate) fn scan(&self) -> Option<Scan> {
+        match &self.client {
+            Some(client) => client.scan(),
+            None => None,
+        }
+    }
+
+    /// Hands a page to its client. Before that its pass had seen what those had that answered the client, and this pass has seen what that had
+    /// after it.
+    pub(crate) fn tell_page<N: Named, O: Observer>(
+        &mut self,
+        listed: &Listed<N>,
+        pass: &Pass,
+        observer: &O,
+        now: u64,
+    )
+        requires promised { Promises N.board N.format S.promised S.listed }
+        requires seen { IfSome self.old.client (λ client. Begins client.seen (part listed.now.before).known) }
+        requires grows { Begins (part listed.now.before).known (part listed.now.after).known }
+        requires after { Begins (part listed.now.after).known (part pass.now).known }
+        ensures stays { Remains self.old.client self.new.client }
+        ensures kept { KeepsOwn self.old.client self.new.client }
+        ensures heard { KeepsHeard self.old.client self.new.client }
+        ensures told { IfSome self.new.client HasTold }
+        ensures seen { (admitted : ℕ) → HasSeenIn admitted (part pass.now).known self.old.client → HasSeenIn admitted (part pass.now).known self.new.client }
+    {
+        self.lists = false;
+        self.moved = now;
+        if let Some(client) = &mut self.client {
+            client.tell_page(listed, pass, observer);
+        }
     }
 
     /// Its connection can be read or written. One whose session is over is waited for no longer because of that.
@@ -135,7 +179,10 @@ impl<S: Stream> Place<S> {
         requires { IfSome self.old.client (λ client. Begins client.seen (part pass.now).known) }
         ensures before { IfSome result.question (λ question. question.before ≡ pass.now) }
         ensures asked { IfSome result.question (λ question. IsAskedBy self.new.client question) }
+        ensures later { IfSome result.question (ComesAfter self.old.client) }
+        ensures stays { Remains self.old.client self.new.client }
         ensures kept { KeepsOwn self.old.client self.new.client }
+        ensures heard { KeepsHeard self.old.client self.new.client }
         ensures seen { KeepsSeen self.old.client self.new.client }
         ensures last { result.question ≡ None → result.is_next ≡ false }
         ensures none { result.is_next ≡ false → HasNone self.new.client }
@@ -155,7 +202,10 @@ impl<S: Stream> Place<S> {
         requires { IfSome self.old.client (λ client. Begins client.seen (part pass.now).known) }
         ensures before { IfSome result (λ question. question.before ≡ pass.now) }
         ensures asked { IfSome result (λ question. IsAskedBy self.new.client question) }
+        ensures later { IfSome result (ComesAfter self.old.client) }
+        ensures stays { Remains self.old.client self.new.client }
         ensures kept { KeepsOwn self.old.client self.new.client }
+        ensures heard { KeepsHeard self.old.client self.new.client }
         ensures seen { KeepsSeen self.old.client self.new.client }
         ensures none { result ≡ None → HasNone self.new.client }
     {
@@ -182,8 +232,12 @@ impl<S: Stream> Place<S> {
         requires { IfSome self.old.client (λ client. Begins client.seen (part pass.now).known) }
         ensures before { IfSome result (λ question. question.before ≡ pass.now) }
         ensures asked { IfSome result (λ question. IsAskedBy self.new.client question) }
+        ensures later { IfSome result (ComesAfter self.old.client) }
+        ensures stays { Remains self.old.client self.new.client }
         ensures kept { KeepsOwn self.old.client self.new.client }
+        ensures heard { KeepsHeard self.old.client self.new.client }
         ensures seen { KeepsSeen self.old.client self.new.client }
+        ensures none { result ≡ None → HasNone self.new.client }
     {
         let client = self.client.as_mut()?;
         if !client.waits() {
@@ -202,8 +256,7 @@ impl<S: Stream> Place<S> {
         crowded: bool,
         now: u64,
     ) -> Wish
-        ensures kept { KeepsOwn self.old.client self.new.client }
-        ensures seen { KeepsSeen self.old.client self.new.client }
+        ensures { KeepsLinesOf self.old.client self.new.client }
     {
         self.back = false;
         let Some(client) = &mut self.client else {
@@ -236,6 +289,9 @@ impl<S: Stream> Place<S> {
         if self.parts || client.has_unsent() && !holds_back {
             return Wish::Nothing;
         }
+        if client.scan().is_some() {
+            return note_page(&mut self.lists);
+        }
         if self.readable && !client.waits() || client.may_ask() {
             return Wish::Turn;
         }
@@ -267,7 +323,7 @@ impl<S: Stream> Place<S> {
     /// waited for so long. One that waits for its turn (`queued`) isn't closed before that, unless its session is to end.
     pub(crate) fn is_idle(&self, now: u64, idle: Option<u64>, queued: bool) -> bool {
         match &self.client {
-            Some(client) if (self.parts || !queued) && !client.is_asked() => {}
+            Some(client) if (self.parts || !queued && !self.lists) && !client.is_asked() => {}
             _ => return false,
         }
         let still = now.saturating_sub(self.moved);
@@ -286,6 +342,13 @@ impl<S: Stream> Place<S> {
         self.leaves = false;
         was_taken
     }
+}
+
+// Notes that a client waits for a page, which is its wish unless that was noted.
+fn note_page(lists: &mut bool) -> Wish {
+    let was_noted = *lists;
+    *lists = true;
+    if was_noted { Wish::Nothing } else { Wish::Page }
 }
 
 // Throws away what a client sends after its session's end: a connection that is closed over unread bytes is reset, and the client

@@ -1,5 +1,5 @@
 //! Those that wait for their turn.
-ghost use Rattle.std.specs.Prelude.{◌≡◌, [], ◌∷◌, IfOk, IfSome, None, false, true};
+ghost use Rattle.std.specs.Prelude.{◌≡◌, ◌↔◌, [], ◌∷◌, IfOk, IfSome, IsTrue, None, false, length, true};
 ghost use Rattle.lz_serve.specs.Queues.{is_in, queued};
 
 use std::alloc::{AllocError, Global};
@@ -36,12 +36,16 @@ impl Queue {
     }
 
     /// How many stand in it.
-    pub(crate) fn len(&self) -> usize {
+    pub(crate) fn len(&self) -> usize
+        ensures { result ≡ length self.now }
+    {
         self.tokens.len()
     }
 
     /// Whether none does.
-    pub(crate) fn is_empty(&self) -> bool {
+    pub(crate) fn is_empty(&self) -> bool
+        ensures { IsTrue result ↔ (self.now ≡ []) }
+    {
         self.tokens.is_empty()
     }
 

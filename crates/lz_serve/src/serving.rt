@@ -58,7 +58,7 @@ where
     O: Observer,
     P: Poller,
     requires may_call { All (MayCall N.board) passes.items }
-    requires promised { Promises N.board N.format P.Stream.promised }
+    requires promised { Promises N.board N.format P.Stream.promised P.Stream.listed }
     ensures may_call { All (MayCall N.board) result.0.passes.items }
     ensures count { vec_len result.0.passes ≡ vec_len passes }
     ensures unserved { result.0.unserved ≡ true → result.0.passes.items ≡ passes.items }
@@ -99,7 +99,7 @@ where
     P: Poller,
     requires may_call { All (MayCall N.board) passes.items }
     requires calm { All (IsCalmAfter B.parts) passes.items }
-    requires promised { Promises N.board N.format P.Stream.promised }
+    requires promised { Promises N.board N.format P.Stream.promised P.Stream.listed }
     ensures may_call { All (MayCall N.board) result.0.passes.items }
     ensures count { vec_len result.0.passes ≡ vec_len passes }
     ensures unserved { result.0.unserved ≡ true → result.0.passes.items ≡ passes.items }
@@ -171,7 +171,7 @@ where
     R: Wait + Clock + AllocGlobal,
     O: Observer,
     P: Poller,
-    requires promised { Promises N.board N.format P.Stream.promised }
+    requires promised { Promises N.board N.format P.Stream.promised P.Stream.listed }
     requires limit { (L.before ≡ P.came poller) × (L.sessions ≡ bounds.sessions) }
     ensures count { vec_len result.0 ≡ desk.given }
     ensures sessions { 1 ≤ bounds.sessions → P.came result.1 ≤ P.came poller + bounds.sessions }
@@ -201,7 +201,7 @@ where
     R: Wait + Clock + AllocGlobal,
     O: Observer,
     P: Poller,
-    requires promised { Promises N.board N.format P.Stream.promised }
+    requires promised { Promises N.board N.format P.Stream.promised P.Stream.listed }
     ensures given { desk.new.given ≡ desk.old.given }
     ensures rests { desk.new.free ≡ desk.new.given }
 {
@@ -226,6 +226,7 @@ where
         if is_ended(observer, told) {
             break;
         }
+        desk.list_pages(rt.alloc(), set, observer, &mut buffer);
         desk.begin_all(rt, set);
         desk.play_all(rt, set, observer, &mut buffer);
         if desk.gathers(rt) {
@@ -240,6 +241,7 @@ where
         observer.halted();
     }
     if told.load(Ordering::SeqCst) {
+        desk.list_pages(rt.alloc(), set, observer, &mut buffer);
         desk.answer_last(rt, set, observer, &mut buffer);
     }
     take_leave(

@@ -198,6 +198,8 @@ impl<'a> Stream for Socket<'a> {
 
     ghost promised = { λ _. ⊤ };
 
+    ghost listed = { λ _. ⊤ };
+
     fn language(&self) -> Language {
         self.language
     }

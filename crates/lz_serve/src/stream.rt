@@ -32,6 +32,7 @@ pub enum Taken {
 pub trait Stream: Drop {
     ghost use Rattle.std.specs.Prelude.{List, Option};
     ghost use Rattle.lz_serve.specs.Grants.{Grant};
+    ghost use Rattle.lz_serve.specs.Listings.{Listing};
     ghost use Rattle.lz_serve.specs.Streams.{Traffic};
 
     /// What came and went, where that is known.
@@ -39,6 +40,9 @@ pub trait Stream: Drop {
 
     /// What is so of the replies that are told on it, in their order.
     ghost promised: { List Grant → Type 0 };
+
+    /// What is so of the pages that are told on it.
+    ghost listed: { Listing → Type 0 };
 
     /// The language of its client.
     fn language(&self) -> Language
@@ -53,7 +57,7 @@ pub trait Stream: Drop {
 
     /// Sends a beginning of the text.
     fn take(&mut self, text: &[u8]) -> Taken
-        requires { MayTake promised (traffic self.old) text.now }
+        requires { MayTake promised listed (traffic self.old) text.now }
         ensures bound { sent result ≤ length text.now }
         ensures some { result ≢ Taken.Count 0 }
         ensures taken { Takes (traffic self.old) (traffic self.new) result text.now };

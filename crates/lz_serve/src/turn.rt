@@ -1,6 +1,6 @@
 //! How exchanges are told.
 
-use lz_resp::{Form, Query, Text};
+use lz_resp::{Form, Query, Scan, Text};
 
 /// How the replies to requests are worded.
 #[derive(Clone, Copy, Debug, PartialEq, Eq)]
@@ -18,6 +18,8 @@ pub enum Turn {
     Asks(Wording, usize),
     /// A text. Nothing was asked.
     Says(Text),
+    /// A page.
+    Lists(Scan),
     /// What is told of the service itself.
     Tells(Query),
     /// The last text.

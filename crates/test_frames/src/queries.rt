@@ -1,5 +1,6 @@
 //! What a service is asked of itself.
-use lz_resp::{Figures, Frames, Item, Naming, Query, Sections};
+use lz_resp::{Figures, Frames, Item, Naming, Query, Scan, Sections};
+use lz_slot::{Key, Slot};
 use std::collections::VecDeque;
 use std::test::Fail;
 
@@ -46,6 +47,42 @@ fn a_service_ends_where_it_may(rt: HostRuntime) -> Result<(), Fail> {
     );
     let keys = Query::Info(Sections::Keyspace).text(rt.alloc(), &figures)?;
     assert!(rt; keys.as_bytes() == b"$12\r\n# Keyspace\r\n\r\n".as_slice());
+    Ok(())
+}
+
+// Whether this is the next item, which asks for this page.
+fn asks_for(item: Option<Item>, scan: &Scan) -> bool {
+    match &item {
+        Some(Item::Lists(asked)) => *asked == *scan,
+        _ => false,
+    }
+}
+
+#[test]
+fn pages_are_of_the_room_that_is_named(rt: HostRuntime) -> Result<(), Fail> {
+    let mut frames = Frames::new(rt.alloc(), Naming::Rooms);
+    let mut items = VecDeque::new(rt.alloc());
+    frames.feed_into(b"sscan 3 0\r\nSSCAN 3 512 COUNT 5000\r\n", &mut items)?;
+    let first = Scan {
+        room: 3,
+        from: Slot::new(0),
+        most: 10,
+    };
+    let second = Scan {
+        from: Slot::new(512),
+        most: 1_024,
+        ..first
+    };
+    assert!(rt; asks_for(items.pop_front(), &first));
+    assert!(rt; asks_for(items.pop_front(), &second));
+    let (Some(one), Some(other)) = (Key::in_room(3, 17), Key::in_room(2, 4)) else {
+        return Err("keys".into());
+    };
+    let keys = [one, other];
+    let text = first.text(rt.alloc(), keys.as_slice(), Some(Slot::new(512)))?;
+    assert!(rt; text.as_bytes() == b"*2\r\n$3\r\n512\r\n*1\r\n$2\r\n17\r\n".as_slice());
+    let text = second.text(rt.alloc(), &[], None)?;
+    assert!(rt; text.as_bytes() == b"*2\r\n$1\r\n0\r\n*0\r\n".as_slice());
     Ok(())
 }
 

@@ -4,7 +4,7 @@ use Rattle.lz_list.proofs.Traces.Absence.{begins_itself}
 use Rattle.lz_board.specs.declared.pass.Pass.{Pass}
 use Rattle.lz_board.specs.Seats.{part}
 use Rattle.lz_serve.specs.Clients.{HaveSeenIn}
-use Rattle.lz_serve.proofs.Desks.{seen_later}
+use Rattle.lz_serve.proofs.Joins.{seen_later}
 use Rattle.lz_serve.proofs.answering.answer_one.Goals as goal
 
 pub reply-requires-2-clause-seen : goal.reply-requires-2-clause-seen

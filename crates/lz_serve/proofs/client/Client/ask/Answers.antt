@@ -4,12 +4,13 @@ use Rattle.lz_list.specs.Traces.{Begins}
 use Rattle.lz_proto.specs.declared.request.Request.{Request}
 use Rattle.lz_board.specs.declared.pass.Pass.{Pass}
 use Rattle.lz_board.specs.Seats.{part}
+use Rattle.lz_serve.specs.declared.line.Line.{Line}
 use Rattle.lz_serve.specs.declared.reader.Reader.{Reader}
-use Rattle.lz_serve.specs.Clients.{Asker, IsOwn, passes_of, seen_by}
+use Rattle.lz_serve.specs.Clients.{Asker, IsHeard, IsOwn, passes_of, seen_by}
 use Rattle.lz_serve.specs.Conversations.{Talk}
 use Rattle.lz_serve.specs.Grants.{Posed, key_asked}
 use Rattle.lz_serve.specs.Lines.{AreBefore, IsFree, awaited}
-use Rattle.lz_serve.proofs.LinesUnderWay.{as_many, before_more, before_same, earned_more, earned_same, get_last, get_more, puts_more}
+use Rattle.lz_serve.proofs.LinesUnderWay.{as_many, before_more, before_same, earned_more, earned_same, get_before, get_last, get_more, puts_more}
 use Rattle.lz_serve.proofs.TalksOnStreams.{handed_out, known_so}
 use Rattle.lz_serve.proofs.client.Client.ask.Goals as goal
 
@@ -38,8 +39,8 @@ invariant_of-self-in-Ok-Some g c =
       λ going. subst (λ (r : Option Reader). IsSome r) (sym (ap (λ (t : Talk). t.reader) asked.1)) (was.0 going),
       earned_same P connection seen old.told new.told (old.under ++ awaited request ∷ []) new.under (puts ++ put ∷ []) its told under is (earned_more P connection seen old.told old.under puts request put free more was.1),
       λ kept.
-          handed_out (AreBefore P seen new.under its) connection traffic request old new asked.0 asked.1
-          (known_so (AreBefore P seen old.under puts) connection (AreBefore P seen new.under its) traffic old
+          handed_out (AreBefore P seen new.under its) g.S.Stream.listed connection traffic request old new asked.0 asked.1
+          (known_so (AreBefore P seen old.under puts) g.S.Stream.listed connection (AreBefore P seen new.under its) traffic old
           (λ grants so. before_same P seen (old.under ++ awaited request ∷ []) new.under (puts ++ put ∷ []) its grants under is (before_more P seen old.under puts (awaited request) put grants more so)) (was.2 kept)),
       λ held. absurd (cc),
     )
@@ -92,3 +93,20 @@ returns-in-Ok-Some-clause-kept g c =
           let there = subst (λ (n : ℕ). slice_get puts (q.line - suc n) ≡ Some q.before) (sym told) (was.1 early) in
           subst (λ (l : List Pass). slice_get l (q.line - suc new.told) ≡ Some q.before) (sym is) (get_more puts (put ∷ []) (q.line - suc new.told) q.before there),
     )
+
+pub returns-in-Ok-Some-clause-heard : goal.returns-in-Ok-Some-clause-heard
+returns-in-Ok-Some-clause-heard g c =
+    let old = c.self.inside.talk in
+    let new = c.next.new.self in
+    let line = awaited c.in-Ok-Some.request ∷ [] in
+    let asked = rw c.in-Ok-Some.field-0-is at c.in-Ok-Some.ensures.asked in
+    let told : new.told ≡ old.told = ap (λ (t : Talk). t.told) asked.1 in
+    let under : new.under ≡ old.under ++ line = ap (λ (t : Talk). t.under) asked.1 in
+    λ q own heard same stands.
+    let was = subst (λ (a : Asker). IsOwn a q) (sym c.self.view_is) own same in
+    let low = was.0 in
+    let less = stands.0 in
+    let early : old.told < q.line = subst (λ (n : ℕ). n < q.line) told less in
+    let within : q.line - suc old.told < length old.under = omega (arith, low, early) in
+    subst (λ (a : Asker). IsHeard a q) (sym c.self.view_is) heard same
+    (early, sym (get_before old.under line (q.line - suc old.told) within) ∙ ap (λ (l : List Line). slice_get l (q.line - suc old.told)) (sym under) ∙ ap (λ (n : ℕ). slice_get new.under (q.line - suc n)) (sym told) ∙ stands.1)

@@ -20,6 +20,6 @@ invariant_of-result g c =
     let none : puts ≡ [] = ap passes_of c.new-2.ensures.items in (
       λ going. subst (λ (t : Talk). IsSome t.reader) (sym nothing) (some c.language-language.result),
       none_earned P c.args.number [] new.told new.under puts (ap (λ (t : Talk). t.under) nothing) none,
-      λ kept. begins (AreBefore P [] new.under puts) c.args.number (g.S.Stream.traffic c.args.stream) c.language-language.result new c.requires.fresh (none_before P [] new.under puts c.requires.promised) nothing c.language-language.ensures,
+      λ kept. begins (AreBefore P [] new.under puts) g.S.Stream.listed c.args.number (g.S.Stream.traffic c.args.stream) c.language-language.result new c.requires.fresh (none_before P [] new.under puts c.requires.promised) nothing c.language-language.ensures,
       λ held. absurd (cc),
     )

@@ -24,8 +24,8 @@ invariant_of-self g c =
       λ going. c.feed.ensures.goes,
       earned_same P connection seen old.told new.told old.under new.under puts puts (ap (λ (t : Talk). t.told) others) under refl was.1,
       λ kept.
-          same_lines P seen connection after new old.under new.under puts under
-          (fed (AreBefore P seen old.under puts) connection (g.S.Stream.traffic c.self.inside.stream) after c.in-Count.count c.receive.new.buffer old new c.in-Count.ensures.received c.in-Ok.ensures.ok (was.2 kept)),
+          same_lines P g.S.Stream.listed seen connection after new old.under new.under puts under
+          (fed (AreBefore P seen old.under puts) g.S.Stream.listed connection (g.S.Stream.traffic c.self.inside.stream) after c.in-Count.count c.receive.new.buffer old new c.in-Count.ensures.received c.in-Ok.ensures.ok (was.2 kept)),
       λ held kept.
           let step = c.in-Ok.ensures.ok in
           held_more old new (requests_in step.2) (ap (λ (t : Talk). t.waiting) step.5) (ap (λ (t : Talk). t.told) step.5) under (ap (λ (t : Talk). t.ended) step.5) (was.3 held kept),
@@ -46,8 +46,8 @@ invariant_of-self-in-Ok-finish g c =
       λ never. absurd (true≢false never),
       earned_same P connection seen old.told new.told old.under new.under puts puts (ap (λ (t : Talk). t.told) others) under refl was.1,
       λ kept.
-          same_lines P seen connection after new old.under new.under puts under
-          (finished (AreBefore P seen old.under puts) connection (g.S.Stream.traffic c.self.inside.stream) after c.receive.new.buffer old new c.in-Over.ensures.received c.in-Ok-finish.ensures.ok (was.2 kept)),
+          same_lines P g.S.Stream.listed seen connection after new old.under new.under puts under
+          (finished (AreBefore P seen old.under puts) g.S.Stream.listed connection (g.S.Stream.traffic c.self.inside.stream) after c.receive.new.buffer old new c.in-Over.ensures.received c.in-Ok-finish.ensures.ok (was.2 kept)),
       λ held kept.
           let step = c.in-Ok-finish.ensures.ok in
           held_more old new (requests_in step.1) (ap (λ (t : Talk). t.waiting) step.4) (ap (λ (t : Talk). t.told) step.4) under (ap (λ (t : Talk). t.ended) step.4) (was.3 held kept),

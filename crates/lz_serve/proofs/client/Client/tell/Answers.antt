@@ -18,7 +18,7 @@ invariant_of-self g c =
     let puts = passes_of c.self.inside.puts.items in
     let its = passes_of c.pass_over.new.queue.items in
     let to = rest c.tell.new.self.told c.self.inside.talk.told c.told.result c.told-before.result c.self.inside.puts.items c.pass_over.new.queue.items c.told.ensures c.told-before.ensures c.pass_over.ensures in
-    let s = told_or_not g.S.Stream.promised (seen_by c.self.inside.seen) c.self.inside.connection (g.S.Stream.traffic c.self.inside.stream) c.in-Ok.told was c.tell.new.self puts its to c.in-Ok.ensures.told c.in-Ok.ensures.none c.self.invariant.1 in (
+    let s = told_or_not g.S.Stream.promised g.S.Stream.listed (seen_by c.self.inside.seen) c.self.inside.connection (g.S.Stream.traffic c.self.inside.stream) c.in-Ok.told was c.tell.new.self puts its to c.in-Ok.ensures.told c.in-Ok.ensures.none c.self.invariant.1 in (
       λ going. subst (λ (r : Option Reader). IsSome r) (sym s.reader) (c.self.invariant.0 going),
       s.earned,
       λ kept. s.talk (c.self.invariant.2 kept),
@@ -32,7 +32,7 @@ returns-in-Ok-clause-kept g c q own same =
     let puts = passes_of c.self.inside.puts.items in
     let its = passes_of c.pass_over.new.queue.items in
     let to = rest c.tell.new.self.told c.self.inside.talk.told c.told.result c.told-before.result c.self.inside.puts.items c.pass_over.new.queue.items c.told.ensures c.told-before.ensures c.pass_over.ensures in
-    let s = told_or_not g.S.Stream.promised (seen_by c.self.inside.seen) c.self.inside.connection (g.S.Stream.traffic c.self.inside.stream) c.in-Ok.told was new puts its to c.in-Ok.ensures.told c.in-Ok.ensures.none c.self.invariant.1 in
+    let s = told_or_not g.S.Stream.promised g.S.Stream.listed (seen_by c.self.inside.seen) c.self.inside.connection (g.S.Stream.traffic c.self.inside.stream) c.in-Ok.told was new puts its to c.in-Ok.ensures.told c.in-Ok.ensures.none c.self.invariant.1 in
     let before = subst (λ (a : Asker). IsOwn a q) (sym c.self.view_is) own same in
     let low = before.0 in
     let lines = s.lines in
@@ -51,7 +51,7 @@ returns-in-Ok-clause-heard g c q heard same stands =
     let puts = passes_of c.self.inside.puts.items in
     let its = passes_of c.pass_over.new.queue.items in
     let to = rest c.tell.new.self.told c.self.inside.talk.told c.told.result c.told-before.result c.self.inside.puts.items c.pass_over.new.queue.items c.told.ensures c.told-before.ensures c.pass_over.ensures in
-    let s = told_or_not g.S.Stream.promised (seen_by c.self.inside.seen) c.self.inside.connection (g.S.Stream.traffic c.self.inside.stream) c.in-Ok.told was new puts its to c.in-Ok.ensures.told c.in-Ok.ensures.none c.self.invariant.1 in
+    let s = told_or_not g.S.Stream.promised g.S.Stream.listed (seen_by c.self.inside.seen) c.self.inside.connection (g.S.Stream.traffic c.self.inside.stream) c.in-Ok.told was new puts its to c.in-Ok.ensures.told c.in-Ok.ensures.none c.self.invariant.1 in
     let before = subst (λ (a : Asker). IsHeard a q) (sym c.self.view_is) heard in
     let more = s.more in
     let less = stands.0 in

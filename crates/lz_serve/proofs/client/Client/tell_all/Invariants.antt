@@ -1,4 +1,4 @@
-use Rattle.std.specs.Prelude.{◌≡◌, Some}
+use Rattle.std.specs.Prelude.{◌≡◌, Some, length}
 use Rattle.lz_serve.specs.Clients.{IsHeard, KeepsOwn}
 use Rattle.lz_serve.specs.Grants.{Posed}
 use Rattle.lz_serve.proofs.client.Client.tell_all.Given as goal
@@ -11,3 +11,6 @@ invariant-turns g l = record {
   heard : (q : Posed) → IsHeard l.fn.self q → IsHeard l.self q;
   seen : l.self.seen ≡ l.fn.self.seen;
 }
+
+abbrev pub decreases-turns : goal.decreases-turns
+decreases-turns g l = length l.self.turns

@@ -1,4 +1,4 @@
-use Rattle.std.proofs.Common.{◌≡◌, ◌-◌, ℕ, zero, IsSome, Option, drop, refl, sym, ap, subst, arith}
+use Rattle.std.proofs.Common.{◌≡◌, ◌-◌, ℕ, zero, IsSome, Option, drop, sym, ap, subst, arith}
 use Rattle.lz_serve.specs.declared.reader.Reader.{Reader}
 use Rattle.lz_serve.specs.declared.turn.Turn.TheVariants as turn
 use Rattle.lz_serve.specs.Clients.{passes_of, seen_by}
@@ -16,7 +16,7 @@ invariant_of-self g c =
     let same : new.told ≡ was.told = ap (λ (t : Talk). t.told) c.tell_query.ensures.others in
     let none : zero ≡ new.told - was.told = omega (arith, same) in
     let to : puts ≡ drop (new.told - was.told) puts = ap (λ (n : ℕ). drop n puts) none in
-    let s = told_or_not g.S.Stream.promised (seen_by c.self.inside.seen) c.self.inside.connection (g.S.Stream.traffic c.self.inside.stream) c.in-Ok.told was new puts puts to
+    let s = told_or_not g.S.Stream.promised g.S.Stream.listed (seen_by c.self.inside.seen) c.self.inside.connection (g.S.Stream.traffic c.self.inside.stream) c.in-Ok.told was new puts puts to
     (λ so. let q = c.in-Ok.ensures.told so in (turn.Tells q.0, q.1, q.2, (c.figures-figures.result, q.3))) c.in-Ok.ensures.none c.self.invariant.1 in (
       λ going. subst (λ (r : Option Reader). IsSome r) (sym s.reader) (c.self.invariant.0 going),
       s.earned,

@@ -15,7 +15,7 @@ invariant_of-self g c =
     let same : new.told ≡ was.told = ap (λ (t : Talk). t.told) c.tell_text.ensures.others in
     let none : zero ≡ new.told - was.told = omega (arith, same) in
     let to : puts ≡ drop (new.told - was.told) puts = ap (λ (n : ℕ). drop n puts) none in
-    let s = told_or_not g.S.Stream.promised (seen_by c.self.inside.seen) c.self.inside.connection (g.S.Stream.traffic c.self.inside.stream) c.in-Ok.told was new puts puts to c.in-Ok.ensures.told c.in-Ok.ensures.none c.self.invariant.1 in (
+    let s = told_or_not g.S.Stream.promised g.S.Stream.listed (seen_by c.self.inside.seen) c.self.inside.connection (g.S.Stream.traffic c.self.inside.stream) c.in-Ok.told was new puts puts to c.in-Ok.ensures.told c.in-Ok.ensures.none c.self.invariant.1 in (
       λ going. subst (λ (r : Option Reader). IsSome r) (sym s.reader) (c.self.invariant.0 going),
       s.earned,
       λ kept. s.talk (c.self.invariant.2 kept),

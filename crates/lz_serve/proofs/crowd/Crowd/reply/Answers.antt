@@ -1,7 +1,7 @@
-use Rattle.std.proofs.Common.{Option, sym, subst}
+use Rattle.std.proofs.Common.{IfSome, Option, sym, subst}
 use Rattle.lz_board.specs.Seats.{part}
-use Rattle.lz_serve.specs.Clients.{Asker, Askers, HasNone, HasSeenIn, HaveSeenIn, IsHeard, IsHeardOf}
-use Rattle.lz_serve.proofs.Crowds.{keeps_awaited, leave_keeps, leave_so, one_so, only_seen, own_here, same_own, seen_at, seen_here}
+use Rattle.lz_serve.specs.Clients.{Asker, Askers, HasNone, HasSeenIn, HasTold, HaveSeenIn, IsHeard, IsHeardOf}
+use Rattle.lz_serve.proofs.Crowds.{heard_here, keeps_awaited, leave_keeps, leave_so, one_so, only_seen, own_here, same_own, seen_at, seen_here}
 use Rattle.lz_serve.proofs.Turns.{both_in_turn}
 use Rattle.lz_serve.proofs.crowd.Crowd.reply.Goals as goal
 
@@ -46,3 +46,13 @@ returns-clause-waits g c =
     let new = c.give_back-is_back.new.self in
     both_in_turn c.reply-is_next.result _ c.put.new.self c.put_back.new.self c.args.token c.put.ensures.leave c.put_back.ensures.leave c.put_back.ensures.queue
     (λ last. one_so (λ place. place.client) HasNone c.self.inside.places.items c.args.token new (subst HasNone (sym c.give_back-is_back.ensures) (c.reply-is_next.ensures.next last))) c.put.ensures.next
+
+pub returns-clause-told : goal.returns-clause-told
+returns-clause-told g c = λ unheard.
+    let old = c.in-Some.place.now in
+    let new = c.give_back-is_back.new.self in
+    let q = c.args.granted.question in
+    leave_so HasTold c.put.new.self c.put_back.new.self c.args.token c.put_back.ensures.leave
+    (leave_so HasTold _ c.put.new.self c.args.token c.put.ensures.leave
+    (one_so (λ place. place.client) (λ (a : Option Asker). IfSome a HasTold) c.self.inside.places.items c.args.token new (subst (λ (a : Option Asker). IfSome a HasTold) (sym c.give_back-is_back.ensures)
+    (c.reply-is_next.ensures.told (λ heard. unheard (heard_here (λ place. place.client) c.args.self.now c.self.inside.admitted c.self.inside.places.items c.args.token old c.self.view_is c.in-Some.ensures.item.3.0 c.in-Some.ensures.value q heard))))))

@@ -1,5 +1,6 @@
 use Rattle.lz_board.specs.Seats.{part}
-use Rattle.lz_serve.proofs.Crowds.{keeps_at, only_seen, seen_here, some_asked}
+use Rattle.lz_serve.specs.Clients.{HasNone}
+use Rattle.lz_serve.proofs.Crowds.{keeps_at, next_here, one_so, only_seen, seen_here, some_asked}
 use Rattle.lz_serve.proofs.crowd.Crowd.take_last.Goals as goal
 
 pub take_last-requires : goal.take_last-requires
@@ -18,4 +19,11 @@ pub returns-clause-kept : goal.returns-clause-kept
 returns-clause-kept g c =
     let old = c.in-Some.place.now in
     let new = c.take_last.new.self in
-    keeps_at (λ place. place.client) c.args.self.now c.self.inside.admitted c.self.inside.places.items c.args.token old c.self.view_is c.in-Some.ensures.item.3.0 c.in-Some.ensures.value new c.take_last.ensures.kept c.take_last.ensures.seen
+    keeps_at (λ place. place.client) c.args.self.now c.self.inside.admitted c.self.inside.places.items c.args.token old c.self.view_is c.in-Some.ensures.item.3.0 c.in-Some.ensures.value new c.take_last.ensures.kept c.take_last.ensures.heard c.take_last.ensures.seen
+
+pub returns-clause-later : goal.returns-clause-later
+returns-clause-later g c =
+    next_here (λ place. place.client) c.args.self.now c.self.inside.admitted c.self.inside.places.items c.args.token c.in-Some.place.now c.self.view_is c.in-Some.ensures.item.3.0 c.in-Some.ensures.value c.take_last.result c.take_last.ensures.later
+
+pub returns-clause-none : goal.returns-clause-none
+returns-clause-none g c none = one_so (λ place. place.client) HasNone c.self.inside.places.items c.args.token c.take_last.new.self (c.take_last.ensures.none none)

@@ -1,7 +1,7 @@
 use Rattle.std.proofs.Common.{ap, refl, slice_get, sym, ◌∙◌}
 use Rattle.lz_board.specs.Seats.{part}
 use Rattle.lz_serve.specs.Clients.{Askers, HasNone}
-use Rattle.lz_serve.proofs.Crowds.{keeps_at, keeps_here, keeps_then, leave_keeps, one_so, only_seen, other_at, seen_here, some_asked, some_kept}
+use Rattle.lz_serve.proofs.Crowds.{keeps_at, keeps_here, keeps_then, leave_keeps, next_here, one_so, only_seen, other_at, seen_here, some_asked, some_kept}
 use Rattle.lz_serve.proofs.Turns.{turned}
 use Rattle.lz_serve.proofs.crowd.Crowd.turn.Goals as goal
 
@@ -39,5 +39,9 @@ returns-clause-kept g c =
     let old = c.in-Some.place.now in
     let new = c.take_turn-question.new.self in
     keeps_then c.args.self.now c.put.new.self c.put_back.new.self
-    (keeps_then c.args.self.now _ c.put.new.self (keeps_at (λ place. place.client) c.args.self.now c.self.inside.admitted c.self.inside.places.items c.in_ok-token.token old c.self.view_is c.in-Some.ensures.item.3.0 c.in-Some.ensures.value new c.take_turn-question.ensures.kept c.take_turn-question.ensures.seen) (leave_keeps _ c.put.new.self c.put.ensures.leave))
+    (keeps_then c.args.self.now _ c.put.new.self (keeps_at (λ place. place.client) c.args.self.now c.self.inside.admitted c.self.inside.places.items c.in_ok-token.token old c.self.view_is c.in-Some.ensures.item.3.0 c.in-Some.ensures.value new c.take_turn-question.ensures.kept c.take_turn-question.ensures.heard c.take_turn-question.ensures.seen) (leave_keeps _ c.put.new.self c.put.ensures.leave))
     (leave_keeps c.put.new.self c.put_back.new.self c.put_back.ensures.leave)
+
+pub returns-clause-later : goal.returns-clause-later
+returns-clause-later g c =
+    next_here (λ place. place.client) c.args.self.now c.self.inside.admitted c.self.inside.places.items c.in_ok-token.token c.in-Some.place.now c.self.view_is c.in-Some.ensures.item.3.0 c.in-Some.ensures.value c.take_turn-question.result.question c.take_turn-question.ensures.later

@@ -1,4 +1,4 @@
-use Rattle.std.proofs.Common.{◌≡◌, ◌+◌, [], vec_capacity, vec_len, sym, subst}
+use Rattle.std.proofs.Common.{◌≡◌, ◌+◌, vec_capacity, vec_len, sym, subst}
 use Rattle.lz_board.specs.Seats.{part}
 use Rattle.lz_serve.specs.Desks.{Passes, count_of}
 use Rattle.lz_serve.proofs.Desks.{count_taken, desk_last, desk_left, taken_seen}

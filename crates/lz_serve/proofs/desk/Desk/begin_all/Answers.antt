@@ -1,11 +1,12 @@
-use Rattle.std.proofs.Common.{◌≡◌, [], option_map, vec_capacity, vec_len, ap, sym, ◌∙◌, subst, arith}
+use Rattle.std.proofs.Common.{◌≡◌, option_map, vec_capacity, vec_len, ap, sym, ◌∙◌, subst, arith}
 use Rattle.lz_list.specs.Traces.{Trace, Begins}
 use Rattle.lz_board.specs.declared.pass.Pass.{Pass}
 use Rattle.lz_board.specs.Seats.{part}
 use Rattle.lz_serve.specs.Clients.{HaveSeenIn}
 use Rattle.lz_serve.specs.Desks.{IsCalled, Knows}
 use Rattle.lz_serve.specs.Askings.{Asked}
-use Rattle.lz_serve.proofs.Desks.{alike_seen, desk_back, desk_begun, know_last, knows_seen}
+use Rattle.lz_serve.proofs.Desks.{alike_seen, desk_back, desk_begun, know_last}
+use Rattle.lz_serve.proofs.Joins.{knows_seen}
 use Rattle.lz_serve.proofs.Meetings.{reply_seen, some_mapped}
 use Rattle.lz_serve.proofs.desk.Desk.begin_all.Goals as goal
 

@@ -1,9 +1,10 @@
-use Rattle.std.proofs.Common.{◌≡◌, ◌<◌, [], option_map, vec_capacity, vec_len, length, get_or-set_same, ap, sym, ◌∙◌, subst, arith}
+use Rattle.std.proofs.Common.{◌≡◌, ◌<◌, option_map, vec_capacity, vec_len, length, get_or-set_same, ap, sym, ◌∙◌, subst, arith}
 use Rattle.lz_board.specs.declared.pass.Pass.{Pass}
 use Rattle.lz_board.specs.Seats.{part}
 use Rattle.lz_serve.specs.Clients.{HaveSeenIn}
 use Rattle.lz_serve.specs.Askings.{Asked}
-use Rattle.lz_serve.proofs.Desks.{desk_answered, desk_rested, knows_met}
+use Rattle.lz_serve.proofs.Desks.{desk_answered, desk_rested}
+use Rattle.lz_serve.proofs.Joins.{knows_met}
 use Rattle.lz_serve.proofs.Meetings.{some_mapped}
 use Rattle.lz_serve.proofs.desk.Desk.play_all.Goals as goal
 

@@ -1,0 +1,43 @@
+-- What a pass has seen once it has listed.
+use Rattle.std.proofs.Common.{◌≡◌, ℕ, All, false, Option, Some, None, IfSome, IsSomeAnd, Result, Ok, Err, [], sym, subst}
+use Rattle.lz_list.specs.Traces.{Begins, halt_word}
+use Rattle.lz_list.proofs.Traces.Absence.{begins_itself}
+use Rattle.lz_board.specs.declared.answer.GlanceFault.TheVariants.{Halted, Worn, BusyPass}
+use Rattle.lz_board.specs.declared.page.Page.{Page}
+use Rattle.lz_board.specs.declared.page.ListFault.{ListFault}
+use Rattle.lz_board.specs.declared.page.ListFault.TheVariants.{Memory, Glance}
+use Rattle.lz_board.specs.declared.pass.Pass.{Pass}
+use Rattle.lz_board.specs.declared.view.Part.{Part}
+use Rattle.lz_board.specs.Listings.{Lists}
+use Rattle.lz_board.specs.Notes.{shape_of_sizes}
+use Rattle.lz_board.specs.Seats.{part}
+use Rattle.lz_board.specs.Walkers.{KeepsCall}
+use Rattle.lz_board.proofs.Upkeep.Growth.{extends_of}
+use Rattle.lz_board.proofs.Walk.GlanceAnswer.{halt_since}
+use Rattle.lz_tie.proofs.Calls.PartAfter.{begins_changed}
+use Rattle.lz_tie.specs.OwnCalls.{told}
+use Rattle.lz_serve.specs.Halts.{IsCalm, SawHalt, was_cut}
+use Rattle.lz_resp.specs.declared.scan.Scan.{Scan}
+use Rattle.lz_serve.specs.Listings.{Listing}
+
+-- it has seen all that it had
+pub lists_grow : (slots from most : ℕ) (r : Result Page ListFault) (before after : Part) → Lists slots from most r before after → Begins before.known after.known
+lists_grow slots from most (Ok page) before after is = begins_changed before.number before.known after.known [] is.1.changes
+lists_grow slots from most (Err Memory) before after is = subst (λ (p : Part). Begins before.known p.known) (sym is) (begins_itself before.known)
+lists_grow slots from most (Err (Glance Halted)) before after is = begins_changed before.number before.known after.known [] is.1.changes
+lists_grow slots from most (Err (Glance Worn)) before after is = subst (λ (p : Part). Begins before.known p.known) (sym is.1) (begins_itself before.known)
+lists_grow slots from most (Err (Glance BusyPass)) before after is = subst (λ (p : Part). Begins before.known p.known) (sym is.1) (begins_itself before.known)
+
+-- it has seen the halt, where it told no page because of that
+pub saw_listed : (o : Option Listing) (scan : Scan) (old new : Pass) → IsSomeAnd o (λ l. halt_word (part l.after).known ≡ 1) → IfSome o (λ l. (l.scan ≡ scan) × (l.before ≡ old) × (l.after ≡ new)) → SawHalt new
+saw_listed None scan old new halted is = absurd halted
+saw_listed (Some l) scan old new halted is = subst SawHalt is.2 halted
+
+-- its calls were cut off or not as before
+pub calm_kept : (old new : Pass) → KeepsCall (part old) (part new) → IsCalm (part old) → IsCalm (part new)
+calm_kept old new keeps calm =
+    subst (λ sizes. All (λ call. was_cut call.1 ≡ false) (told (shape_of_sizes sizes) (part new).steps)) (sym keeps.sizes)
+    (subst (λ steps. All (λ call. was_cut call.1 ≡ false) (told (shape_of_sizes (part old).sizes) steps)) (sym keeps.steps) calm)
+
+pub halt_kept : (old new : Pass) → Begins (part old).known (part new).known → SawHalt old → SawHalt new
+halt_kept old new more seen = halt_since (part old).known (part new).known (extends_of (part old).known (part new).known more) seen

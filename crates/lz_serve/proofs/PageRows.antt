@@ -1,0 +1,57 @@
+-- Worked exchanges that ask for a page.
+use Rattle.std.proofs.Common.{◌≡◌, ℕ, List, [], ◌∷◌, All, Ok, Err, Some, sym, ap, ◌∙◌, subst, arith, codes}
+use Rattle.std.proofs.lemmas.List.Elements.{All-head}
+use Rattle.std.specs.Fmt.{digits}
+use Rattle.lz_list.specs.Traces.{Begins, Trace}
+use Rattle.lz_list.specs.declared.publishing.Publishing.{Publishing}
+use Rattle.lz_proto.specs.declared.end.End.TheVariants.{Done}
+use Rattle.lz_resp.specs.declared.scan.Scan.{Scan}
+use Rattle.lz_board.specs.declared.answer.GlanceFault.TheVariants as fault
+use Rattle.lz_board.specs.declared.page.Page.{Page}
+use Rattle.lz_board.specs.Seats.{part}
+use Rattle.lz_serve.specs.Conversations.{IsPageFor, IsTold}
+use Rattle.lz_serve.specs.Exchanges.{lists}
+use Rattle.lz_serve.specs.Grants.{Grant}
+use Rattle.lz_serve.specs.Listings.{Listing, listing_text, told_text}
+use Rattle.lz_serve.proofs.ConversationRows.{any}
+
+abbrev first : Scan
+first = record { room = 3; from = 0; most = 10 }
+
+-- what was listed for it, whatever was told before
+abbrev Is : Listing → List Grant → Type 0
+Is l before = (l.scan ≡ first) × All (λ e. Begins (part e.after).known (part l.before).known) before
+
+for_it : (l : Listing) (before : List Grant) → Is l before → IsPageFor any first before l
+for_it l before is = record { so = tt; its = is.0; late = is.1 }
+
+text_of_it : (l : Listing) (page : Page) → l.scan ≡ first → l.told ≡ Ok page → listing_text l ≡ told_text first (Ok page)
+text_of_it l page is told = ap (λ s. told_text s l.told) is ∙ ap (λ t. told_text first t) told
+
+-- a page: the keys of the room alone, and the slot to go on from
+paged : (l : Listing) (page : Page) (before : List Grant) → Is l before → l.told ≡ Ok page → page.keys.items ≡ 3000000000000000017 ∷ 17 ∷ [] → page.next ≡ Some 12
+    → listing_text l ≡ codes "*2\r\n$2\r\n12\r\n*1\r\n$2\r\n17\r\n"
+unfolding digits
+paged l page before is told keys next = text_of_it l page is.0 told ∙ cc
+
+-- a service that has halted tells none
+halted : (l : Listing) → l.told ≡ Err fault.Halted → listing_text l ≡ codes "-HALTED the device failed\r\n"
+halted l told = ap (λ t. told_text l.scan t) told
+
+-- What must not hold.
+
+nothing_begun : (e : Publishing) → Begins (e ∷ []) [] → ⊥
+nothing_begun e begins = absurd (cc)
+
+-- a page of a pass that had seen nothing, where a reply was told before whose pass had
+too_old : (g : Grant) (l : Listing) (change : Publishing) → (part g.after).known ≡ change ∷ [] → (part l.before).known ≡ [] → IsPageFor any first (g ∷ []) l → ⊥
+too_old g l change had none for =
+    nothing_begun change (subst (λ (t : Trace). Begins t []) had (subst (Begins (part g.after).known) none (All-head (λ (e : Grant). Begins (part e.after).known (part l.before).known) g [] for.late)))
+
+-- a page that was listed for another room
+another_room : (l : Listing) → l.scan ≡ record { room = 2; from = 0; most = 10 } → IsPageFor any first [] l → ⊥
+another_room l is for = let same : 2 ≡ 3 = ap (λ (s : Scan). s.room) (sym is ∙ for.its) in absurd (omega (arith, same))
+
+-- a page that nobody listed
+not_without_a_page : (said : List ℕ) (grants : List Grant) → IsTold (λ l. ⊥) 1 [] (lists first) grants said Done → ⊥
+not_without_a_page said grants told = told.1.1.so
