@@ -12,7 +12,7 @@ import subprocess
 import tempfile
 import time
 from dataclasses import dataclass
-from typing import Iterator, List, NamedTuple, Sequence
+from typing import Iterator, List, NamedTuple, Optional, Sequence
 
 HERE = os.path.dirname(os.path.abspath(__file__))
 
@@ -24,6 +24,9 @@ MOST_PASSES = 1024
 
 # A loop over a file of format 2, and over how many connections it is measured.
 FEW, FEW_CONNECTIONS = "loop of format 2", 64
+
+# A loop over a file of format 4.
+WHOLE = "loop of format 4"
 
 # A loop that speaks Redis's protocol.
 FRAMES = "frames"
@@ -143,7 +146,15 @@ def service(
     # One of a loop's passes carries out no command, where it has several.
     passes = connections if target == "threads" else min(calls + int(calls > 1), MOST_PASSES)
     loop = [] if target == "threads" else ["--connections", str(connections), "--loops", str(bench.loops)]
-    return lazyset(bench, SLOTS, members, passes, BUCKETS if target == FEW else SLOTS, loop, before)
+    form = 4 if target == WHOLE else None
+    return lazyset(bench, SLOTS, members, passes, BUCKETS if target == FEW else SLOTS, loop, before, form=form)
+
+
+def slot_of(number: int, form: int) -> bytes:
+    """The slot of a key in the first room."""
+    if form == 4:
+        return bytes(15 * (int(digit, 16) + 1) for digit in f"{number:016x}")
+    return b"\xa5" + bytes(7) + number.to_bytes(8, "big")
 
 
 def write_file(path: str, slots: int, members: int, form: int = 2) -> None:
@@ -151,7 +162,7 @@ def write_file(path: str, slots: int, members: int, form: int = 2) -> None:
     name = b"LZYSET%d" % form
     with open(path, "wb") as file:
         file.write(b"\xa5" + name + slots.to_bytes(8, "big"))
-        file.writelines(b"\xa5" + bytes(7) + number.to_bytes(8, "big") for number in range(members))
+        file.writelines(slot_of(number, form) for number in range(members))
         # Zeros, and no hole: a device allocates what is written there first.
         file.writelines(bytes(16) for _ in range(slots - members))
         file.flush()
@@ -160,11 +171,19 @@ def write_file(path: str, slots: int, members: int, form: int = 2) -> None:
 
 @contextlib.contextmanager
 def lazyset(
-    bench: Bench, slots: int, members: int, passes: int, buckets: int, options: Sequence[str] = (), before: Sequence[str] = (), name: str = "f"
+    bench: Bench,
+    slots: int,
+    members: int,
+    passes: int,
+    buckets: int,
+    options: Sequence[str] = (),
+    before: Sequence[str] = (),
+    name: str = "f",
+    form: Optional[int] = None,
 ) -> Iterator[Served]:
-    """A service over a file of this name with so many members, of format 3 where format 2 has no room for its slots or buckets."""
+    """A service over a file of this name with so many members, of this format, or of 3 where format 2 has no room for its slots or buckets."""
     file = bench.path(name)
-    write_file(file, slots, members, 3 if slots > SLOTS or buckets > BUCKETS else 2)
+    write_file(file, slots, members, form or (3 if slots > SLOTS or buckets > BUCKETS else 2))
     words = [*before, bench.program, "serve", file, "0", str(passes), "--buckets", str(buckets), *options]
     started = subprocess.Popen(words, stdout=subprocess.PIPE, stderr=subprocess.DEVNULL, text=True, start_new_session=True)
     assert started.stdout is not None

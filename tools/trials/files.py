@@ -5,7 +5,7 @@ from __future__ import annotations
 import os
 from typing import Iterator, Optional, Tuple
 
-from trials.plain import FORMATS, MOST_SLOTS, Survey, head_of, renewed, slot_of
+from trials.plain import FORMATS, MOST_SLOTS, Survey, head_of, held, renewed, slot_of
 from trials.program import Ended, Key, Program
 from trials.report import expect
 
@@ -27,9 +27,16 @@ LARGEST = bytes.fromhex("a5 00 00 00 00 00 00 00 0d e0 b6 b3 a7 63 ff ff")
 
 CLOSED = bytes(16)
 
+# The slots of 17 and of 17 in room 3 in format 4, and one that a crash has left while it was written.
+WHOLE_17 = bytes.fromhex("0f 0f 0f 0f 0f 0f 0f 0f 0f 0f 0f 0f 0f 0f 1e 1e")
+
+WHOLE_IN_ROOM_3 = bytes.fromhex("2d 96 a5 2d 2d 4b 1e a5 f0 69 2d c3 0f 0f 1e 1e")
+
+TORN = bytes.fromhex("0f 0f 0f 0f 0f 0f 0f 00 0f 0f 0f 0f 0f 0f 1e 1e")
+
 # Byte 7 of a head names the format.
 FORMAT_PLACE = 7
-FORMAT_BYTES = {1: 0x31, 2: 0x32, 3: 0x33}
+FORMAT_BYTES = {1: 0x31, 2: 0x32, 3: 0x33, 4: 0x34}
 
 # A file of format 2 with two slots that hold 17 and 5.
 RENEWED = bytes.fromhex("a5 4c 5a 59 53 45 54 32 00 00 00 00 00 00 00 02") + SEVENTEEN + FIVE
@@ -65,6 +72,7 @@ MAKINGS: Tuple[Tuple[Optional[bytes], str, str, str, bytes], ...] = (
     (None, "2", "1", "made 2\n", TWO_SLOTS),
     (None, "2", "2", "made 2\n", of_format(2, TWO_SLOTS)),
     (None, "2", "3", "made 2\n", of_format(3, TWO_SLOTS)),
+    (None, "2", "4", "made 2\n", of_format(4, TWO_SLOTS)),
     (b"", "1", "1", "made 1\n", ONE_SLOT),
     # The file that a crash in a making's first write may leave.
     (b"\xa5", "2", "1", "made 2\n", TWO_SLOTS),
@@ -78,6 +86,7 @@ MAKINGS: Tuple[Tuple[Optional[bytes], str, str, str, bytes], ...] = (
     (b"", "65537", "1", "refused 2\n", b""),
     (b"", "65537", "2", "refused 2\n", b""),
     (b"", "16777217", "3", "refused 2\n", b""),
+    (b"", "16777217", "4", "refused 2\n", b""),
     (b"", "18446744073709551615", "3", "refused 2\n", b""),
     (bytes(49), "2", "1", "refused 4\n", bytes(49)),
     (bytes(49), "2", "3", "refused 4\n", bytes(49)),
@@ -95,7 +104,7 @@ def try_makings(program: Program, folder: str) -> None:
     put(file, None)
     program.make(file, 2)
     expect(bytes_in(file), of_format(2, TWO_SLOTS), "a file whose format isn't named")
-    for form in ("0", "4"):
+    for form in ("0", "5"):
         expect(program.run("make", file, "2", "--format", form).status, 2, f"the status of a making of format {form}")
 
 
@@ -119,7 +128,14 @@ SURVEYED: Tuple[Tuple[bytes, str, str], ...] = (
     (changed(TWO_SLOTS, 0, 0), "refused 1\n", "refused 1\n"),
     (b"\xa5", "refused 1\n", "refused 1\n"),
     (changed(TWO_SLOTS, 7, 0x39), "refused 2\n", "refused 2\n"),
-    (changed(TWO_SLOTS, 7, 0x34), "refused 2\n", "refused 2\n"),
+    (changed(TWO_SLOTS, 7, 0x35), "refused 2\n", "refused 2\n"),
+    # In format 4 a slot is open where none of its bytes is zero.
+    (of_format(4, TWO_SLOTS[:16]) + WHOLE_17 + WHOLE_IN_ROOM_3, "slot 0 key 17\nslot 1 key 3:17\ngood\n", ""),
+    (of_format(4, TWO_SLOTS[:16]) + TORN + WHOLE_17, "slot 1 key 17\ngood\n", ""),
+    (of_format(4, TWO_SLOTS[:16]) + WHOLE_17 * 2, "slot 0 key 17\nslot 1 twice 0\ndamaged\n", "refused 6 0 1\n"),
+    (of_format(4, ONE_SLOT[:16]) + changed(WHOLE_17, 3, 0x0E), "slot 0 badkey\ndamaged\n", "refused 5 0\n"),
+    (of_format(4, ONE_SLOT[:16]) + b"\xff" * 16, "slot 0 badkey\ndamaged\n", "refused 5 0\n"),
+    (of_format(4, ONE_SLOT[:16]) + SEVENTEEN, "good\n", ""),
     (changed(TWO_SLOTS, 7, 0x30), "refused 2\n", "refused 2\n"),
     (TWO_SLOTS[:47], "refused 3\n", "refused 3\n"),
     (TWO_SLOTS + b"\0", "refused 3\n", "refused 3\n"),
@@ -130,8 +146,8 @@ def cut_files() -> Iterator[Tuple[bytes, str, str]]:
     """A made file that is cut to each length; one with a number of slots that its format hasn't is refused for that at any length."""
     for length in range(48):
         told = "refused 1\n" if length < 16 else "refused 3\n"
-        yield of_format(1 + length % 3, TWO_SLOTS)[:length], told, told
-    for form, slots in ((1, 0), (1, 65_537), (2, 65_537), (3, 0), (3, 16_777_217), (3, 1 << 63)):
+        yield of_format(1 + length % 4, TWO_SLOTS)[:length], told, told
+    for form, slots in ((1, 0), (1, 65_537), (2, 65_537), (3, 0), (3, 16_777_217), (3, 1 << 63), (4, 0), (4, 16_777_217)):
         for length in range(16, 65):
             yield (head_of(form, slots) + bytes(48))[:length], "refused 4\n", "refused 4\n"
     for slots in (65_537, 16_777_216):
@@ -143,6 +159,7 @@ COUNTED: Tuple[Tuple[bytes, str, int], ...] = (
     (TWO_SLOTS, "format 1\nslots 2\nmembers 0\nfree 2\ngood\n", 0),
     (RENEWED, "format 2\nslots 2\nmembers 2\nfree 0\ngood\n", 0),
     (of_format(3, RENEWED), "format 3\nslots 2\nmembers 2\nfree 0\ngood\n", 0),
+    (of_format(4, TWO_SLOTS[:16]) + TORN + WHOLE_17, "format 4\nslots 2\nmembers 1\nfree 1\ngood\n", 0),
     (TWO_SLOTS[:32] + SEVENTEEN, "format 1\nslots 2\nmembers 1\nfree 1\ngood\n", 0),
     # What is damaged is no member, and its slot isn't free.
     (TWO_SLOTS[:16] + SEVENTEEN * 2, "format 1\nslots 2\nmembers 1\nfree 0\ndamaged\n", 4),
@@ -216,7 +233,7 @@ def try_largest(program: Program, folder: str) -> None:
 
 
 def try_limits(program: Program, folder: str) -> None:
-    """Each format makes a file of 65,536 slots, and only format 3 one of 65,537. So many are read by the head's format alone."""
+    """Each format makes a file of 65,536 slots, and only the formats 3 and 4 one of 65,537. So many are read by the head's format alone."""
     file = os.path.join(folder, "limits")
     for form in FORMATS:
         put(file, None)
@@ -224,11 +241,11 @@ def try_limits(program: Program, folder: str) -> None:
         expect(program.run("info", file), Ended(f"format {form}\nslots 65536\nmembers 0\nfree 65536\ngood\n", 0), "65,536 slots")
         put(file, None)
         ended = program.run("make", file, "65537", "--format", str(form))
-        expect(ended, Ended("made 65537\n", 0) if form == 3 else Ended("refused 2\n", 3), f"making 65,537 slots of format {form}")
+        expect(ended, Ended("made 65537\n", 0) if form >= 3 else Ended("refused 2\n", 3), f"making 65,537 slots of format {form}")
         put(file, head_of(form, 65_537) + bytes(16 * 65_537))
         for command in ("check", "run"):
-            told = {"check": "good\n", "run": ""}[command] if form == 3 else "refused 4\n"
-            expect(program.run(command, file), Ended(told, 0 if form == 3 else 3), f"a {command} of 65,537 slots of format {form}")
+            told = {"check": "good\n", "run": ""}[command] if form >= 3 else "refused 4\n"
+            expect(program.run(command, file), Ended(told, 0 if form >= 3 else 3), f"a {command} of 65,537 slots of format {form}")
 
 
 # An old file, a new one, the slots that are asked for, and how a renewal is refused.
@@ -299,14 +316,22 @@ INTO_FORMATS: Tuple[Tuple[int, int, str, str], ...] = (
     (2, 3, "0", "refused new 2\n"),
     (2, 3, "1", "refused 9 2 1\n"),
     (2, 3, "16777217", "refused new 2\n"),
+    (1, 4, "2", "renewed 2\n"),
+    (2, 4, "65537", "renewed 2\n"),
+    (3, 4, "3", "renewed 2\n"),
+    (4, 4, "2", "renewed 2\n"),
+    (4, 3, "65537", "renewed 2\n"),
+    (4, 2, "2", "renewed 2\n"),
+    (4, 2, "65537", "refused new 2\n"),
+    (2, 4, "16777217", "refused new 2\n"),
 )
 
 
 def try_formats(program: Program, folder: str) -> None:
-    """Files are renewed into the formats 2 and 3, and into no other one."""
+    """Files are renewed into the formats 2 to 4, and into no other one."""
     old, new = os.path.join(folder, "old"), os.path.join(folder, "new")
     for before, after, slots, told in INTO_FORMATS:
-        text = of_format(before, RENEWED)
+        text = held(before, 2, (Key(0, 17), Key(0, 5)))
         put(old, text)
         put(new, b"")
         what = f"renewing format {before} into {slots} slots of format {after}"
@@ -318,6 +343,6 @@ def try_formats(program: Program, folder: str) -> None:
             same = "slot 0 key 17\nslot 1 key 5\ngood\nsame\n"
             expect(program.run("check", new, "--of", old), Ended(same, 0), f"a check behind {what}")
     put(new, None)
-    for form in ("0", "1", "4"):
+    for form in ("0", "1", "5"):
         expect(program.run("renew", old, new, "2", "--format", form).status, 2, f"the status of a renewal into format {form}")
         expect(os.path.exists(new), False, f"that a renewal into format {form} leaves a file")

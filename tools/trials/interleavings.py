@@ -8,7 +8,7 @@ import random
 from dataclasses import dataclass
 from typing import Iterator, NamedTuple, Tuple
 
-from trials.plain import FORMATS
+from trials.plain import GATED
 from trials.program import Program
 from trials.rehearsals import rehearse, try_whole
 from trials.report import Wrong
@@ -214,7 +214,7 @@ def try_crashes(program: Program) -> None:
 def try_meetings(program: Program, seed: int) -> None:
     draw = random.Random(seed)
     for transcript in meetings():
-        try_whole(program, transcript, [draw.choice(FORMATS)])
+        try_whole(program, transcript, [draw.choice(GATED)])
 
 
 def failed(change: Change, turns: int, end: str) -> Transcript:
@@ -247,7 +247,7 @@ def try_failures(program: Program, seed: int) -> None:
         for turns in range(TURNS):
             for end in ENDS:
                 transcript = failed(change, turns, end)
-                is_found = found_behind(program, transcript, draw.choice(FORMATS))
+                is_found = found_behind(program, transcript, draw.choice(GATED))
                 is_done = is_found != change.is_held
                 if is_done and turns < before_gate or not is_done and turns >= change.last:
                     raise Wrong(f"{transcript.name}, {end}: nine is {'' if is_found else 'not '}found")

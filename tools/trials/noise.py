@@ -6,7 +6,8 @@ from __future__ import annotations
 import random
 from typing import Sequence
 
-from trials.plain import FORMATS, HEAD_SIZE, OPEN, SLOT_SIZE, head_of
+from trials.plain import FORMATS, HEAD_SIZE, OPEN, SLOT_SIZE, head_of, slot_of
+from trials.program import Key
 
 COMMANDS = ("add", "remove", "has")
 
@@ -176,8 +177,21 @@ class Noise:
         """Lines of a history that a rehearsal told."""
         return self.text(HISTORY_WORDS, self.with_points(told).encode())
 
-    def _slot(self, index: int) -> bytes:
+    def _whole_slot(self, index: int) -> bytes:
+        """The bytes of a slot of format 4: those of a key, often with zeros or other bytes among them."""
+        draw = self.draw
+        slot = bytearray(slot_of(Key(draw.randrange(16), draw.randrange(4) if self.one_in(4) else index), 4))
+        if self.one_in(2):
+            for place in draw.sample(range(SLOT_SIZE), draw.randrange(1, SLOT_SIZE + 1)):
+                slot[place] = 0
+        if self.one_in(16):
+            slot[draw.randrange(SLOT_SIZE)] = draw.randrange(256)
+        return bytes(slot)
+
+    def _slot(self, form: int, index: int) -> bytes:
         """The bytes of a slot: most of them of a key, behind a gate that is open or not."""
+        if form == 4:
+            return self._whole_slot(index)
         draw = self.draw
         slot = bytearray(SLOT_SIZE)
         slot[0] = OPEN if self.one_in(2) else draw.randrange(256)
@@ -195,5 +209,6 @@ class Noise:
     def file(self) -> bytes:
         """A file: of a few slots or of many, whole or spoiled, or bytes of all kinds."""
         slots = self.draw.randrange(1024) if self.one_in(64) else self.draw.randrange(5)
-        formed = head_of(self.draw.choice(FORMATS), slots) + b"".join(self._slot(index) for index in range(slots))
-        return self.text(FILE_WORDS, formed if len(formed) > HEAD_SIZE or self.one_in(4) else formed + self._slot(0))
+        form = self.draw.choice(FORMATS)
+        formed = head_of(form, slots) + b"".join(self._slot(form, index) for index in range(slots))
+        return self.text(FILE_WORDS, formed if len(formed) > HEAD_SIZE or self.one_in(4) else formed + self._slot(form, 0))

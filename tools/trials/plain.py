@@ -10,9 +10,11 @@ MOST_NUMBER = 10**18 - 1
 MOST_ROOM = 15
 MOST_LINE = 64
 
-FORMATS = (1, 2, 3)
-MOST_SLOTS = {1: 65_536, 2: 65_536, 3: 16_777_216}
-MOST_BUCKETS = {1: 4_096, 2: 4_096, 3: 1_048_576}
+FORMATS = (1, 2, 3, 4)
+# Those in which a slot has a gate.
+GATED = (1, 2, 3)
+MOST_SLOTS = {1: 65_536, 2: 65_536, 3: 16_777_216, 4: 16_777_216}
+MOST_BUCKETS = {1: 4_096, 2: 4_096, 3: 1_048_576, 4: 1_048_576}
 
 HEAD_SIZE = SLOT_SIZE = 16
 OPEN = 0xA5
@@ -67,9 +69,17 @@ def read_line(line: bytes) -> Union[Command, str, int]:
     return key if isinstance(key, int) else (verb.decode(), key)
 
 
-def slot_of(key: Key) -> bytes:
-    """The bytes of an open slot."""
+def slot_of(key: Key, form: int = 2) -> bytes:
+    """The bytes of an open slot in a file of this format."""
+    if form == 4:
+        digits = f"{(MOST_NUMBER + 1) * key.room + key.number:016x}"
+        return bytes(16 * int(digit, 16) + 15 - int(digit, 16) for digit in digits)
     return bytes([OPEN, key.room]) + bytes(6) + key.number.to_bytes(8, "big")
+
+
+def is_open(form: int, slot: bytes) -> bool:
+    """Whether a slot is open: by its gate, or in format 4 by all its bytes."""
+    return 0 not in slot if form == 4 else slot[0] == OPEN
 
 
 def head_of(form: int, slots: int) -> bytes:
@@ -98,15 +108,15 @@ class Plain:
             return "no"
         if len(self.places) == len(self.slots):
             return "full"
-        place = next(place for place, slot in enumerate(self.slots) if slot[0] != OPEN)
-        self.places[key], self.slots[place] = place, slot_of(key)
+        place = next(place for place, slot in enumerate(self.slots) if not is_open(self.form, slot))
+        self.places[key], self.slots[place] = place, slot_of(key, self.form)
         return "yes"
 
     def _remove(self, key: Key) -> str:
         if key not in self.places:
             return "no"
         place = self.places.pop(key)
-        self.slots[place] = b"\0" + self.slots[place][1:]
+        self.slots[place] = bytes(SLOT_SIZE) if self.form == 4 else b"\0" + self.slots[place][1:]
         return "yes"
 
     def replies(self, text: bytes) -> str:
@@ -147,7 +157,7 @@ class Survey:
                 self._note(place, text[start : start + SLOT_SIZE])
 
     def _note(self, place: int, slot: bytes) -> None:
-        if slot[0] != OPEN:
+        if not is_open(self.form, slot):
             return
         key = key_in(self.form, slot)
         if key is None:
@@ -232,6 +242,10 @@ def has_room(form: int, room: int) -> bool:
 
 def key_in(form: int, slot: bytes) -> Optional[Key]:
     """The key of an open slot, if its bytes are one's."""
+    if form == 4:
+        is_paired = all(byte // 16 + byte % 16 == 15 for byte in slot)
+        room, number = divmod(int("".join(f"{byte // 16:x}" for byte in slot), 16), MOST_NUMBER + 1)
+        return Key(room, number) if is_paired and room <= MOST_ROOM else None
     room, number = slot[1], int.from_bytes(slot[8:], "big")
     is_key = has_room(form, room) and not any(slot[2:8]) and number <= MOST_NUMBER
     return Key(room, number) if is_key else None
@@ -239,7 +253,7 @@ def key_in(form: int, slot: bytes) -> Optional[Key]:
 
 def held(form: int, slots: int, keys: Sequence[Key]) -> bytes:
     """A file of so many slots, the first of which hold these keys."""
-    return head_of(form, slots) + b"".join(slot_of(key) for key in keys) + bytes(SLOT_SIZE * (slots - len(keys)))
+    return head_of(form, slots) + b"".join(slot_of(key, form) for key in keys) + bytes(SLOT_SIZE * (slots - len(keys)))
 
 
 def made(text: bytes, form: int, slots: int, keys: Sequence[Key] = ()) -> Tuple[str, bytes]:

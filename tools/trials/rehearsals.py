@@ -7,12 +7,12 @@ from typing import Iterator, Sequence, Tuple
 
 from trials import transcripts
 from trials.program import Ended, Program
-from trials.plain import FORMATS
+from trials.plain import FORMATS, GATED
 from trials.report import expect
 from trials.sessions import no_buckets
 from trials.transcripts import Transcript
 
-STORED = ("turns", "crashes", "failures", "lawful", "limits", "reuse")
+STORED = ("turns", "crashes", "failures", "lawful", "limits", "reuse", "whole")
 
 MOST_LINES = 100_000
 
@@ -85,11 +85,17 @@ def expect_rehearsed(program: Program, size: Tuple[int, int, int], script: str, 
     expect(rehearse(program, size, script), Ended(told, status), f"{what}: {script[:400]!r}")
 
 
-def try_whole(program: Program, transcript: Transcript, formats: Sequence[int] = FORMATS) -> None:
+def try_whole(program: Program, transcript: Transcript, formats: Sequence[int] = GATED) -> None:
     """A transcript prints what stands in it."""
     asked, told = transcript.first()
     for form in formats:
         expect_rehearsed(program, (transcript.slots, transcript.buckets[0], form), asked, told, transcript.name)
+
+
+def alike(transcript: Transcript) -> Sequence[int]:
+    """The formats in which a transcript prints what stands in it: format 4 makes other device calls, which a crash or a trip shows."""
+    shows = any(asked.split()[0] in ("trip", "crash") for asked, _ in transcript.exchanges)
+    return [form for form in transcript.formats if form in GATED] if shows and len(transcript.formats) > 1 else transcript.formats
 
 
 def try_beginnings(program: Program, transcript: Transcript, form: int) -> None:
@@ -140,8 +146,9 @@ def try_stored(program: Program, seed: int) -> None:
     draw = random.Random(seed)
     for name in STORED:
         for transcript in transcripts.stored(name):
-            try_whole(program, transcript, transcript.formats)
-            try_beginnings(program, transcript, draw.choice(transcript.formats))
+            formats = alike(transcript)
+            try_whole(program, transcript, formats)
+            try_beginnings(program, transcript, draw.choice(formats))
     for transcript in (*unlawful(), *awaited()):
         try_whole(program, transcript)
 
@@ -165,18 +172,18 @@ def try_reading(program: Program) -> None:
         expect_rehearsed(program, (1, 1, form), "trip\n" * MOST_LINES, "", "as many lines as a script may have")
         more = f"line {MOST_LINES + 1}\n"
         expect_rehearsed(program, (1, 1, form), "trip\n" * (MOST_LINES + 1), more, "a line more than a script may have")
-    for size in ((0, 1, 2), (65, 1, 2), (65, 1, 3), (1, 0, 2), (1, 4097, 1), (1, 4097, 2), (1, 1_048_577, 3)):
+    for size in ((0, 1, 2), (65, 1, 2), (65, 1, 3), (1, 0, 2), (1, 4097, 1), (1, 4097, 2), (1, 1_048_577, 3), (1, 1, 5)):
         expect(rehearse(program, size, "").status, 2, f"the status of a rehearsal of so many slots and lists, of a format: {size}")
     for buckets, form in ((4097, 1), (4097, 2), (1_048_576, 2)):
         expect(rehearse(program, (1, buckets, form), ""), no_buckets(buckets, 4096), f"a rehearsal of {buckets} lists, format {form}")
-    for buckets in (4097, 1_048_576):
-        expect(rehearse(program, (1, buckets, 3), "show\n"), Ended("show\n", 0), f"a rehearsal of {buckets} lists, format 3")
+    for buckets, form in ((4097, 3), (1_048_576, 3), (1_048_576, 4)):
+        expect(rehearse(program, (1, buckets, form), "show\n"), Ended("show\n", 0), f"a rehearsal of {buckets} lists, format {form}")
 
 
 def try_rooms(program: Program) -> None:
     """Keys are shown by room and then by number; a key of another room than 0 is refused in a file of format 1."""
     script = "call 1 add 1:0\nfinish 1\ncall 1 add 999999999999999999\nfinish 1\nshow\n"
     both, one = ("answer 1 yes", "999999999999999999 1:0"), ("refused 1 oldfile", "999999999999999999")
-    for form, (answer, shown) in ((3, both), (2, both), (1, one)):
+    for form, (answer, shown) in ((4, both), (3, both), (2, both), (1, one)):
         told = f"call 1 1 add 1:0\n{answer}\ncall 2 1 add 999999999999999999\nanswer 2 yes\nshow {shown}\n"
         expect_rehearsed(program, (2, 1, form), script, told, "rooms")

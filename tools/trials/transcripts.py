@@ -14,7 +14,7 @@ from trials.plain import FORMATS
 
 FOLDER = os.path.join(os.path.dirname(os.path.abspath(__file__)), "transcripts")
 
-HEAD = re.compile(r"== slots (\d+)(?:, buckets (\d+))?(?:, formats? (\d)(?: and (\d))?)?: (.+)")
+HEAD = re.compile(r"== slots (\d+)(?:, buckets (\d+))?(?:, formats? (\d)(?: to (\d))?)?: (.+)")
 
 
 @dataclass
@@ -46,7 +46,8 @@ def _begun(head: str) -> Transcript:
     if buckets:
         transcript.buckets = (int(buckets),)
     if forms[0]:
-        transcript.formats = tuple(int(form) for form in forms if form)
+        first, last = int(forms[0]), int(forms[1] or forms[0])
+        transcript.formats = tuple(range(first, last + 1))
     return transcript
 
 

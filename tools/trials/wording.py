@@ -25,7 +25,7 @@ OPENED: Tuple[Tuple[bytes, str, bool, str], ...] = (
 )
 
 # How many slots a file may have.
-FEW = "a file has 1 to 65536 slots; with --format 3 it has up to 16777216"
+FEW = "a file has 1 to 65536 slots; with --format 3 or 4 it has up to 16777216"
 MILLIONS = "a file of format 3 has 1 to 16777216 slots"
 NO_ROOM = "so many keys have no room in so many slots"
 

@@ -1,0 +1,147 @@
+"""What a loss of power may leave: images of the file, from the system calls that a run makes, each read by an independent reader."""
+
+from __future__ import annotations
+
+import os
+import random
+import re
+from typing import Dict, FrozenSet, Iterator, List, NamedTuple, Sequence, Tuple
+
+from trials.faults import needs_strace
+from trials.plain import FORMATS, Plain, Survey
+from trials.program import Key, Program
+from trials.report import Wrong, expect
+
+SLOTS = 3
+LINES = 24
+VERBS = ("add", "add", "remove", "has")
+NUMBERS = (0, 7, 8, 10**18 - 1)
+CALLS = re.compile(r'^(pwrite64|write|fdatasync|fsync)\((\d+)(?:, "((?:\\x[0-9a-f]{2})*)", \d+(?:, (\d+))?)?\) += (\d+)')
+
+# How many bytes that may be old or new are gone through in each combination, and else how many draws are made.
+ALL_OF = 10
+DRAWS = 60
+
+Members = FrozenSet[Key]
+
+
+class Call(NamedTuple):
+    """A write of the file at a place; a write of standard output, or a sync, which have none."""
+
+    at: int
+    text: bytes
+
+
+SYNC, TOLD = -1, -2
+
+
+def traced(program: Program, file: str, lines: str, log: str) -> List[Call]:
+    """The calls that a run makes over a file, in their order."""
+    words = ("strace", "-o", log, "-xx", "-s", "65536", "-e", "trace=pwrite64,write,fdatasync,fsync")
+    ended = program.run("run", file, lines=lines, before=words)
+    expect(ended.status, 0, f"the status of a run of {lines!r}")
+    calls: List[Call] = []
+    with open(log, encoding="ascii") as told:
+        for name, number, text, at, _ in (found.groups() for found in map(CALLS.match, told) if found):
+            written = bytes.fromhex((text or "").replace("\\x", ""))
+            if name == "pwrite64":
+                calls.append(Call(int(at), written))
+            elif name == "write" and number == "1":
+                calls.append(Call(TOLD, written))
+            elif name != "write":
+                calls.append(Call(SYNC, b""))
+    return calls
+
+
+class Disk:
+    """A disk of bytes: those that are durable, and at each place those that were written there since."""
+
+    def __init__(self, text: bytes, is_bytewise: bool) -> None:
+        self.sure = bytearray(text)
+        self.seen = bytearray(text)
+        self.loose: Dict[int, List[int]] = {}
+        self.is_bytewise = is_bytewise
+
+    def take(self, call: Call) -> None:
+        if call.at == SYNC:
+            self.sure, self.loose = bytearray(self.seen), {}
+        elif call.at >= 0:
+            for place, byte in enumerate(call.text, call.at):
+                self.seen[place] = byte
+                self.loose.setdefault(place, []).append(byte)
+
+    def images(self, draw: random.Random) -> Iterator[bytes]:
+        """Texts that a crash may leave: at each place that isn't synced the old byte or one that was written, or any byte where the disk
+        isn't bytewise."""
+        choices = {place: sorted({self.sure[place], *written}) for place, written in self.loose.items()}
+        open_places = [place for place, bytes_there in choices.items() if len(bytes_there) > 1]
+        yield bytes(self.sure)
+        yield bytes(self.seen)
+        if len(open_places) <= ALL_OF and all(len(choices[place]) == 2 for place in open_places):
+            for mask in range(1 << len(open_places)):
+                yield self._with({place: choices[place][mask >> bit & 1] for bit, place in enumerate(open_places)})
+        for _ in range(DRAWS):
+            yield self._with({place: draw.choice(choices[place]) for place in open_places})
+            if not self.is_bytewise:
+                yield self._with({place: draw.choice((*choices[place], draw.randrange(256), 0xA5)) for place in self.loose})
+
+    def _with(self, chosen: Dict[int, int]) -> bytes:
+        image = bytearray(self.sure)
+        for place, byte in chosen.items():
+            image[place] = byte
+        return bytes(image)
+
+
+def sets_of(begun: Members, lines: Sequence[str]) -> List[Members]:
+    """The members before the first line and after each."""
+    members = [begun]
+    for verb, key in (line.split() for line in lines):
+        change, now = {Key.read(key)}, members[-1]
+        if verb == "add" and len(now) < SLOTS:
+            now = now | change
+        members.append(now - change if verb == "remove" else now)
+    return members
+
+
+def expect_explained(image: bytes, members: Sequence[Members], told: int, what: str) -> None:
+    """The image holds the set after what was told, or with the next line done too."""
+    survey = Survey(image)
+    if not survey.holds():
+        raise Wrong(f"{what}: a crash leaves a damaged file: {image.hex()}")
+    if frozenset(survey.members) not in members[told : told + 2]:
+        raise Wrong(f"{what}: after {told} replies a crash leaves {sorted(survey.members)}: {image.hex()}")
+
+
+def try_run(program: Program, folder: str, form: int, start: bytes, draw: random.Random) -> Tuple[int, bytes]:
+    """A run of drawn lines over a file. How many images a crash may leave of it were read, and one that is left in its midst."""
+    file = os.path.join(folder, "imaged")
+    rooms = ("",) if form == 1 else ("", "3:")
+    lines = [f"{draw.choice(VERBS)} {draw.choice(rooms)}{draw.choice(NUMBERS)}" for _ in range(LINES)]
+    with open(file, "wb") as new:
+        new.write(start)
+    disk, left = Disk(start, form == 4), start
+    members, told, count = sets_of(frozenset(Survey(start).members), lines), 0, 0
+    for call in traced(program, file, "".join(f"{line}\n" for line in lines), os.path.join(folder, "calls")):
+        told += call.text.count(b"\n") if call.at == TOLD else 0
+        disk.take(call)
+        images = list(disk.images(draw))
+        for image in images:
+            expect_explained(image, members, told, f"{lines}, format {form}")
+        count += len(images)
+        if disk.loose and draw.randrange(4) == 0:
+            left = draw.choice(images)
+    expect(told, len(lines), "how many lines were answered")
+    return count, left
+
+
+def try_images(program: Program, folder: str, seed: int, runs: int) -> None:
+    """Whatever a loss of power leaves in the midst of a run holds the set after the replies, or with the next line done too. Each run but
+    the first goes on with a file that one has left."""
+    needs_strace()
+    draw, counts = random.Random(seed), {form: 0 for form in FORMATS}
+    for form in FORMATS:
+        left = Plain(form, SLOTS).file()
+        for _ in range(runs):
+            count, left = try_run(program, folder, form, left, draw)
+            counts[form] += count
+    print("         " + ", ".join(f"format {form}: {count} images" for form, count in counts.items()), flush=True)
