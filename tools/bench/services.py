@@ -22,11 +22,13 @@ BUCKETS = 4096
 MOST_THREADS = 64
 MOST_PASSES = 1024
 
-# A loop over a file of format 2, and over how many connections it is measured.
-FEW, FEW_CONNECTIONS = "loop of format 2", 64
+# A loop over a file of format 2, one over a file of format 4, and one over such a file each of whose free slots is torn: more than a crash
+# leaves, which tears those that were being written.
+FEW, WHOLE, TORN = "loop of format 2", "loop of format 4", "loop of format 4, torn"
 
-# A loop over a file of format 4.
-WHOLE = "loop of format 4"
+# Targets that are measured over so many connections alone, and of which format a target's file is, where that is its own.
+NARROW, NARROW_CONNECTIONS = (FEW, TORN), 64
+FORMS = {WHOLE: 4, TORN: 4}
 
 # A loop that speaks Redis's protocol.
 FRAMES = "frames"
@@ -128,10 +130,10 @@ def switches(pid: int) -> int:
     return count
 
 
-def serves(target: str, connections: int) -> bool:
+def serves(target: str, connections: int, verb: str = "add") -> bool:
     """Whether a target is measured over so many connections at once: one with a thread for each has few."""
-    if target == FEW:
-        return connections == FEW_CONNECTIONS
+    if target in NARROW:
+        return connections == NARROW_CONNECTIONS and (target, verb) not in ((TORN, "remove"), (TORN, "has"))
     return target != "threads" or connections <= MOST_THREADS
 
 
@@ -146,8 +148,8 @@ def service(
     # One of a loop's passes carries out no command, where it has several.
     passes = connections if target == "threads" else min(calls + int(calls > 1), MOST_PASSES)
     loop = [] if target == "threads" else ["--connections", str(connections), "--loops", str(bench.loops)]
-    form = 4 if target == WHOLE else None
-    return lazyset(bench, SLOTS, members, passes, BUCKETS if target == FEW else SLOTS, loop, before, form=form)
+    buckets = BUCKETS if target == FEW else SLOTS
+    return lazyset(bench, SLOTS, members, passes, buckets, loop, before, form=FORMS.get(target), torn=target == TORN)
 
 
 def slot_of(number: int, form: int) -> bytes:
@@ -157,14 +159,14 @@ def slot_of(number: int, form: int) -> bytes:
     return b"\xa5" + bytes(7) + number.to_bytes(8, "big")
 
 
-def write_file(path: str, slots: int, members: int, form: int = 2) -> None:
-    """A slot file of a format, with the keys below so many."""
+def write_file(path: str, slots: int, members: int, form: int = 2, torn: bool = False) -> None:
+    """A slot file of a format, with the keys below so many, and each other slot torn or zeros."""
     name = b"LZYSET%d" % form
     with open(path, "wb") as file:
         file.write(b"\xa5" + name + slots.to_bytes(8, "big"))
         file.writelines(slot_of(number, form) for number in range(members))
         # Zeros, and no hole: a device allocates what is written there first.
-        file.writelines(bytes(16) for _ in range(slots - members))
+        file.writelines(slot_of(number, form)[:8] * torn + bytes(16 - 8 * torn) for number in range(slots - members))
         file.flush()
         os.fsync(file.fileno())
 
@@ -180,10 +182,11 @@ def lazyset(
     before: Sequence[str] = (),
     name: str = "f",
     form: Optional[int] = None,
+    torn: bool = False,
 ) -> Iterator[Served]:
     """A service over a file of this name with so many members, of this format, or of 3 where format 2 has no room for its slots or buckets."""
     file = bench.path(name)
-    write_file(file, slots, members, form or (3 if slots > SLOTS or buckets > BUCKETS else 2))
+    write_file(file, slots, members, form or (3 if slots > SLOTS or buckets > BUCKETS else 2), torn)
     words = [*before, bench.program, "serve", file, "0", str(passes), "--buckets", str(buckets), *options]
     started = subprocess.Popen(words, stdout=subprocess.PIPE, stderr=subprocess.DEVNULL, text=True, start_new_session=True)
     assert started.stdout is not None
