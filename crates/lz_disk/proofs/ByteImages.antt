@@ -8,12 +8,13 @@ use Rattle.lz_disk.specs.Images.{Medium, IsImage, IsConsistent, AreBytes, WasWri
 use Rattle.lz_disk.specs.Picks.{with_loose, with_first, left_by}
 use Rattle.lz_disk.specs.Records.{after, after_record}
 use Rattle.lz_disk.specs.declared.memory.Pick.{Pick}
-use Rattle.lz_disk.specs.declared.memory.Pick.TheVariants.{Old, New, Byte, Part}
+use Rattle.lz_disk.specs.declared.memory.Pick.TheVariants.{Old, New, Byte, Part, Mask}
 use Rattle.lz_disk.specs.declared.memory.Record.{Record}
 use Rattle.lz_disk.specs.declared.memory.Record.TheVariants.{Synced}
 use Rattle.lz_disk.proofs.Overwrites as over
 use Rattle.lz_disk.proofs.Writes.{loose_outside, loose_inside}
 use Rattle.lz_disk.proofs.GrownRecords.{after_push}
+use Rattle.lz_disk.proofs.PickImages.{mask_not_shorter, mask_not_longer, mask_either}
 
 abbrev chosen : List (ℕ × List ℕ) → ℕ → ℕ → ℕ → ℕ
 chosen ranges h i b = if is_loose ranges i then h else b
@@ -122,6 +123,16 @@ left_is_image (Part n) disk held bytes =
       each = λ on i lt.
           ⊎_elim inl (λ e. ⊎_elim (λ sure. inl (e ∙ sure)) (λ was. inr (subst (WasWritten disk.loose i) (sym e) was)) (held.each on i lt))
           (first_either disk.loose n 0 disk.sure disk.seen i lt);
+    }
+left_is_image (Mask mask) disk held bytes =
+    record {
+      bytes = bytes;
+      no_shorter = mask_not_shorter mask 0 disk.sure disk.seen;
+      no_longer = mask_not_longer mask 0 disk.sure disk.seen held.no_shorter;
+      sure = λ i lt shut. ⊎_elim (λ durable. durable) (λ e. e ∙ held.same i lt shut) (mask_either mask 0 disk.sure disk.seen i lt);
+      each = λ on i lt.
+          ⊎_elim inl (λ e. ⊎_elim (λ durable. inl (e ∙ durable)) (λ was. inr (subst (WasWritten disk.loose i) (sym e) was)) (held.each on i lt))
+          (mask_either mask 0 disk.sure disk.seen i lt);
     }
 
 either : (b : Bool) (h : ℕ) → (if b then h else h) ≡ h

@@ -40,26 +40,26 @@ pub record IsTaking (disk : Medium) (count left at : ℕ) (text : List ℕ) : Ty
 pub taking_begins : (disk : Medium) (count : ℕ) (text : List ℕ) → text ≡ disk.sure → IsTaking disk count count 0 text
 taking_begins disk count text is = record { done = []; rest = text; parts = refl; here = refl; within = omega arith; same = ap (λ (l : List ℕ). with_first disk.loose count 0 l disk.seen) is }
 
-append-assoc : (xs : List ℕ) (b : ℕ) (ys : List ℕ) → (xs ++ b ∷ []) ++ ys ≡ xs ++ b ∷ ys
+pub append-assoc : (xs : List ℕ) (b : ℕ) (ys : List ℕ) → (xs ++ b ∷ []) ++ ys ≡ xs ++ b ∷ ys
 append-assoc [] b ys = refl
 append-assoc (x ∷ xs) b ys = ap (λ (l : List ℕ). x ∷ l) (append-assoc xs b ys)
 
-append-nil : (xs : List ℕ) → xs ++ [] ≡ xs
+pub append-nil : (xs : List ℕ) → xs ++ [] ≡ xs
 append-nil [] = refl
 append-nil (x ∷ xs) = ap (λ (l : List ℕ). x ∷ l) (append-nil xs)
 
-set_there : (xs : List ℕ) (a b : ℕ) (ys : List ℕ) (i : ℕ) → length xs ≡ i → set (xs ++ a ∷ ys) i b ≡ xs ++ b ∷ ys
+pub set_there : (xs : List ℕ) (a b : ℕ) (ys : List ℕ) (i : ℕ) → length xs ≡ i → set (xs ++ a ∷ ys) i b ≡ xs ++ b ∷ ys
 set_there [] a b ys zero is = refl
 set_there [] a b ys (suc i) is = absurd (omega arith)
 set_there (x ∷ xs) a b ys zero is = absurd (omega arith)
 set_there (x ∷ xs) a b ys (suc i) is = ap (λ (l : List ℕ). x ∷ l) (set_there xs a b ys i (omega arith))
 
 -- what a list with a first element is
-first_of : (xs : List ℕ) → 1 ≤ length xs → (a : ℕ) × (ys : List ℕ) × (xs ≡ a ∷ ys)
+pub first_of : (xs : List ℕ) → 1 ≤ length xs → (a : ℕ) × (ys : List ℕ) × (xs ≡ a ∷ ys)
 first_of [] some = absurd (omega arith)
 first_of (a ∷ ys) some = (a, ys, refl)
 
-none_of : (xs : List ℕ) → length xs ≤ 0 → xs ≡ []
+pub none_of : (xs : List ℕ) → length xs ≤ 0 → xs ≡ []
 none_of [] none = refl
 none_of (a ∷ ys) none = absurd (omega arith)
 
