@@ -5,16 +5,16 @@ use Rattle.std.proofs.lemmas.List.{get_or-replicate, length-replicate, take_more
 use borrow.Rule.Slice.PartMut.{put_mid}
 use Rattle.std.proofs.lemmas.Grind.{same_number_lists}
 use Rattle.lz_disk.specs.Images.{Medium, IsImage, IsConsistent, AreBytes, WasWritten, is_loose, overwritten}
-use Rattle.lz_disk.specs.Picks.{with_loose, with_first, left_by}
+use Rattle.lz_disk.specs.Picks.{with_loose, with_first, with_nth, nth_written, left_by}
 use Rattle.lz_disk.specs.Records.{after, after_record}
 use Rattle.lz_disk.specs.declared.memory.Pick.{Pick}
-use Rattle.lz_disk.specs.declared.memory.Pick.TheVariants.{Old, New, Byte, Part, Mask}
+use Rattle.lz_disk.specs.declared.memory.Pick.TheVariants.{Old, New, Byte, Part, Mask, Nth}
 use Rattle.lz_disk.specs.declared.memory.Record.{Record}
 use Rattle.lz_disk.specs.declared.memory.Record.TheVariants.{Synced}
 use Rattle.lz_disk.proofs.Overwrites as over
 use Rattle.lz_disk.proofs.Writes.{loose_outside, loose_inside}
 use Rattle.lz_disk.proofs.GrownRecords.{after_push}
-use Rattle.lz_disk.proofs.PickImages.{mask_not_shorter, mask_not_longer, mask_either}
+use Rattle.lz_disk.proofs.PickImages.{mask_not_shorter, mask_not_longer, mask_either, length-with_nth, nth_at, nth_either, nth_sure}
 
 abbrev chosen : List (ℕ × List ℕ) → ℕ → ℕ → ℕ → ℕ
 chosen ranges h i b = if is_loose ranges i then h else b
@@ -134,6 +134,21 @@ left_is_image (Mask mask) disk held bytes =
           ⊎_elim inl (λ e. ⊎_elim (λ durable. inl (e ∙ durable)) (λ was. inr (subst (WasWritten disk.loose i) (sym e) was)) (held.each on i lt))
           (mask_either mask 0 disk.sure disk.seen i lt);
     }
+left_is_image (Nth n) disk held bytes =
+    let size = length-with_nth disk.loose n 0 disk.seen in
+    let here : (i : ℕ) → i < length disk.sure → get_or (with_nth disk.loose n 0 disk.seen) i 0 ≡ nth_written disk.loose n i (get_or disk.seen i 0) =
+    λ i lt. nth_at disk.loose n disk.seen i (omega (arith, lt, held.no_shorter)) in
+    record {
+      bytes = bytes;
+      no_shorter = omega (arith, size, held.no_shorter);
+      no_longer = omega (arith, size);
+      sure = λ i lt shut. here i lt ∙ nth_sure disk.loose n i (get_or disk.seen i 0) shut ∙ held.same i lt shut;
+      each = λ on i lt.
+          ⊎_elim
+          (λ e. ⊎_elim (λ durable. inl (here i lt ∙ e ∙ durable)) (λ was. inr (subst (WasWritten disk.loose i) (sym (here i lt ∙ e)) was)) (held.each on i lt))
+          (λ was. inr (subst (WasWritten disk.loose i) (sym (here i lt)) was))
+          (nth_either disk.loose n i (get_or disk.seen i 0));
+    }
 
 either : (b : Bool) (h : ℕ) → (if b then h else h) ≡ h
 either true h = refl
@@ -178,7 +193,7 @@ pub record IsFilling (changes : List Record) (byte left : ℕ) (old text : List 
   pub within : left ≤ length changes
   pub same : (b : Bool) (start : List ℕ) → with_loose (after b start (take left changes)).loose byte 0 text ≡ with_loose (after b start changes).loose byte 0 old
 
-last_change : (changes : List Record) (left i : ℕ) (r : Record) → left ≡ i + 1 → left ≤ length changes → r ≡ get_or changes i r → (b : Bool) (start : List ℕ) → after b start (take left changes) ≡ after_record (after b start (take i changes)) r
+pub last_change : (changes : List Record) (left i : ℕ) (r : Record) → left ≡ i + 1 → left ≤ length changes → r ≡ get_or changes i r → (b : Bool) (start : List ℕ) → after b start (take left changes) ≡ after_record (after b start (take i changes)) r
 last_change changes left i r on within is b start =
     ap (λ (l : List Record). after b start l) (ap (λ (k : ℕ). take k changes) on ∙ take_more changes i r (omega arith) ∙ ap (λ (q : Record). take i changes ++ q ∷ []) (sym is))
     ∙ after_push b start (take i changes) r

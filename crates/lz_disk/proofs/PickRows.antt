@@ -1,8 +1,8 @@
--- Worked rows: what a crash leaves that a mask picks.
+-- Worked rows: what a crash leaves that a mask or the writes' numbers pick.
 use Rattle.std.proofs.Common.{◌≡◌, ℕ, ◌+◌, true, false, List, [], ◌∷◌, ◌++◌, replicate, slice_index, refl, ap, arith}
 use Rattle.lz_disk.specs.Images.{Medium}
 use Rattle.lz_disk.specs.Picks.{left_by}
-use Rattle.lz_disk.specs.declared.memory.Pick.TheVariants.{Old, New, Mask}
+use Rattle.lz_disk.specs.declared.memory.Pick.TheVariants.{Old, New, Mask, Nth}
 
 -- three durable bytes, over which five are written
 abbrev grown : Medium
@@ -41,3 +41,34 @@ not_turned_round h = let first : ◌≡◌ {A = ℕ} 5 1 = ap (λ (t : List ℕ)
 
 not_from_the_highest : left_by (Mask 0x8000) grown ≡ 5 ∷ 2 ∷ 3 ∷ [] → ⊥
 not_from_the_highest h = let first : ◌≡◌ {A = ℕ} 1 5 = ap (λ (t : List ℕ). slice_index t 0) h in absurd (omega (arith, first))
+
+-- two bytes at rest and one that was written past them: the first is written three times, the last once, the other never
+abbrev rewritten : Medium
+rewritten = record { bytewise = true; sure = 1 ∷ 2 ∷ []; seen = 9 ∷ 2 ∷ 4 ∷ []; loose = (0, 9 ∷ []) ∷ (0, 7 ∷ []) ∷ (2, 4 ∷ []) ∷ (0, 5 ∷ []) ∷ [] }
+
+-- they are counted from 0, from the first one on
+first_write : left_by (Nth 0) rewritten ≡ 5 ∷ 2 ∷ 4 ∷ []
+first_write = refl
+
+second_write : left_by (Nth 1) rewritten ≡ 7 ∷ 2 ∷ 4 ∷ []
+second_write = refl
+
+-- the last one stands for those that weren't made
+last_write : (left_by (Nth 2) rewritten ≡ left_by New rewritten) × (left_by (Nth 65535) rewritten ≡ left_by New rewritten)
+last_write = (refl, refl)
+
+not_the_last : left_by (Nth 0) rewritten ≡ 9 ∷ 2 ∷ 4 ∷ [] → ⊥
+not_the_last h = let first : ◌≡◌ {A = ℕ} 5 9 = ap (λ (t : List ℕ). slice_index t 0) h in absurd (omega (arith, first))
+
+not_from_one : left_by (Nth 1) rewritten ≡ 5 ∷ 2 ∷ 4 ∷ [] → ⊥
+not_from_one h = let first : ◌≡◌ {A = ℕ} 7 5 = ap (λ (t : List ℕ). slice_index t 0) h in absurd (omega (arith, first))
+
+not_the_durable_one : left_by (Nth 3) rewritten ≡ 1 ∷ 2 ∷ 4 ∷ [] → ⊥
+not_the_durable_one h = let first : ◌≡◌ {A = ℕ} 9 1 = ap (λ (t : List ℕ). slice_index t 0) h in absurd (omega (arith, first))
+
+-- also those that failed count, though they aren't read
+abbrev failed : Medium
+failed = record { bytewise = true; sure = 1 ∷ 2 ∷ []; seen = 1 ∷ 2 ∷ []; loose = (1, 8 ∷ []) ∷ [] }
+
+failed_write : left_by (Nth 0) failed ≡ 1 ∷ 8 ∷ []
+failed_write = refl

@@ -1,7 +1,7 @@
 // Bytes that a disk in memory keeps: writes over them, and the loose ones among them.
 ghost use Rattle.std.specs.Prelude.{◌≡◌, ◌≤◌, Bool, length, ℕ, List, ◌∷◌, OnOk, OnErr, vec_len};
 ghost use Rattle.lz_disk.specs.Images.{AreBytes, overwritten};
-ghost use Rattle.lz_disk.specs.Picks.{is_taken, with_loose};
+ghost use Rattle.lz_disk.specs.Picks.{with_loose};
 ghost use Rattle.lz_disk.specs.Records.{after};
 
 use crate::memory::Record;
@@ -47,11 +47,4 @@ fn fill_range(text: &mut [u8], at: u64, count: u64, byte: u8)
     let low = at.min(len) as usize;
     let high = at.saturating_add(count).min(len) as usize;
     text[low..high].fill(byte);
-}
-
-// Whether a mask takes the byte at this place as it is read.
-pub(crate) fn is_taken(mask: u16, at: usize) -> bool
-    ensures { result ≡ is_taken mask at }
-{
-    (mask >> (at % 16)) % 2 == 1
 }

@@ -1,0 +1,103 @@
+-- How the writes of one place are counted, one change after another, and the picked byte is found.
+use Rattle.std.proofs.Common.{◌≡◌, inl, inr, ℕ, zero, suc, ◌+◌, ◌-◌, ◌≤◌, ◌<◌, nat_le, Bool, true, false, ◌&&◌, List, [], ◌∷◌, ◌++◌, length, get_or, take, drop, set, if◌then◌else◌, sym, refl, ◌∙◌, ap, arith, drop-cons}
+use Rattle.std.proofs.lemmas.Bool.{cases_Bool}
+use Rattle.std.proofs.lemmas.List.{take_all, drop_all}
+use Rattle.lz_disk.specs.Images.{Medium}
+use Rattle.lz_disk.specs.Picks.{covers, nth_written, times_written, with_nth}
+use Rattle.lz_disk.specs.Records.{after, after_record}
+use Rattle.lz_disk.specs.declared.memory.Record.{Record}
+use Rattle.lz_disk.specs.declared.memory.Record.TheVariants.{Synced}
+use Rattle.lz_disk.proofs.ByteImages.{last_change}
+
+module _ (w : ℕ × List ℕ) (writes : List (ℕ × List ℕ)) (n i b : ℕ) where
+  there : covers w i ≡ true → nth_written (w ∷ writes) n i b ≡ (if nat_le (times_written writes i) n then get_or w.1 (i - w.0) 0 else nth_written writes n i b)
+  there is = ap (λ (q : Bool). if q && nat_le (times_written writes i) n then get_or w.1 (i - w.0) 0 else nth_written writes n i b) is
+
+  once_more : covers w i ≡ true → times_written (w ∷ writes) i ≡ suc (times_written writes i)
+  once_more is = ap (λ (q : Bool). if q then suc (times_written writes i) else times_written writes i) is
+
+  elsewhere : covers w i ≡ false → nth_written (w ∷ writes) n i b ≡ nth_written writes n i b
+  elsewhere is = ap (λ (q : Bool). if q && nat_le (times_written writes i) n then get_or w.1 (i - w.0) 0 else nth_written writes n i b) is
+
+  no_more : covers w i ≡ false → times_written (w ∷ writes) i ≡ times_written writes i
+  no_more is = ap (λ (q : Bool). if q then suc (times_written writes i) else times_written writes i) is
+
+-- up to some change the writes of a place are counted, and the byte is found that those are to leave
+pub record IsChoosing (changes : List Record) (number at byte index times found : ℕ) : Type 0 where
+  pub within : index ≤ length changes
+  pub few : times ≤ index
+  pub counted : (b : Bool) (start : List ℕ) → times ≡ times_written (after b start (take index changes)).loose at
+  pub picked : (b : Bool) (start : List ℕ) → found ≡ nth_written (after b start (take index changes)).loose number at byte
+
+pub choosing_begins : (changes : List Record) (number at byte : ℕ) → IsChoosing changes number at byte 0 0 byte
+choosing_begins changes number at byte = record { within = omega arith; few = omega arith; counted = λ b start. refl; picked = λ b start. refl }
+
+module _ (changes : List Record) (number at byte index times found times' found' : ℕ) (r : Record) (lt : index < length changes) (is : r ≡ get_or changes index r) (held : IsChoosing changes number at byte index times found) where
+  abbrev so_far : Bool → List ℕ → Medium
+  so_far b start = after b start (take index changes)
+
+  now : (b : Bool) (start : List ℕ) → after b start (take (index + 1) changes) ≡ after_record (so_far b start) r
+  now = last_change changes (index + 1) index r refl (omega arith) is
+
+  module _ (s : ℕ) (bytes : List ℕ) (loosens : (disk : Medium) → (after_record disk r).loose ≡ (s, bytes) ∷ disk.loose) where
+    loose_is : (b : Bool) (start : List ℕ) → (after b start (take (index + 1) changes)).loose ≡ (s, bytes) ∷ (so_far b start).loose
+    loose_is b start = ap (λ (d : Medium). d.loose) (now b start) ∙ loosens (so_far b start)
+
+    counts : covers (s, bytes) at ≡ true → times' ≡ times + 1 → found' ≡ (if nat_le times number then get_or bytes (at - s) 0 else found) → IsChoosing changes number at byte (index + 1) times' found'
+    counts here more choice = record {
+      within = omega arith;
+      few = omega (arith, held.few);
+      counted = λ b start.
+          let next : times' ≡ suc (times_written (so_far b start).loose at) = omega (arith, held.counted b start) in
+          next ∙ sym (once_more (s, bytes) (so_far b start).loose number at byte here) ∙ sym (ap (λ (l : List (ℕ × List ℕ)). times_written l at) (loose_is b start));
+      picked = λ b start.
+          choice
+          ∙ ap (λ (t : ℕ). if nat_le t number then get_or bytes (at - s) 0 else found) (held.counted b start)
+          ∙ ap (λ (f : ℕ). if nat_le (times_written (so_far b start).loose at) number then get_or bytes (at - s) 0 else f) (held.picked b start)
+          ∙ sym (there (s, bytes) (so_far b start).loose number at byte here)
+          ∙ sym (ap (λ (l : List (ℕ × List ℕ)). nth_written l number at byte) (loose_is b start));
+    }
+
+    passes : covers (s, bytes) at ≡ false → times' ≡ times → found' ≡ found → IsChoosing changes number at byte (index + 1) times' found'
+    passes not_here same kept = record {
+      within = omega arith;
+      few = omega (arith, held.few);
+      counted = λ b start.
+          same ∙ held.counted b start ∙ sym (no_more (s, bytes) (so_far b start).loose number at byte not_here)
+          ∙ sym (ap (λ (l : List (ℕ × List ℕ)). times_written l at) (loose_is b start));
+      picked = λ b start.
+          kept ∙ held.picked b start ∙ sym (elsewhere (s, bytes) (so_far b start).loose number at byte not_here)
+          ∙ sym (ap (λ (l : List (ℕ × List ℕ)). nth_written l number at byte) (loose_is b start));
+    }
+
+    -- a write is added
+    pub choosing_adds : (covers (s, bytes) at ≡ false → (times' ≡ times) × (found' ≡ found)) → (covers (s, bytes) at ≡ true → times' ≡ times + 1)
+        → (covers (s, bytes) at ≡ true → found' ≡ (if nat_le times number then get_or bytes (at - s) 0 else found)) → IsChoosing changes number at byte (index + 1) times' found'
+    choosing_adds passed counted picked =
+        elim (cases_Bool (covers (s, bytes) at)) [
+          | inl here ↦ counts here (counted here) (picked here)
+          | inr isnt ↦ passes isnt (passed isnt).0 (passed isnt).1
+        ]
+
+  -- after a sync none counts
+  pub choosing_syncs : r ≡ Synced → times' ≡ 0 → found' ≡ byte → IsChoosing changes number at byte (index + 1) times' found'
+  choosing_syncs sync none given =
+      let loose_is : (b : Bool) (start : List ℕ) → (after b start (take (index + 1) changes)).loose ≡ [] =
+      λ b start. ap (λ (d : Medium). d.loose) (now b start ∙ ap (after_record (so_far b start)) sync) in
+      record {
+        within = omega arith;
+        few = omega arith;
+        counted = λ b start. none ∙ sym (ap (λ (l : List (ℕ × List ℕ)). times_written l at) (loose_is b start));
+        picked = λ b start. given ∙ sym (ap (λ (l : List (ℕ × List ℕ)). nth_written l number at byte) (loose_is b start));
+      }
+
+pub choosing_ends : (changes : List Record) (number at byte index times found : ℕ) → length changes ≤ index → IsChoosing changes number at byte index times found → (b : Bool) (start : List ℕ) → found ≡ nth_written (after b start changes).loose number at byte
+choosing_ends changes number at byte index times found past held b start =
+    held.picked b start ∙ ap (λ (l : List Record). nth_written (after b start l).loose number at byte) (take_all index changes past)
+
+-- up to some position the text is done, and the rest is as read
+pub record IsNumbering (changes : List Record) (number at : ℕ) (seen text : List ℕ) : Type 0 where
+  pub size : length text ≡ length seen
+  pub within : at ≤ length seen
+  pub done : (b : Bool) (start : List ℕ) (k : ℕ) → k < at → get_or text k 0 ≡ nth_written (after b start changes).loose number k (get_or seen k 0)
+  pub rest : (k : ℕ) → at ≤ k → get_or text k 0 ≡ get_or seen k 0
