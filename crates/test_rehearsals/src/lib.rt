@@ -7,3 +7,5 @@ mod lists;
 mod plays;
 #[cfg(test)]
 mod slots;
+#[cfg(test)]
+mod torn_slots;
