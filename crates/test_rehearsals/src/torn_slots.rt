@@ -1,4 +1,6 @@
 //! Crashes amid the writes of a slot of format 4: each of its bytes is the one or the other.
+ghost use Rattle.std.specs.Prelude.{◌<◌};
+
 use lz_core::{Kind, PlayFault, Step, World};
 use lz_disk::Pick;
 use lz_slot::{Command, Format, Key};
