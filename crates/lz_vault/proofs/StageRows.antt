@@ -4,8 +4,10 @@ use Rattle.std.proofs.lemmas.Bool.{false≢true}
 use Rattle.std.proofs.lemmas.List.{get_or-replicate}
 use Rattle.lz_slot.specs.Bytes.{slot_body}
 use Rattle.lz_slot.specs.Whole.{whole_slot}
-use Rattle.lz_slot.specs.declared.format.Format.TheVariants.{Three, Four}
-use Rattle.lz_vault.specs.Stages.{Says, SaysWhole, ReadsWhole, stage_put}
+use Rattle.lz_slot.specs.declared.format.Format.TheVariants.{Two, Three, Four}
+use Rattle.lz_slot.specs.declared.slot.SlotRead.{SlotRead}
+use Rattle.lz_slot.specs.declared.slot.SlotRead.TheVariants as read
+use Rattle.lz_vault.specs.Stages.{Says, SaysWhole, ReadsWhole, MayRead, stage_put}
 use Rattle.lz_vault.specs.Vaults.{DeviceCall, NoCall, WriteAt, key_call, opening_call, closing_call}
 use Rattle.lz_vault.specs.declared.vault.Stage.{Stage}
 use Rattle.lz_vault.specs.declared.vault.Stage.TheVariants.{Closed, Torn, KeyLoose, Keyed, Opening, Open, Closing}
@@ -83,6 +85,37 @@ not_read_in_part = not_open_by_its_first_byte
 
 not_read_as_open : ReadsWhole Closing 0 (whole_slot 0) → ⊥
 not_read_as_open = not_keyed_by_its_bytes
+
+-- A slot in which no member is held may be read as torn in format 4 alone, and there only where a write may have been cut off.
+torn_is_read_torn : MayRead Four Torn 7 read.Torn
+torn_is_read_torn = inr refl
+
+loose_may_read_torn : MayRead Four KeyLoose 7 read.Torn
+loose_may_read_torn = inr refl
+
+closing_may_read_torn : MayRead Four Closing 7 read.Torn
+closing_may_read_torn = inl (inr refl)
+
+loose_behind_a_gate_reads_closed : MayRead Two KeyLoose 7 read.Closed
+loose_behind_a_gate_reads_closed = refl
+
+closing_behind_a_gate_reads_either : MayRead Two Closing 7 read.Closed × MayRead Two Closing 7 (read.Member 7)
+closing_behind_a_gate_reads_either = (inl refl, inr refl)
+
+not_loose_and_torn_behind_a_gate : MayRead Two KeyLoose 7 read.Torn → ⊥
+not_loose_and_torn_behind_a_gate is = let e : ◌≡◌ {A = SlotRead} read.Torn read.Closed = is in absurd cc
+
+not_closing_and_torn_behind_a_gate : MayRead Two Closing 7 read.Torn → ⊥
+not_closing_and_torn_behind_a_gate (inl is) = let e : ◌≡◌ {A = SlotRead} read.Torn read.Closed = is in absurd cc
+not_closing_and_torn_behind_a_gate (inr is) = let e : ◌≡◌ {A = SlotRead} read.Torn (read.Member 7) = is in absurd cc
+
+not_keyed_and_torn : MayRead Four Keyed 7 read.Torn → ⊥
+not_keyed_and_torn is = let e : ◌≡◌ {A = SlotRead} read.Torn read.Closed = is in absurd cc
+
+not_closing_with_another_key : MayRead Four Closing 7 (read.Member 8) → ⊥
+not_closing_with_another_key (inl (inl is)) = let e : ◌≡◌ {A = SlotRead} (read.Member 8) read.Closed = is in absurd cc
+not_closing_with_another_key (inl (inr is)) = let e : ◌≡◌ {A = SlotRead} (read.Member 8) read.Torn = is in absurd cc
+not_closing_with_another_key (inr is) = let e : ◌≡◌ {A = SlotRead} (read.Member 8) (read.Member 7) = is in absurd cc
 
 -- a key is put with no device call, but over a torn slot, which takes zeros and then a sync
 put_over_zeros : (stage_put Four Closed ≡ Keyed) × (key_call Four Closed 2 7 ≡ NoCall)

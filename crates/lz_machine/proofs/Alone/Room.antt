@@ -230,7 +230,7 @@ module _ (start : Start) (a : ℕ) (service : Service) (disk : Medium) (M : Hist
           let within : s < y.shape.slots = subst (λ (shape : Shape). s < shape.slots) (sym sound.0) lt in
           let own = others s within in
           let read = reads sound.2.0 calls y service.callers disk life.history P sound.2.1 sound.2.2.sound disk.seen image s within in
-          ((cell_in y.vault.cells s).key, subst (λ (g : Stage). MayRead g (cell_in y.vault.cells s).key (slot_at disk.seen s)) own.0 read, own.1)
+          ((cell_in y.vault.cells s).key, subst (λ (g : Stage). MayRead y.vault.format g (cell_in y.vault.cells s).key (slot_at disk.seen s)) own.0 read, own.1)
 
   sized_point : (i : ℕ) (c : Command) (at : Progress) → caller_at service.callers a ≡ Some (call_at i c at) → IsSound start before → FullAt a (Up service disk) P → AloneAt start a before
       → AloneAt start a (of_turn (Some (call_at i c at))) → AreSized F N (lives (start_keys start) M) → AreSized F N (lives (start_keys start) (marks_of_turn (Some (call_at i c at)) ++ M))
@@ -246,12 +246,12 @@ module _ (start : Start) (a : ℕ) (service : Service) (disk : Medium) (M : Hist
 
 sized_step : (start : Start) (a : ℕ) (w : State) (M : History) (P : Trace) (calls : ℕ) (step : Transition) → HasFormat (format_of start.text) w → IsOwn a step → MayStep w step → IsSound start (point w M P calls) → FullAt a w P → AloneAt start a (point w M P calls) → AloneAt start a (point_after (point w M P calls) step)
     → AreSized (format_of start.text) start.shape.slots (lives (start_keys start) M) → AreSized (format_of start.text) start.shape.slots (lives (start_keys start) (point_after (point w M P calls) step).marks)
-sized_step start a (Up service disk) M P calls (Calls b c) named own may sound full alone after sized = sized_mark (format_of start.text) start.shape.slots (suc calls) b c (lives (start_keys start) M) sized
-sized_step start a (Up service disk) M P calls (Turn b) named own may sound full alone after sized =
-    subst (λ (q : ℕ). MayStep (Up service disk) (Turn q) → AloneAt start a (point_after (point (Up service disk) M P calls) (Turn q)) → AreSized (format_of start.text) start.shape.slots (lives (start_keys start) (point_after (point (Up service disk) M P calls) (Turn q)).marks)) (sym own)
+sized_step start a (Up service disk) M P calls (Calls b c) named is_own may sound full alone after sized = sized_mark (format_of start.text) start.shape.slots (suc calls) b c (lives (start_keys start) M) sized
+sized_step start a (Up service disk) M P calls (Turn b) named is_own may sound full alone after sized =
+    subst (λ (q : ℕ). MayStep (Up service disk) (Turn q) → AloneAt start a (point_after (point (Up service disk) M P calls) (Turn q)) → AreSized (format_of start.text) start.shape.slots (lives (start_keys start) (point_after (point (Up service disk) M P calls) (Turn q)).marks)) (sym is_own)
     (λ may after. sized_turn start a service disk M P calls named (caller_at service.callers a) refl may sound full alone after sized) may after
-sized_step start a (Down shape disk) M P calls Opens named own may sound full alone after sized = (tt, sized)
-sized_step start a _ M P calls _ named own may sound full alone after sized = sized
+sized_step start a (Down shape disk) M P calls Opens named is_own may sound full alone after sized = (tt, sized)
+sized_step start a _ M P calls _ named is_own may sound full alone after sized = sized
 
 -- full comes exactly where there is no room
 pub full_is_right : FullIsRight

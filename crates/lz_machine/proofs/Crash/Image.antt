@@ -110,7 +110,7 @@ module _ (n calls : ℕ) (service : Service) (disk : Medium) (life : Life) (P : 
   either s k lt at =
       let own : on 0 (chain_of service.yard.shape.buckets (key_word s P) P) (suc s) ≡ true = subst (λ (q : ℕ). on 0 (chain_of service.yard.shape.buckets q P) (suc s) ≡ true) (sym at.1) at.0 in
       let stands = (node_stands n calls service.yard service.callers disk life.history P notes up.sound s lt own).0 in
-      subst (λ (q : ℕ). IsReadShut (slot_at t s) ⊎ (slot_at t s ≡ Member q)) (stands.key ∙ at.1) (one_or_other (stage_in service.yard.vault.cells s) (cell_in service.yard.vault.cells s).key (slot_at t s) (reads n calls service.yard service.callers disk life.history P notes up.sound t image s lt))
+      subst (λ (q : ℕ). IsReadShut (slot_at t s) ⊎ (slot_at t s ≡ Member q)) (stands.key ∙ at.1) (one_or_other service.yard.vault.format (stage_in service.yard.vault.cells s) (cell_in service.yard.vault.cells s).key (slot_at t s) (reads n calls service.yard service.callers disk life.history P notes up.sound t image s lt))
 
   -- a node's key that the image lacks is read at no slot
   lacking : (s k : ℕ) → s < N → IsNodeOf service.yard P s k → now k ≡ false → IsReadShut (slot_at t s)
@@ -161,7 +161,7 @@ module _ (n calls : ℕ) (service : Service) (disk : Medium) (life : Life) (P : 
   -- a node that the image has isn't settled as removed
   read_not_removed : (s k : ℕ) → s < N → slot_at t s ≡ Member k → IsNodeOf service.yard P s k → is_removed (linking k P) P ≡ true → ⊥
   read_not_removed s k lt is at removed = not_both k (slot_at t s)
-      (shut_read (stage_in service.yard.vault.cells s) (cell_in service.yard.vault.cells s).key (slot_at t s) (reads n calls service.yard service.callers disk life.history P notes up.sound t image s lt) (subst IsFree (sym (up.sound.slots.removed k s at.1 at.0 removed)) tt))
+      (shut_read service.yard.vault.format (stage_in service.yard.vault.cells s) (cell_in service.yard.vault.cells s).key (slot_at t s) (reads n calls service.yard service.callers disk life.history P notes up.sound t image s lt) (subst IsFree (sym (up.sound.slots.removed k s at.1 at.0 removed)) tt))
       is
 
   -- A key that is no member, that the image has and that no row names, isn't settled.
@@ -240,7 +240,7 @@ module _ (n calls : ℕ) (service : Service) (disk : Medium) (life : Life) (P : 
         size = vouches.size t image ∙ ap (λ (q : ℕ). 16 + 16 * q) count;
         head = vouches.head t image
             ∙ (λ i. open_byte ∷ header_body (names i) (count i));
-        no_bad_key = λ i lt. no_bad_key (cell_in service.yard.vault.cells i).key (slot_at t i) (one_or_other (stage_in service.yard.vault.cells i) (cell_in service.yard.vault.cells i).key (slot_at t i) (reads n calls service.yard service.callers disk life.history P notes up.sound t image i lt));
+        no_bad_key = λ i lt. no_bad_key (cell_in service.yard.vault.cells i).key (slot_at t i) (one_or_other service.yard.vault.format (stage_in service.yard.vault.cells i) (cell_in service.yard.vault.cells i).key (slot_at t i) (reads n calls service.yard service.callers disk life.history P notes up.sound t image i lt));
         no_key_twice = λ i j k lt lt' is is'. read_once n calls service.yard service.callers disk life.history P notes up.sound t image i j k lt lt' is is';
         set = λ k. (λ has. found_in t N k has, λ (i, lt, is). in_found t N k i lt is);
       }

@@ -8,13 +8,15 @@ use Rattle.std.proofs.lemmas.Bool.Decides.{nat_tests}
 use Rattle.std.proofs.lemmas.Option.{slice_get-get_or, same_Some}
 use Rattle.lz_slot.specs.Sets.{Keys}
 use Rattle.lz_slot.specs.Bytes.{slot_at}
+use Rattle.lz_slot.specs.declared.format.Format.{Format}
+use Rattle.lz_slot.specs.declared.format.Format.TheVariants.{Four}
 use Rattle.lz_slot.specs.declared.slot.SlotRead.{SlotRead}
 use Rattle.lz_slot.specs.declared.slot.SlotRead.TheVariants.{Member}
 use Rattle.lz_slot.specs.Histories.{History}
 use Rattle.lz_disk.specs.Images.{Medium, IsImage}
 use Rattle.lz_vault.specs.declared.vault.Stage.{Stage}
-use Rattle.lz_vault.specs.declared.vault.Stage.TheVariants.{Opening, Open, Closing}
-use Rattle.lz_vault.specs.Stages.{MayRead, IsFree, IsReadShut}
+use Rattle.lz_vault.specs.declared.vault.Stage.TheVariants.{Closed, Torn, KeyLoose, Keyed, Opening, Open, Closing}
+use Rattle.lz_vault.specs.Stages.{MayRead, IsFree, IsReadShut, IsReadShutIn}
 use Rattle.lz_vault.proofs.Reading.{image_reads}
 use Rattle.lz_list.specs.Words.{place_number, link_to}
 use Rattle.lz_list.specs.Locks.{owner}
@@ -73,21 +75,33 @@ pub not_both : (j : ℕ) (r : SlotRead) → IsReadShut r → r ≡ Member j → 
 not_both j r (inl shut) is = absurd cc
 not_both j r (inr torn) is = absurd cc
 
+shut_in : (F : Format) (r : SlotRead) → IsReadShutIn F r → IsReadShut r
+shut_in Four r shut = shut
+shut_in F r shut = inl shut
+
+pub shut_read : (F : Format) (stage : Stage) (k : ℕ) (r : SlotRead) → MayRead F stage k r → IsFree stage → IsReadShut r
+shut_read F Closed k r may free = inl may
+shut_read F Torn k r may free = shut_in F r may
+shut_read F KeyLoose k r may free = shut_in F r may
+shut_read F Keyed k r may free = inl may
+shut_read F _ k r may free = absurd free
+
+shut_or_member : (F : Format) (k : ℕ) (r : SlotRead) → IsReadShutIn F r ⊎ (r ≡ Member k) → IsReadShut r ⊎ (r ≡ Member k)
+shut_or_member F k r (inl shut) = inl (shut_in F r shut)
+shut_or_member F k r (inr is) = inr is
+
+pub one_or_other : (F : Format) (stage : Stage) (k : ℕ) (r : SlotRead) → MayRead F stage k r → IsReadShut r ⊎ (r ≡ Member k)
+one_or_other F Opening k r may = shut_or_member F k r may
+one_or_other F Open k r may = inr may
+one_or_other F Closing k r may = shut_or_member F k r may
+one_or_other F Closed k r may = inl (inl may)
+one_or_other F Keyed k r may = inl (inl may)
+one_or_other F Torn k r may = inl (shut_in F r may)
+one_or_other F KeyLoose k r may = inl (shut_in F r may)
+
 -- a slot that is read as a key's
-pub member_read : (stage : Stage) (k j : ℕ) (r : SlotRead) → MayRead stage k r → r ≡ Member j → (k ≡ j) × (IsGateOpened stage ⊎ (stage ≡ Closing))
-member_read stage k j r may is = grind arith
-
-pub shut_read : (stage : Stage) (k : ℕ) (r : SlotRead) → MayRead stage k r → IsFree stage → IsReadShut r
-shut_read Opening k r may free = absurd free
-shut_read Open k r may free = absurd free
-shut_read Closing k r may free = absurd free
-shut_read _ k r may free = may
-
-pub one_or_other : (stage : Stage) (k : ℕ) (r : SlotRead) → MayRead stage k r → IsReadShut r ⊎ (r ≡ Member k)
-one_or_other Opening k r may = may
-one_or_other Open k r may = inr may
-one_or_other Closing k r may = may
-one_or_other _ k r may = inl may
+pub member_read : (F : Format) (stage : Stage) (k j : ℕ) (r : SlotRead) → MayRead F stage k r → r ≡ Member j → (k ≡ j) × (IsGateOpened stage ⊎ (stage ≡ Closing))
+member_read F stage k j r may is = grind (arith, one_or_other F stage k r may, shut_read F stage k r may)
 
 -- An actor has opened the gate of the slot, and rests on the place of its key.
 pub record IsOpened (y : Yard) (P : Trace) (s k : ℕ) : Type 0 where
@@ -153,19 +167,19 @@ module _ (n calls : ℕ) (y : Yard) (callers : List (Option Caller)) (disk : Med
   ]
 
   module _ (t : List ℕ) (image : IsImage disk t) where
-    pub reads : (s : ℕ) → s < y.shape.slots → MayRead (stage_in y.vault.cells s) (cell_in y.vault.cells s).key (slot_at t s)
+    pub reads : (s : ℕ) → s < y.shape.slots → MayRead y.vault.format (stage_in y.vault.cells s) (cell_in y.vault.cells s).key (slot_at t s)
     reads s lt =
         let there : slice_get y.vault.cells s ≡ Some (cell_in y.vault.cells s) = slice_get-get_or y.vault.cells s no_cell (omega (arith, lt, sound.images.count)) in
         image_reads y.vault.format y.vault.cells disk sound.images.keeps.vouches t s (cell_in y.vault.cells s) (omega (arith, sound.images.count, sound.images.slots.1)) image there (sound.images.keys s (cell_in y.vault.cells s) there)
 
     not_shut : (s k : ℕ) → s < y.shape.slots → slot_at t s ≡ Member k → IsFree (stage_in y.vault.cells s) → ⊥
-    not_shut s k lt is shut = not_both k (slot_at t s) (shut_read (stage_in y.vault.cells s) (cell_in y.vault.cells s).key (slot_at t s) (reads s lt) shut) is
+    not_shut s k lt is shut = not_both k (slot_at t s) (shut_read y.vault.format (stage_in y.vault.cells s) (cell_in y.vault.cells s).key (slot_at t s) (reads s lt) shut) is
 
     held_opened : (s k a : ℕ) → s < y.shape.slots → slot_at t s ≡ Member k → (actor_in y.actors a).slot ≡ Some s → IsOpened y P s k
     held_opened s k a lt is hand = ⊎_elim (λ shut. absurd (not_shut s k lt is shut)) (λ h. go (actor_in y.actors a).hold refl h.0 h.1 (sym h.2 ∙ key)) (sound.slots.hand a s hand).stage
       where
         key : (cell_in y.vault.cells s).key ≡ k
-        key = (member_read (stage_in y.vault.cells s) (cell_in y.vault.cells s).key k (slot_at t s) (reads s lt) is).0
+        key = (member_read y.vault.format (stage_in y.vault.cells s) (cell_in y.vault.cells s).key k (slot_at t s) (reads s lt) is).0
 
         opened : IsGateOpened (stage_in y.vault.cells s) → rests_on_pair (actor_in y.actors a).hold ≡ true → IsBeside y.shape.buckets (key_word s P) (actor_in y.actors a).pred (actor_in y.actors a).curr P → key_word s P ≡ k → IsOpened y P s k
         opened stage rests beside word = record { actor = a; hand = hand; stage = stage; rests = rests; beside = subst (λ (q : ℕ). IsBeside y.shape.buckets q (actor_in y.actors a).pred (actor_in y.actors a).curr P) word beside }
@@ -185,7 +199,7 @@ module _ (n calls : ℕ) (y : Yard) (callers : List (Option Caller)) (disk : Med
     opened_or_node s k lt is = go (sound.slots.each s lt)
       where
         key : (cell_in y.vault.cells s).key ≡ k
-        key = (member_read (stage_in y.vault.cells s) (cell_in y.vault.cells s).key k (slot_at t s) (reads s lt) is).0
+        key = (member_read y.vault.format (stage_in y.vault.cells s) (cell_in y.vault.cells s).key k (slot_at t s) (reads s lt) is).0
 
         go : SlotStands y.shape y.vault.cells y.vault.dead y.uses y.actors P s → IsNodeOf y P s k ⊎ IsOpened y P s k
         go (is_node stands stage) =

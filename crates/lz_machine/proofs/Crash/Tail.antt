@@ -110,7 +110,7 @@ module _ (n calls : ℕ) (y : Yard) (callers : List (Option Caller)) (disk : Med
       let tail = sound.tails.removing s there no_mark (written stands.1) in
       subst (λ (q : ℕ). IsWaiting (Remove q) (entries y.shape.passes callers notes) M) (stands.0.key ∙ word) (record { number = tail.number; under_way = tail.under_way; no_row = tail.no_row })
     where
-      not_opened : (stage : Stage) (key : ℕ) → is_opening stage ≡ false → MayRead stage key (slot_at t s) → IsGateOpened stage → ⊥
+      not_opened : (stage : Stage) (key : ℕ) → is_opening stage ≡ false → MayRead y.vault.format stage key (slot_at t s) → IsGateOpened stage → ⊥
       not_opened Opening key closed may opened = false≢true (sym closed)
       not_opened Open key closed may opened = not_both key (slot_at t s) shut may
       not_opened _ key closed may opened = grind (arith, opened)
@@ -122,7 +122,7 @@ module _ (n calls : ℕ) (y : Yard) (callers : List (Option Caller)) (disk : Med
   adding_waits : (s k : ℕ) → s < y.shape.slots → slot_at t s ≡ Member k → IsOpened y P s k → IsWaiting (Add k) (entries y.shape.passes callers notes) M
   adding_waits s k lt is h =
       let tail = sound.tails.adding h.actor s h.hand h.stage in
-      let key = (member_read (stage_in y.vault.cells s) (cell_in y.vault.cells s).key k (slot_at t s) (reads n calls y callers disk M P notes sound t image s lt) is).0 in
+      let key = (member_read y.vault.format (stage_in y.vault.cells s) (cell_in y.vault.cells s).key k (slot_at t s) (reads n calls y callers disk M P notes sound t image s lt) is).0 in
       subst (λ (q : ℕ). IsWaiting (Add q) (entries y.shape.passes callers notes) M) key (record { number = tail.number; under_way = tail.under_way; no_row = tail.no_row })
 
   pub asks_waits : (s : ℕ) (c : Command) → s < y.shape.slots → asks y P t s ≡ Some c → IsWaiting c (entries y.shape.passes callers notes) M
