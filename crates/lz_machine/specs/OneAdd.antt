@@ -1,5 +1,5 @@
 -- The machine running: one adding to a freshly made set of one slot, in each format. And what a crash may leave.
-use Rattle.std.specs.Prelude.{◌≡◌, ℕ, Bool, true, false, List, [], ◌∷◌, ◌++◌, replicate, Option, Some, None}
+use Rattle.std.specs.Prelude.{◌≡◌, ℕ, Bool, true, false, List, [], ◌∷◌, ◌++◌, replicate, Some, None}
 use Rattle.lz_slot.specs.declared.command.Command.TheVariants.{Add}
 use Rattle.lz_slot.specs.declared.format.Format.{Format}
 use Rattle.lz_slot.specs.declared.format.Format.TheVariants.{Four}
@@ -10,7 +10,7 @@ use Rattle.lz_slot.specs.Histories.{History}
 use Rattle.lz_vault.specs.Vaults.{DeviceCall, NoCall, WriteAt, SyncAll}
 use Rattle.lz_list.specs.Traces.{Trace}
 use Rattle.lz_machine.specs.Table.{line_call}
-use Rattle.lz_machine.specs.Runs.{Start, IsStart, Caller, Service, State, Up, Transition, Calls, Turn, IsRun, Point, run, first_point, caller_at, next_event, made_text, Reached, MayLeave}
+use Rattle.lz_machine.specs.Runs.{Start, IsStart, State, Up, Transition, Calls, Turn, IsRun, Point, run, first_point, caller_at, next_event, made_text, Reached, MayLeave}
 
 -- a format that stands on a bytewise disk
 abbrev pub is_bytewise : Format → Bool
@@ -29,12 +29,11 @@ abbrev pub made : DeviceCall → List DeviceCall
 made NoCall = []
 made call = call ∷ []
 
-abbrev pub made_for : Service → ℕ → Option Caller → List DeviceCall
-made_for service a None = []
-made_for service a (Some caller) = made (line_call service.yard a (next_event service.yard caller))
-
 abbrev pub made_by : State → Transition → List DeviceCall
-made_by (Up service disk) (Turn a) = made_for service a (caller_at service.callers a)
+made_by (Up service disk) (Turn a) = elim (caller_at service.callers a) [
+  | None ↦ []
+  | Some caller ↦ made (line_call service.yard a (next_event service.yard caller))
+]
 made_by w _ = []
 
 abbrev pub device_calls : Point → List Transition → List DeviceCall
