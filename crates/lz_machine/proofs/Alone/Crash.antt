@@ -330,9 +330,6 @@ module _ (start : Start) (a : ℕ) (shape : Shape) (disk : Medium) (M : History)
   open_alone : MayStep (Down shape disk) Opens → AloneAt start a (point_after down Opens)
   open_alone may = go (lives (start_keys start) M) sound alone
     where
-      found : Keys
-      found = members (keys_found disk.seen shape.slots)
-
       go : (K : List Life) → PointSound start down K → AloneLives a start.shape.slots down K → AloneLives a start.shape.slots (point_after down Opens) (record { start = members (keys_found disk.seen shape.slots); history = [] } ∷ K)
       go [] sound h = absurd h
       go (life ∷ earlier) sound h =

@@ -4,7 +4,6 @@ use mathlib.Core.Bool.{false≢true}
 use Rattle.std.proofs.lemmas.Bool.{cases_eq}
 use Rattle.std.proofs.lemmas.Bool.Decides.{nat_tests}
 use Rattle.lz_slot.specs.declared.command.Command.{Command}
-use Rattle.lz_slot.specs.declared.command.Command.TheVariants.{Has}
 use Rattle.lz_slot.specs.declared.history.Refusal.TheVariants.{Full, Worn, OldFile}
 use Rattle.lz_slot.specs.declared.history.Cut.{Cut}
 use Rattle.lz_slot.specs.declared.history.Mark.{Mark}
@@ -27,10 +26,6 @@ abbrev pub Ended : ℕ → History → Type 0
 Ended n [] = Unit {0}
 Ended n (e ∷ Call j a c ∷ M) = IsEnd e j × (j < n) × Ended j M
 Ended n _ = ⊥
-
-abbrev command_of : Mark → Command
-command_of (Call i a c) = c
-command_of _ = Has 0
 
 end_no_call : (e : Mark) (j i a : ℕ) (c : Command) → IsEnd e j → e ≡ Call i a c → ⊥
 end_no_call e j i a c ends e' = grind arith

@@ -148,9 +148,6 @@ has_room N n i j a (Has k) M S T t new h holds plain was = tt
 has_room N n i j a (Add k) M S T t new h holds plain was =
     (length (keys_but k t N), members_but k t N new T holds without, count_less k t N at.0 at.1 at.2)
   where
-    old : Keys
-    old = plain.2.0
-
     same : Same T plain.2.0
     same = plain_once n M S T plain.2.0 h plain.1 was plain.2.1
 

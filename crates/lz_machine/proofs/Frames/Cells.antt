@@ -1,5 +1,5 @@
 -- What a caller relies on stays when another's event changes cells, or the vault dies.
-use Rattle.std.proofs.Common.{◌≡◌, ◌≢◌, ℕ, ◌<◌, Bool, true, List, length, Option, Some, None, sym, ap, ◌∙◌, subst, get_or-set_same, get_or-set_other, arith}
+use Rattle.std.proofs.Common.{◌≡◌, ◌≢◌, ℕ, ◌<◌, Bool, true, List, length, Option, Some, None, sym, ap, subst, get_or-set_same, get_or-set_other, arith}
 use Rattle.std.specs.Prelude.{slice_set}
 use Rattle.lz_slot.specs.declared.format.Format.{Format}
 use Rattle.lz_slot.specs.declared.command.Command.{Command}
@@ -11,7 +11,7 @@ use Rattle.lz_list.specs.Traces.{Trace}
 use Rattle.lz_machine.specs.declared.actor.Actor.{Actor}
 use Rattle.lz_machine.specs.declared.caller.Progress.{Progress}
 use Rattle.lz_machine.specs.Runs.{Caller}
-use Rattle.lz_machine.specs.CallersSound.{View, IsWritten, IsKeyed, Relies, IsCaller, CallerSound}
+use Rattle.lz_machine.specs.CallersSound.{View, IsKeyed, Relies, IsCaller, CallerSound}
 use Rattle.lz_machine.specs.Yards.{cell_in, stage_in}
 
 -- a slot's cell keeps its key, and what was written of it
@@ -26,9 +26,6 @@ module _ (buckets passes : ℕ) (format : Format) (cells cells' : List Cell) (de
 
   abbrev w : View
   w = record { buckets = buckets; passes = passes; format = format; cells = cells'; dead = dead'; actor = actor }
-
-  written_keeps : (k s : ℕ) → IsWritten v k s P → IsWritten w k s P
-  written_keeps k s h = let c = keeps s h.slot in record { slot = h.slot; stage = c.sure h.stage; key = c.key ∙ h.key; word = h.word }
 
   relies_keeps : (c : Command) (at : Progress) → Relies v c at P0 P changed → Relies w c at P0 P changed
   relies_keeps c at h = grind arith

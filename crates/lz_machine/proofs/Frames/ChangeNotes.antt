@@ -6,15 +6,13 @@ use Rattle.std.proofs.lemmas.Bool.Decides.{nat_tests}
 use Rattle.lz_slot.specs.Counted.{set_of_pass}
 use Rattle.lz_slot.specs.declared.command.Command.{Command}
 use Rattle.lz_slot.proofs.Counted.{of_pass_same}
-use Rattle.lz_vault.specs.declared.vault.Stage.{Stage}
-use Rattle.lz_vault.specs.declared.vault.Stage.TheVariants.{Open}
 use Rattle.lz_list.specs.declared.publishing.Publishing.TheVariants.{Linked as linked, Marked as marked}
 use Rattle.lz_list.specs.Traces.{Trace}
 use Rattle.lz_machine.specs.declared.event.Event.{Event}
 use Rattle.lz_machine.specs.declared.event.Event.TheVariants.{Link, Mark}
 use Rattle.lz_machine.specs.declared.caller.Progress.{Progress}
 use Rattle.lz_machine.specs.Yards.{Yard, IsInside, actor_at, pin_in}
-use Rattle.lz_machine.specs.Table.{publishes, settling}
+use Rattle.lz_machine.specs.Table.{publishes}
 use Rattle.lz_machine.specs.Runs.{Caller}
 use Rattle.lz_machine.specs.Notes.{Notes}
 use Rattle.lz_machine.specs.Ledgers.{Row}
@@ -36,10 +34,6 @@ abbrev pub is_change : Event → Bool
 is_change Link = true
 is_change Mark = true
 is_change _ = false
-
-settling_none : (stage : Stage) (s : ℕ) (P : Trace) (b n : ℕ) → own_change b n (settling stage s ++ P) ≡ own_change b n P
-settling_none Open s P b n = refl
-settling_none _ s P b n = refl
 
 event_none : (y : Yard) (a : ℕ) (e : Event) (P : Trace) (b n : ℕ) → is_change e ≡ false → own_change b n (publishes y (actor_at y a) a e ++ P) ≡ own_change b n P
 event_none y a e P b n quiet = grind arith

@@ -3,14 +3,9 @@ use Rattle.std.proofs.Common.{◌≡◌, ℕ, Bool, true, false, Some, refl, ari
 use mathlib.Core.Bool.{false≢true}
 use Rattle.lz_machine.specs.declared.actor.Actor.{Actor}
 use Rattle.lz_machine.specs.declared.actor.Hold.{Hold}
-use Rattle.lz_machine.specs.declared.actor.Hold.TheVariants.{Nothing, Checked, GateOpened, Released}
+use Rattle.lz_machine.specs.declared.actor.Hold.TheVariants.{Nothing, Released}
 use Rattle.lz_machine.specs.SlotsSound.{IsOut, IsCloser, closes, opens, shuts, unlocks, has_removed_node}
 use Rattle.lz_machine.specs.LocksSound.{has_locks}
-
-pub opens_dead : (dead dead' : Bool) (hold : Hold) → (dead ≡ true → dead' ≡ true) → opens dead hold ≡ true → opens dead' hold ≡ true
-opens_dead dead dead' Checked dies is = dies is
-opens_dead dead dead' GateOpened dies is = refl
-opens_dead dead dead' _ dies is = absurd (false≢true is)
 
 -- the actor has the same slots in hand, and may rely on its hold for them
 pub record KeepsGrips (dead dead' : Bool) (old new : Actor) : Type 0 where

@@ -7,7 +7,7 @@ use Rattle.lz_list.specs.declared.publishing.Change.{Change}
 use Rattle.lz_list.specs.declared.publishing.Publishing.{Publishing}
 use Rattle.lz_list.specs.declared.publishing.Publishing.TheVariants.{Linked as linked, Marked as marked, Unlinked as unlinked, KeyPrepared as key_prepared, LinkPrepared as link_prepared, Settled as settled, Halted as halted}
 use Rattle.lz_list.specs.Words.{place_number, link_to}
-use Rattle.lz_list.specs.Traces.{Trace, Lawful, place_of, bucket_of, key_word, next_link, is_marked, rank_at}
+use Rattle.lz_list.specs.Traces.{Trace, Lawful, place_of, bucket_of, key_word, is_marked, rank_at}
 use Rattle.lz_list.specs.Laws.{IsLow, IsHigh}
 use Rattle.lz_list.specs.Locks.{NodeLocks}
 use Rattle.lz_machine.specs.declared.actor.Actor.{Actor}
@@ -96,11 +96,6 @@ pair_published buckets e actor P leaves h = go actor.hold refl
 rank_same : (e : Publishing) (P : Trace) → ((t : ℕ) → key_word t (e ∷ P) ≡ key_word t P) → (x : ℕ) → rank_at (λ t. key_word t (e ∷ P)) x ≡ rank_at (λ t. key_word t P) x
 rank_same e P word zero = refl
 rank_same e P word (suc t) = ap suc (word t)
-
-next_same : (buckets b : ℕ) (e : Publishing) (P : Trace) → next_link buckets b (e ∷ P) zero ≡ next_link buckets b P zero → ((t : ℕ) → next_link buckets b (e ∷ P) (suc t) ≡ next_link buckets b P (suc t))
-    → (x n : ℕ) → next_link buckets b P x ≡ n → next_link buckets b (e ∷ P) x ≡ n
-next_same buckets b e P head link zero n is = head ∙ is
-next_same buckets b e P head link (suc t) n is = link t ∙ is
 
 -- A linking at another place, of another slot.
 pub linked_leaves : (buckets slots k s p : ℕ) (actor : Actor) (P : Trace) → Lawful buckets slots P

@@ -151,9 +151,6 @@ module _ (n : ℕ) (P : Trace) (drop : Keys) (may : MayDrop n P drop) where
         let flip : member k (upto (suc j) P) ≡ not (member k (upto j P)) = ap (member k) next ∙ flips in
         rw (at, at_next) (grind (arith, nat_tests))
 
-    was : (k : ℕ) → changes_key k e ≡ true → kept_keys n P drop j k ≡ member k (upto j P)
-    was k does = members_before k j early (λ _. change_before k j P late (ap (changes_key k) is ∙ does))
-
     becomes : (k : ℕ) → changes_key k e ≡ true → (drop k && (last_change k P == suc j)) ≡ false → kept_keys n P drop (suc j) k ≡ member k (e ∷ upto j P)
     becomes k does kept = members_before k (suc j) (omega arith) (λ d. grind (arith, nat_tests, change_before k j P late (ap (changes_key k) is ∙ does))) ∙ ap (member k) next
 

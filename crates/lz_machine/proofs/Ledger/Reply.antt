@@ -1,5 +1,5 @@
 -- The last row of a call, by what it replies, and the ledger with it.
-use Rattle.std.proofs.Common.{◌≡◌, ◌⊎◌, ⊎_elim, inl, inr, ℕ, ◌≤◌, ◌==◌, Bool, true, false, List, [], ◌∷◌, ◌++◌, length, Option, Some, None, refl, sym, ap, ◌∙◌, subst, arith}
+use Rattle.std.proofs.Common.{◌≡◌, ◌⊎◌, ⊎_elim, inl, inr, ℕ, ◌≤◌, Bool, true, false, List, [], ◌∷◌, ◌++◌, length, Option, Some, None, refl, sym, ap, ◌∙◌, subst, arith}
 use mathlib.Core.Bool.{false≢true}
 use Rattle.std.proofs.lemmas.Bool.Decides.{nat_tests}
 use Rattle.lz_slot.specs.declared.command.Command.{Command}
@@ -11,7 +11,7 @@ use Rattle.lz_slot.specs.declared.history.Refusal.TheVariants.{Full as refused_f
 use Rattle.lz_slot.specs.declared.history.Cut.{Cut as CutWhy}
 use Rattle.lz_slot.specs.declared.history.Cut.TheVariants.{Halted as cut_halted, Device as cut_device}
 use Rattle.lz_slot.specs.Sets.{key_of, reply, moved}
-use Rattle.lz_slot.specs.Histories.{History, IsUnderWay}
+use Rattle.lz_slot.specs.Histories.{History}
 use Rattle.lz_list.specs.Traces.{Trace, Begins, SettledYes, SettledNo}
 use Rattle.lz_machine.specs.declared.event.Reply.{Reply}
 use Rattle.lz_machine.specs.declared.event.Reply.TheVariants.{Yes, No, Full, Worn as SaysWorn, OldFile as SaysOldFile, Halted, Device}
@@ -70,12 +70,6 @@ module _ (n calls passes : ℕ) (callers : List (Option Caller)) (P : Trace) (M 
     pub is_last : IsLast n P M (pin_in pins a) (length (notes.begun a)) i m pend last
     pub ledger : LedgerSound n calls passes (ending callers a) P (m ∷ M) (ends_now notes a last)
     pub tail : leaves ≡ true → times i last ≡ times i pend
-
-  under_way : IsUnderWay M i c
-  under_way = sound.open_call a caller at
-
-  itself : (i == i) ≡ true
-  itself = grind arith
 
   one_row : (r : Row) → r.number ≡ i → times i (r ∷ []) ≤ 1
   one_row r number = grind (arith, nat_tests, number)

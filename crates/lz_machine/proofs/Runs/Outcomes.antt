@@ -1,14 +1,12 @@
 -- What events answer.
-use Rattle.std.proofs.Common.{◌≡◌, ◌≢◌, ℕ, Bool, true, false, List, Option, Some, None, refl, sym, ap, ◌∙◌, arith}
+use Rattle.std.proofs.Common.{◌≡◌, ◌≢◌, Bool, true, false, refl, sym, ap, ◌∙◌, arith}
 use mathlib.Core.Bool.{false≢true}
-use Rattle.std.specs.Prelude.{if◌then◌else◌}
-use Rattle.lz_allot.specs.Uses.{Use}
 use Rattle.lz_machine.specs.declared.event.Event.{Event}
 use Rattle.lz_machine.specs.declared.event.Outcome.{Outcome}
 use Rattle.lz_machine.specs.declared.event.Outcome.TheVariants.{Worn, NotNow, Fault, Dead}
 use Rattle.lz_machine.specs.declared.actor.Actor.{Actor}
 use Rattle.lz_machine.specs.Yards.{Yard}
-use Rattle.lz_machine.specs.Table.{outcome_of, slot_found}
+use Rattle.lz_machine.specs.Table.{outcome_of}
 
 -- an event that was done isn't refused, and its device call didn't fail
 abbrev pub is_done : Outcome → Bool
@@ -17,14 +15,6 @@ is_done NotNow = false
 is_done Fault = false
 is_done Dead = false
 is_done _ = true
-
-either : (b : Bool) (x y : Outcome) → is_done x ≡ true → is_done y ≡ true → is_done (if b then x else y) ≡ true
-either true x y one other = one
-either false x y one other = other
-
-found : (o : Option ℕ) (uses : List Use) → is_done (slot_found o uses) ≡ true
-found (Some s) uses = refl
-found None uses = refl
 
 done : (y : Yard) (actor : Actor) (e : Event) → is_done (outcome_of y actor e) ≡ true
 done y actor e = grind arith
@@ -35,6 +25,3 @@ not_done y actor e o other is = false≢true (sym other ∙ sym (ap is_done is) 
 
 pub no_fault : (y : Yard) (actor : Actor) (e : Event) → outcome_of y actor e ≢ Fault
 no_fault y actor e = not_done y actor e Fault refl
-
-pub dead_no_fault : Dead ≢ Fault
-dead_no_fault = λ h. cc

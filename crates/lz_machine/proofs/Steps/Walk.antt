@@ -10,8 +10,8 @@ use Rattle.lz_list.specs.declared.flags.Flags.{Flags}
 use Rattle.lz_list.specs.declared.walk.Look.{Look}
 use Rattle.lz_list.specs.declared.walk.Met.TheVariants.{Absent, Unmarked, Marked}
 use Rattle.lz_list.specs.Words.{Words, get, place_number, link_to}
-use Rattle.lz_list.specs.Walks.{wants, hopped, met}
-use Rattle.lz_list.specs.Traces.{Trace, Begins, on, bucket_of, key_word, is_marked, flags_after, is_removed, linking, SettledNo}
+use Rattle.lz_list.specs.Walks.{wants, hopped}
+use Rattle.lz_list.specs.Traces.{Trace, Begins, bucket_of, key_word, is_marked, flags_after, is_removed, linking, SettledNo}
 use Rattle.lz_list.specs.Pinned.{Once, Stood, IsQuiet}
 use Rattle.lz_list.specs.Laws.{IsHigh}
 use Rattle.lz_list.proofs.Traces.Absence.{begins_itself}
@@ -83,9 +83,6 @@ module _ (shape : Shape) (words : Words) (P : Trace) (trace : TraceSound shape w
   module _ (passes : ℕ) (format : Format) (cells : List Cell) (dead : Bool) (actor : Actor) (changed : Option ℕ) where
     abbrev v : View
     v = record { buckets = buckets; passes = passes; format = format; cells = cells; dead = dead; actor = actor }
-
-    answers : (c : Command) (reply : Reply) → HasLetGo v changed → is_before_pin (Answering reply) ≡ false → Relies v c (Answering reply) P0 P changed → GoesOn v c (Answering reply) P0 P changed
-    answers c reply fresh inside h = record { relies = h; inside = inside }
 
     answers_no : (k : ℕ) → HasLetGo v changed → RestsNo k P0 P → (GoesOn v (Has k) (Answering No) P0 P changed) × (GoesOn v (Remove k) (Answering No) P0 P changed)
     answers_no k fresh gone = (record { relies = ((fresh.none, gone), inl fresh.hold); inside = refl }, record { relies = ((fresh.none, gone), inl fresh.hold); inside = refl })

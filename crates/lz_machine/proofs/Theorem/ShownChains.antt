@@ -28,9 +28,6 @@ use Rattle.lz_machine.proofs.Frames.LoadedWord.{bucket_range, head_next, link_ne
 use Rattle.lz_machine.proofs.Frames.OtherCallers.{faces_on}
 
 module _ (shape : Shape) (words : Words) (P : Trace) (trace : TraceSound shape words P) (few : shape.slots ≤ most_slots) (w : Words) (heads : w.heads ≡ words.heads) (links : w.links ≡ words.links) (keys : w.keys ≡ words.keys) where
-  abbrev buckets : ℕ
-  buckets = shape.buckets
-
   abbrev keys_then : ℕ → ℕ
   keys_then t = key_word t P
 
