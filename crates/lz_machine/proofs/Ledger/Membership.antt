@@ -8,7 +8,7 @@ use Rattle.lz_slot.specs.declared.command.Command.TheVariants.{Add, Remove}
 use Rattle.lz_slot.specs.Sets.{key_of, Keys, reply, moved}
 use Rattle.lz_slot.proofs.Sets.{after_at}
 use Rattle.lz_list.specs.declared.publishing.Publishing.{Publishing}
-use Rattle.lz_list.specs.declared.publishing.Publishing.TheVariants.{Linked as linked, Marked as marked, Settled as settled, Halted as halted}
+use Rattle.lz_list.specs.declared.publishing.Publishing.TheVariants.{Linked as linked, Marked as marked, Halted as halted}
 use Rattle.lz_list.specs.Traces.{Trace, Begins, member, linking, is_settled, is_removed, Lawful, SettledYes, SettledNo}
 use Rattle.lz_list.proofs.Traces.Hindsight.{lawful_begins}
 use Rattle.lz_machine.specs.Ledgers.{Row, IsRight, Moves}

@@ -17,7 +17,7 @@ use Rattle.lz_machine.specs.declared.caller.Progress.{Progress}
 use Rattle.lz_machine.specs.declared.course.Course.{Course}
 use Rattle.lz_machine.specs.declared.course.Course.TheVariants.{Refused, Dies, Plays}
 use Rattle.lz_machine.specs.Yards.{Yard, actor_at, IsInside, pin_in}
-use Rattle.lz_machine.specs.Table.{needs, is_played_dead, is_sure, is_spent, call_of, words_after, publishes, outcome_of, with_vault, yard_done, course_alive, course, line_on, line, call_on, published_on, pin_of}
+use Rattle.lz_machine.specs.Table.{is_played_dead, is_sure, is_spent, call_of, words_after, publishes, outcome_of, with_vault, yard_done, course_alive, course, line_on, line, call_on, published_on, pin_of}
 use Rattle.lz_machine.specs.Calls.{progress_after}
 use Rattle.lz_machine.specs.Runs.{Caller, caller_at, reply_at, moved_on, played}
 use Rattle.lz_machine.specs.Notes.{Notes, entries}

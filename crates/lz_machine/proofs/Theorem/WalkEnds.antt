@@ -7,7 +7,7 @@ use Rattle.lz_list.specs.declared.walk.Look.{Look}
 use Rattle.lz_list.specs.declared.walk.Met.TheVariants.{Unmarked, Marked}
 use Rattle.lz_list.specs.Words.{Words, get, link_to, place_number}
 use Rattle.lz_list.specs.Walks.{wants, hopped}
-use Rattle.lz_list.specs.Traces.{Trace, Begins, on, bucket_of, key_word, is_marked, flags_after}
+use Rattle.lz_list.specs.Traces.{Trace, Begins, bucket_of, key_word, is_marked, flags_after}
 use Rattle.lz_list.specs.Pinned.{Stood, IsQuiet}
 use Rattle.lz_list.proofs.Traces.Hindsight.{absent_since}
 use Rattle.lz_list.proofs.Traces.WalkEnd.{marked_was_sure, unsure_node, unmarked_surely}

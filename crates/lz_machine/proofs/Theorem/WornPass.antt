@@ -22,7 +22,7 @@ use Rattle.lz_machine.specs.declared.caller.Progress.{Progress}
 use Rattle.lz_machine.specs.declared.caller.Progress.TheVariants.{Playing, Answering}
 use Rattle.lz_machine.specs.Yards.{Shape, Yard, actor_at, opened_yard}
 use Rattle.lz_machine.specs.Table.{last_pin, pin_of, course, line_on, line, line_failed, is_old}
-use Rattle.lz_machine.specs.Calls.{goes_on, first_progress, progress_after, changes, begun}
+use Rattle.lz_machine.specs.Calls.{goes_on, first_progress, progress_after, begun}
 use Rattle.lz_machine.specs.Runs.{Start, State, Up, Down, Transition, Calls, Turn, Fails, Looks, Trips, Stops, Crashes, Opens, OpenFails, Service, Caller, caller_at, next_event, reply_at, moved_on, looked, state_after, after_turn, after_fault, HasTurn, HasFault, MayStep, first_point, run, IsRun, IsStart, opened_service, invoked}
 use Rattle.lz_machine.specs.Notes.{Notes}
 use Rattle.lz_machine.specs.CallersSound.{View, view_of, Relies, CallerSound}
