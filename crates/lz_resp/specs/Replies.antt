@@ -38,6 +38,14 @@ integer n = codes ":" ++ decimal n ++ line_end
 abbrev pub bit : Reply → List ℕ
 bit reply = if is_yes reply then codes ":1\r\n" else codes ":0\r\n"
 
+-- the reply is a number of requests
+abbrev pub is_sum : Form → Bool
+is_sum Added = true
+is_sum Removed = true
+is_sum Found = true
+is_sum Each = false
+is_sum Stored = false
+
 -- what was done at a yes
 abbrev pub done : Form → List ℕ
 done Added = codes "added"

@@ -1,7 +1,7 @@
 //! The forms of a reply to requests.
 ghost use Rattle.std.specs.Prelude.{◌≡◌, ◌≢◌};
 ghost use Rattle.lz_resp.specs.Commands.{request_of};
-ghost use Rattle.lz_resp.specs.Replies.{done};
+ghost use Rattle.lz_resp.specs.Replies.{done, is_sum};
 
 use lz_proto::Request;
 use lz_slot::Key;
@@ -32,6 +32,13 @@ impl Form {
             Form::Removed => Request::Remove(key),
             Form::Found | Form::Each => Request::Has(key),
         }
+    }
+
+    /// Whether the reply is a number of requests.
+    pub(crate) fn is_sum(self) -> bool
+        ensures { result ≡ is_sum self }
+    {
+        matches!(self, Form::Added | Form::Removed | Form::Found)
     }
 
     /// What a yes tells of a key.

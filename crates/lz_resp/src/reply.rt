@@ -1,5 +1,5 @@
 //! The texts of replies.
-ghost use Rattle.std.specs.Prelude.{◌≡◌, ◌++◌, IfOk, OnOk, count_by};
+ghost use Rattle.std.specs.Prelude.{◌≡◌, ◌++◌, ◌∷◌, [], IfOk, IfSome, OnOk, count_by};
 ghost use Rattle.std.specs.List.{list_any};
 ghost use Rattle.lz_resp.specs.Replies.{answer, bit, fault_text, fault_words, integer, is_full, is_halted, is_old, is_worn, is_yes, refusal, text_of};
 
@@ -36,6 +36,30 @@ fn has_full(replies: &[Reply]) -> bool
 
 /// Puts the reply of this form after a text, to requests that were replied to so.
 pub fn push_reply(text: &mut Vec<u8>, form: Form, replies: &[Reply]) -> Result<(), AllocError>
+    ensures { OnOk result (text.new.items ≡ text.old.items ++ text_of form replies.now) }
+{
+    if let [reply] = replies
+        && let Some(plain) = plain_text(form, *reply)
+    {
+        return text.extend_from_slice(plain.as_bytes());
+    }
+    push_any(text, form, replies)
+}
+
+// The reply to one request, as far as it tells whether something was done.
+fn plain_text(form: Form, reply: Reply) -> Option<&'static str>
+    ensures { IfSome result (λ plain. plain.now ≡ text_of form (reply ∷ [])) }
+{
+    match reply {
+        Reply::Yes if form.is_sum() => Some(":1\r\n"),
+        Reply::No if form.is_sum() => Some(":0\r\n"),
+        _ => None,
+    }
+}
+
+// The reply to any requests.
+#[inline(never)]
+fn push_any(text: &mut Vec<u8>, form: Form, replies: &[Reply]) -> Result<(), AllocError>
     ensures { OnOk result (text.new.items ≡ text.old.items ++ text_of form replies.now) }
 {
     if has_halted(replies) {
