@@ -140,7 +140,7 @@ fn drop_front(kept: &mut Vec<u8>, count: usize)
     ensures { kept.new.items ≡ drop count kept.old.items }
 {
     let left = kept.len() - count;
-    kept.rotate_left(count);
+    kept.copy_within(count.., 0);
     kept.truncate(left);
 }
 
