@@ -6,5 +6,6 @@ pub mod LongerTexts
 pub mod QueryRows
 pub mod Rows
 pub mod ScanRows
+pub mod ShortLines
 pub mod Spellings
 pub mod Texts

@@ -22,7 +22,7 @@ use Rattle.lz_resp.specs.declared.fault.Fault.TheVariants.{Count, Length, NoBulk
 use Rattle.lz_resp.proofs.LongerTexts.{first_fault, first_told, given, same_read, take_more, then_value}
 
 -- a line that lacks CR is read up to its end
-line_read : (fault : Fault) (line tail : List ℕ) → Lacks 13 line → line_at fault (line ++ 13 ∷ 10 ∷ tail) ≡ given line tail
+pub line_read : (fault : Fault) (line tail : List ℕ) → Lacks 13 line → line_at fault (line ++ 13 ∷ 10 ∷ tail) ≡ given line tail
 line_read fault line tail lacks = ap (line_of fault) (parted_clear 13 line (10 ∷ tail) lacks)
 
 ended_line : (line tail more : List ℕ) → ((line ++ line_end) ++ tail) ++ more ≡ line ++ 13 ∷ 10 ∷ (tail ++ more)

@@ -1,4 +1,5 @@
 pub mod Commands
+pub mod Digits
 pub mod Frames
 pub mod Keys
 pub mod Limits

@@ -11,6 +11,7 @@ use crate::item::Item;
 use crate::naming::{Naming, Selected};
 use crate::reading::read_first;
 use crate::reply::fault_text;
+use crate::three::read_three;
 use std::alloc::{AllocError, Global};
 use std::collections::VecDeque;
 use std::marker::Model;
@@ -175,6 +176,24 @@ fn add_items(
 
 // Adds what comes first of a text.
 fn add_first(
+    alloc: Global,
+    selected: Selected,
+    text: &[u8],
+    items: &mut VecDeque<Item>,
+) -> Result<Next, AllocError>
+    requires { IsRoom selected }
+    ensures ok { IfOk result (λ next. (more : List Item) × Adds (step selected text.now) next text.now more × (items.new.items ≡ items.old.items ++ more)) }
+    ensures range { IfOk result (λ next. IsInside next (length text.now)) }
+    ensures err { OnErr result (items.new.items ≡ items.old.items) }
+{
+    match read_three(text) {
+        Some(three) => add_frame(alloc, selected, &three.words, three.count, items),
+        None => add_any(alloc, selected, text, items),
+    }
+}
+
+// The same, whatever comes first.
+fn add_any(
     alloc: Global,
     selected: Selected,
     text: &[u8],

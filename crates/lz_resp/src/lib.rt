@@ -7,6 +7,7 @@
 
 mod asking;
 mod command;
+mod digits;
 mod errors;
 mod fault;
 mod figures;
@@ -26,6 +27,7 @@ mod scanning;
 mod subcommand;
 mod subset;
 mod text;
+mod three;
 mod words;
 
 pub use fault::Fault;

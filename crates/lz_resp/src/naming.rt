@@ -3,6 +3,7 @@ ghost use Rattle.std.specs.Prelude.{◌≡◌, ◌≤◌, IfSome, option_map};
 ghost use Rattle.lz_slot.specs.Limits.{last_room};
 ghost use Rattle.lz_resp.specs.Keys.{IsThere, IsRoom, at_first, subset_of, of_name, room_of, unnamed};
 
+use crate::digits::digit_of;
 use crate::subset::Subset;
 use lz_slot::{LAST_ROOM, read_number};
 
@@ -64,6 +65,9 @@ pub(crate) fn room_of(name: &[u8]) -> Option<u8>
     ensures room { result ≡ room_of name.now }
     ensures range { IfSome result (λ room. room ≤ last_room) }
 {
+    if let [digit] = name {
+        return digit_of(*digit);
+    }
     let room = read_number(name, 0, u64::from(LAST_ROOM))?;
     Some(room as u8)
 }
