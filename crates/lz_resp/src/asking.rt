@@ -115,6 +115,7 @@ fn in_unnamed(
 }
 
 // Members of a subset.
+#[inline(always)]
 fn in_subset(
     alloc: Global,
     form: Form,
@@ -134,6 +135,7 @@ fn in_subset(
 }
 
 // A request for each member, unless one is no key.
+#[inline(always)]
 fn requests_of(
     alloc: Global,
     form: Form,
@@ -149,6 +151,20 @@ fn requests_of(
             None => Ok(None),
         };
     }
+    requests_of_many(alloc, form, subset, members)
+}
+
+// The same of any members.
+#[inline(never)]
+fn requests_of_many(
+    alloc: Global,
+    form: Form,
+    subset: Subset,
+    members: &[&[u8]],
+) -> Result<Option<Requests>, AllocError>
+    requires { IsThere (subset_of subset) }
+    ensures { IfOk result (λ requests. requests ≡ requests_of form (subset_of subset.entry) (map (λ word. word.now) members.now)) }
+{
     let mut list = Vec::with_capacity(alloc, members.len())?;
     for member in members {
         let Some(key) = subset.key_of(member) else {

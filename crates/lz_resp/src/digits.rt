@@ -4,6 +4,7 @@ ghost use Rattle.lz_resp.specs.Digits.{digit_of};
 ghost use Rattle.lz_resp.specs.Frames.{line_end};
 
 /// The number that a first line of one or two digits tells, and what follows the line. There is none where the line is another.
+#[inline(always)]
 pub(crate) fn read_short(text: &[u8]) -> Option<(usize, &[u8])>
     ensures number { IfSome result (λ p. (text.now ≡ decimal p.0 ++ line_end ++ p.1.now) × (p.0 < 100)) }
     ensures inside { IfSome result (λ p. length p.1.now ≤ length text.now) }

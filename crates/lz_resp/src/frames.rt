@@ -193,6 +193,7 @@ fn add_first(
 }
 
 // The same, whatever comes first.
+#[inline(never)]
 fn add_any(
     alloc: Global,
     selected: Selected,
@@ -216,6 +217,7 @@ fn add_any(
 }
 
 // Adds what a frame of this many bytes comes to.
+#[inline(always)]
 fn add_frame(
     alloc: Global,
     selected: Selected,
@@ -234,7 +236,8 @@ fn add_frame(
     }
     let (item, next) = item_of(alloc, selected, words)?;
     let goes = goes_on(&item);
-    items.push_back(item)?;
+    items.reserve(1)?;
+    items.push_back_reserved(item);
     if goes {
         Ok(Next::Goes(next, count))
     } else {

@@ -17,6 +17,7 @@ pub(crate) enum Subset<'t> {
 
 impl<'t> Subset<'t> {
     /// The key of a member, if it is one.
+    #[inline(always)]
     pub(crate) fn key_of(self, member: &[u8]) -> Option<Key>
         requires { IsThere (subset_of self) }
         ensures { result ≡ key_of (subset_of self.entry) member.now }
@@ -29,6 +30,7 @@ impl<'t> Subset<'t> {
 }
 
 // The number in room 0 of a name's member.
+#[inline(never)]
 fn text_number(name: &[u8], member: &[u8]) -> u64
     ensures number { result ≡ text_number name.now member.now }
     ensures range { result ≤ largest_number }

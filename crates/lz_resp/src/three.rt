@@ -13,6 +13,7 @@ pub(crate) struct Three<'t> {
 }
 
 /// The first frame of a text, if it is such a one.
+#[inline(always)]
 pub(crate) fn read_three(text: &[u8]) -> Option<Three<'_>>
     ensures gives { IfSome result (λ three. first_of text.now ≡ Ok (Some (map (λ word. word.now) three.words, drop three.count text.now))) }
     ensures inside { IfSome result (λ three. (0 < three.count) × (three.count ≤ length text.now)) }
@@ -31,6 +32,7 @@ pub(crate) fn read_three(text: &[u8]) -> Option<Three<'_>>
 }
 
 // A bulk string's bytes, and what follows it.
+#[inline(always)]
 fn read_word(text: &[u8]) -> Option<(&[u8], &[u8])>
     ensures gives { IfSome result (λ p. word_at text.now ≡ Ok (Some (p.0.now, p.1.now))) }
     ensures inside { IfSome result (λ p. length p.1.now ≤ length text.now) }
