@@ -22,7 +22,7 @@ SLOTS = 20
 
 class Loaded(NamedTuple):
     """How a service is started, and who loads it: so many clients for each group of keys, who ask for no others, and how they speak. What they
-    saw is a history of its own, since calls on different keys don't touch each other; it may have 64 clients."""
+    saw is a history of its own, since calls on different keys don't touch each other; it may have 64 clients. A file's format is drawn."""
 
     slots: int
     passes: int
@@ -30,7 +30,11 @@ class Loaded(NamedTuple):
     clients: int
     groups: Sequence[Sequence[Key]]
     speak: Callable[[int], ContextManager[load.Ask]] = load.by_lines
+    formats: Sequence[int] = (2, 3, 4)
 
+
+# What a kill is to a file: a service of format 4 hands its writes over at its syncs, so what it gathered since is lost.
+ENDS = {2: "stop", 3: "stop", 4: "crash"}
 
 EIGHT = Loaded(SLOTS, CLIENTS, (), CLIENTS, (load.KEYS,))
 
@@ -55,26 +59,28 @@ def life_until_kill(program: Program, file: str, loaded: Loaded, buckets: int, s
         return load.finish(clients)
 
 
-def killed_histories(program: Program, folder: str, loaded: Loaded, kills: int, seed: int) -> List[History]:
-    """A history of each group over one file with rooms, of so many lives that a kill ended, or fewer where they have many calls."""
+def killed_histories(program: Program, folder: str, loaded: Loaded, form: int, kills: int, seed: int) -> List[History]:
+    """A history of each group over one file of this format, of so many lives that a kill ended, or fewer where they have many calls."""
     file = os.path.join(folder, f"killed-{seed}")
-    program.make(file, loaded.slots, random.Random(seed).choice((2, 3)))
+    program.make(file, loaded.slots, form)
     histories = [History() for _ in loaded.groups]
     calls_so_far = life = 0
     while life < kills and calls_so_far < CALLS_OF_A_HISTORY * len(histories):
         calls = life_until_kill(program, file, loaded, 1 + 6 * (life % 2), seed + life)
-        note_life(histories, loaded.groups, calls, program.members(file))
+        note_life(histories, loaded.groups, calls, program.members(file), ENDS[form])
         calls_so_far += len(calls)
         life += 1
     return histories
 
 
-def note_life(histories: Sequence[History], groups: Sequence[Sequence[Key]], calls: Sequence[Call], found: Sequence[Key]) -> None:
-    """Notes a life that was stopped in the history of each group; no key of any other was found."""
+def note_life(
+    histories: Sequence[History], groups: Sequence[Sequence[Key]], calls: Sequence[Call], found: Sequence[Key], end: str = "stop"
+) -> None:
+    """Notes a life that ended so in the history of each group; no key of any other was found."""
     own = [set(keys) for keys in groups]
     expect([key for key in found if not any(key in keys for keys in own)], [], "keys that no client added")
     for history, keys in zip(histories, own):
-        history.lives.append(Life([it for it in calls if it.key in keys], "stop", [key for key in found if key in keys]))
+        history.lives.append(Life([it for it in calls if it.key in keys], end, [key for key in found if key in keys]))
 
 
 def judge(program: Program, folder: str, history: History) -> str:
@@ -125,10 +131,12 @@ def refuses(program: Program, folder: str, text: str, flaw: str) -> None:
 
 def try_kills(program: Program, folder: str, kills: int, seed: int, loaded: Loaded = EIGHT) -> None:
     """So many kills, in histories that are all judged good; spoiled ones aren't."""
-    answered = under_way = done = judged = 0
+    answered = under_way = done = judged = crashed = 0
     while done < kills:
-        histories = killed_histories(program, folder, loaded, min(KILLS_OF_A_HISTORY, kills - done), seed + done)
+        form = random.Random(seed + done).choice(loaded.formats)
+        histories = killed_histories(program, folder, loaded, form, min(KILLS_OF_A_HISTORY, kills - done), seed + done)
         done += len(histories[0].lives)
+        crashed += sum(life.end == "crash" for life in histories[0].lives)
         for history in histories:
             text = judge(program, folder, history)
             judged += 1
@@ -141,4 +149,5 @@ def try_kills(program: Program, folder: str, kills: int, seed: int, loaded: Load
             refuses(program, folder, lost(text), "5")
     if answered < 10 * kills or under_way == 0:
         raise Wrong(f"too little load: {answered} answered, {under_way} under way")
-    print(f"         {kills} kills, {judged} histories judged good: {answered} calls answered, {under_way} cut off", flush=True)
+    told = f"{answered} calls answered, {under_way} cut off, {crashed} kills of format 4"
+    print(f"         {kills} kills, {judged} histories judged good: {told}", flush=True)
