@@ -8,7 +8,7 @@ import re
 from typing import Dict, FrozenSet, Iterator, List, NamedTuple, Sequence, Tuple
 
 from trials.faults import needs_strace
-from trials.plain import FORMATS, Plain, Survey
+from trials.plain import FORMATS, SLOT_SIZE, Plain, Survey
 from trials.program import Key, Program
 from trials.report import Wrong, expect
 
@@ -77,6 +77,9 @@ class Disk:
         open_places = [place for place, bytes_there in choices.items() if len(bytes_there) > 1]
         yield bytes(self.sure)
         yield bytes(self.seen)
+        if self.is_bytewise and self.loose:
+            yield from self._byte_by_byte()
+            yield from self._slot_by_slot(choices, draw)
         if len(open_places) <= ALL_OF and all(len(choices[place]) == 2 for place in open_places):
             for mask in range(1 << len(open_places)):
                 yield self._with({place: choices[place][mask >> bit & 1] for bit, place in enumerate(open_places)})
@@ -84,6 +87,19 @@ class Disk:
             yield self._with({place: draw.choice(choices[place]) for place in open_places})
             if not self.is_bytewise:
                 yield self._with({place: draw.choice((*choices[place], draw.randrange(256), 0xA5)) for place in self.loose})
+
+    def _byte_by_byte(self) -> Iterator[bytes]:
+        """What isn't synced is as it was but for one byte of each slot, or as read but for that byte."""
+        for lone in range(SLOT_SIZE):
+            yield self._with({place: self.seen[place] for place in self.loose if place % SLOT_SIZE == lone})
+            yield self._with({place: self.seen[place] for place in self.loose if place % SLOT_SIZE != lone})
+
+    def _slot_by_slot(self, choices: Dict[int, List[int]], draw: random.Random) -> Iterator[bytes]:
+        """Each slot that isn't synced is as it was, as read, or mixed."""
+        for _ in range(DRAWS):
+            hows = [draw.randrange(3) for _ in range(len(self.seen) // SLOT_SIZE)]
+            mixed = {place: (self.sure[place], self.seen[place], draw.choice(written)) for place, written in choices.items()}
+            yield self._with({place: three[hows[place // SLOT_SIZE]] for place, three in mixed.items()})
 
     def _with(self, chosen: Dict[int, int]) -> bytes:
         image = bytearray(self.sure)

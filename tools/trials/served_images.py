@@ -1,0 +1,285 @@
+"""What a loss of power may leave of a served set of format 4: images of its file at each moment, from the system calls of the service."""
+
+from __future__ import annotations
+
+import os
+import random
+import re
+import socket
+import threading
+from collections import defaultdict, deque
+from typing import Deque, Dict, FrozenSet, Iterator, List, NamedTuple, Sequence, Set, Tuple
+
+from trials.explained import is_key_explained
+from trials.faults import needs_strace
+from trials.files import bytes_in, put
+from trials.guests import connect
+from trials.images import SYNC, Call, Disk
+from trials.noise import COMMANDS
+from trials.plain import HEAD_SIZE, MOST_NUMBER, SLOT_SIZE, Plain, Survey
+from trials.program import PATIENCE, Ended, Key, Program, Service
+from trials.report import Wrong, expect
+from trials.verdicts import Seen
+
+CLIENTS, SLOTS = 8, 10
+
+# More keys than slots, so that clients meet on them and some additions are refused.
+KEYS = tuple(Key(room, number) for room in (0, 7) for number in (0, 1, 8, 9, 10, MOST_NUMBER))
+
+# How many times each client sends lines, and how many at once.
+BURSTS, AT_ONCE = 8, 4
+
+# One in so many images is shown to the program too.
+SHOWN = 400
+
+
+class Shape(NamedTuple):
+    """How a set is served to the clients, and whether they speak in frames."""
+
+    name: str
+    passes: int
+    options: Tuple[str, ...]
+    in_frames: bool = False
+
+
+LOOP = ("--connections", str(CLIENTS))
+SHAPES = (
+    Shape("threads", CLIENTS, ("--sessions", "1")),
+    Shape("a loop", CLIENTS, (*LOOP, "--sessions", str(CLIENTS))),
+    Shape("two loops", 2, (*LOOP, "--loops", "2", "--sessions", str(CLIENTS // 2))),
+    Shape("frames", 2 * CLIENTS, (*LOOP, "--resp", "--sessions", str(CLIENTS)), True),
+)
+
+FRAMES = {"add": "SADD", "remove": "SREM", "has": "SISMEMBER"}
+VERBS = {word.encode(): verb for verb, word in (*FRAMES.items(), *((verb, verb) for verb in COMMANDS))}
+REPLIES = {b"yes": "yes", b"no": "no", b":1": "yes", b":0": "no"}
+
+# A line of strace's log: a thread, and its call, which goes on or begins; of a call its first number, its text, its place and what it gave.
+LINE = re.compile(r"^(\d+) +(?:<\.\.\. (\w+) resumed>|(\w+)\()(.*)$")
+NUMBER, TEXT = re.compile(r"^\d+"), re.compile(r'"((?:\\x[0-9a-f]{2})*)"')
+AT, GAVE = re.compile(r", (\d+)(?:\)| <)"), re.compile(r"\) += (-?\d+)")
+DEVICE = ("pwrite64", "fdatasync")
+CALLS = (*DEVICE, "accept4", "recvfrom", "sendto")
+CUT = "<unfinished ...>"
+
+
+class Event(NamedTuple):
+    """A write or a reply that begins, a sync that has ended, or a text that has come; and its number, a place of the file or a connection."""
+
+    name: str
+    number: int = 0
+    text: bytes = b""
+
+
+def events_in(log: str) -> Iterator[Event]:
+    """The events of a service, in the order in which strace saw them. No two calls of the device are under way at once."""
+    begun: Dict[str, Tuple[str, str]] = {}
+    with open(log, encoding="ascii") as lines:
+        for thread, resumed, name, words in (found.groups() for found in map(LINE.match, lines) if found):
+            if resumed:
+                name, words = resumed, begun.pop(thread)[1] + words
+            else:
+                if name in DEVICE and any(other in DEVICE for other, _ in begun.values()):
+                    raise Wrong(f"two calls of the device at once: {name} {words}")
+                yield from began(name, words)
+            if CUT in words:
+                begun[thread] = name, words.replace(CUT, "")
+            else:
+                yield from over(name, words)
+
+
+def text_in(words: str) -> bytes:
+    """The bytes that a call writes, sends or was given."""
+    found = TEXT.search(words)
+    return bytes.fromhex(found[1].replace("\\x", "")) if found else b""
+
+
+def began(name: str, words: str) -> Iterator[Event]:
+    """What a call means where it begins: from there on what it writes may be on the disk, and what it sends may have come."""
+    number, at = NUMBER.match(words), AT.search(words)
+    if name == "pwrite64" and at:
+        yield Event("write", int(at[1]), text_in(words))
+    elif name == "sendto" and number:
+        yield Event("reply", int(number[0]), text_in(words))
+
+
+def over(name: str, words: str) -> Iterator[Event]:
+    """What a call means where it is over."""
+    number, gave = NUMBER.match(words), GAVE.search(words)
+    result = int(gave[1]) if gave else -1
+    if name in ("pwrite64", "sendto"):
+        expect(result, len(text_in(words)), f"what {name} gave")
+    elif name == "fdatasync":
+        expect(result, 0, "what a sync gave")
+        yield Event("sync")
+    elif name == "accept4" and result >= 0:
+        yield Event("accept", result)
+    elif name == "recvfrom" and number and result > 0:
+        yield Event("come", int(number[0]), text_in(words))
+
+
+class Talk:
+    """A connection: bytes that aren't a line yet, and the calls that aren't answered yet."""
+
+    def __init__(self) -> None:
+        self.asked = self.told = b""
+        self.open: Deque[Seen] = deque()
+
+
+class Watch:
+    """What was asked of a service and what it told so far, and what its file may hold."""
+
+    def __init__(self, start: bytes) -> None:
+        self.disk = Disk(start, True)
+        self.began = set(Survey(start).members)
+        self.calls: Dict[Key, List[Seen]] = defaultdict(list)
+        self.talks: Dict[int, Talk] = {}
+        self.moment = self.answered = 0
+        self.must: Set[Key] = set(self.began)
+        self.may: Set[Key] = set(self.began)
+
+    def note(self, event: Event) -> None:
+        """Notes an event, but for those of the device."""
+        self.moment += 1
+        if event.name == "accept":
+            self.talks[event.number] = Talk()
+        elif event.name == "come":
+            talk = self.talks[event.number]
+            *lines, talk.asked = (talk.asked + event.text).split(b"\n")
+            for line in lines:
+                self._begin(talk, line.split())
+        elif event.name == "reply":
+            talk = self.talks[event.number]
+            *lines, talk.told = (talk.told + event.text).split(b"\n")
+            for line in lines:
+                self._end(talk.open.popleft(), line.split()[0])
+
+    def _begin(self, talk: Talk, words: List[bytes]) -> None:
+        key = Key(int(words[1]), int(words[2])) if len(words) == 3 else Key.read(words[1].decode())
+        call = Seen(0, 0, VERBS[words[0]], key, self.moment)
+        talk.open.append(call)
+        self.calls[key].append(call)
+        self._look(key)
+
+    def _end(self, call: Seen, word: bytes) -> None:
+        call.ended, call.answer = self.moment, REPLIES.get(word)
+        self.answered += 1
+        if call.answer is None:
+            expect(word in (b"full", b"-FULL"), True, f"a reply {word!r}")
+            self.calls[call.key].remove(call)
+        self._look(call.key)
+
+    def _look(self, key: Key) -> None:
+        """Whether the key must be, or may be, in the file now."""
+        ends = [end for end in (True, False) if is_key_explained(self.calls[key], key, key in self.began, end)]
+        expect(ends != [], True, f"that the replies on {key} are explained")
+        (self.must.add if ends == [True] else self.must.discard)(key)
+        (self.may.add if True in ends else self.may.discard)(key)
+
+
+def members_of(image: bytes, what: str) -> FrozenSet[Key]:
+    """The keys that an image holds."""
+    survey = Survey(image)
+    if not survey.holds():
+        raise Wrong(f"{what}: a loss of power leaves a damaged file: {image.hex()}")
+    return frozenset(survey.members)
+
+
+def expect_shown(program: Program, image: bytes, file: str) -> None:
+    """The program reads an image as the model does."""
+    put(file, image)
+    expect(program.run("check", file), Ended(*Survey(image).checked()), f"a check of {image.hex()}")
+    expect(program.run("info", file), Ended(*Survey(image).counted()), f"an info of {image.hex()}")
+
+
+class Judged(NamedTuple):
+    """How many images were read and how many calls were answered, and an image that the service goes on with."""
+
+    images: int
+    answered: int
+    left: bytes
+
+
+def judged(program: Program, folder: str, start: bytes, what: str, draw: random.Random) -> Judged:
+    """At each moment each image that is drawn holds what was answered, and nothing that wasn't asked for."""
+    watch, left, count = Watch(start), start, 0
+    held: Dict[FrozenSet[Key], bytes] = {frozenset(watch.began): start}
+    for event in events_in(os.path.join(folder, "calls")):
+        if event.name in ("write", "sync"):
+            watch.disk.take(Call(SYNC, b"") if event.name == "sync" else Call(event.number, event.text))
+            images = list(watch.disk.images(draw))
+            held = {members_of(image, what): image for image in images}
+            count += len(images)
+            if draw.randrange(SHOWN) < len(images):
+                expect_shown(program, draw.choice(images), os.path.join(folder, "image"))
+            if watch.disk.loose and draw.randrange(4) == 0:
+                left = draw.choice(images)
+        watch.note(event)
+        for members, image in held.items():
+            if not watch.must <= members <= watch.may:
+                raise Wrong(f"{what}: must hold {sorted(watch.must)}, may hold {sorted(watch.may)}, holds {sorted(members)}: {image.hex()}")
+    expect(bytes_in(os.path.join(folder, "served")), bytes(watch.disk.seen), "the file, as the calls have it")
+    return Judged(count, watch.answered, left)
+
+
+def bursts_of(shape: Shape, draw: random.Random) -> List[List[str]]:
+    """The lines that a client sends, some of them at once."""
+
+    def line() -> str:
+        verb, key = draw.choice((*COMMANDS, *COMMANDS[:2])), draw.choice(KEYS)
+        return f"{FRAMES[verb]} {key.room} {key.number}\r\n" if shape.in_frames else f"{verb} {key}\n"
+
+    return [[line() for _ in range(draw.randint(1, AT_ONCE))] for _ in range(BURSTS)]
+
+
+def send(connection: socket.socket, bursts: Sequence[Sequence[str]], failures: List[str]) -> None:
+    """Sends each burst once the one before it is answered."""
+    with connection, connection.makefile("rb") as replies:
+        for burst in bursts:
+            connection.sendall("".join(burst).encode())
+            if not all(replies.readline().endswith(b"\n") for _ in burst):
+                failures.append(f"no reply to one of {burst}")
+        connection.shutdown(socket.SHUT_WR)
+        replies.read()
+
+
+def serve(program: Program, folder: str, start: bytes, shape: Shape, draw: random.Random) -> int:
+    """Serves the clients over a file, under strace, until each has ended, and gives how many lines they sent."""
+    file, log = os.path.join(folder, "served"), os.path.join(folder, "calls")
+    put(file, start)
+    traced = ["strace", "-f", "-qq", "-o", log, "-xx", "-s", "65536", "-e", f"trace={','.join(CALLS)}"]
+    all_bursts = [bursts_of(shape, draw) for _ in range(CLIENTS)]
+    failures: List[str] = []
+    with Service(program, file, shape.passes, *shape.options, before=traced) as service:
+        connections = [connect(service.port) for _ in all_bursts]
+        clients = [threading.Thread(target=send, args=(it, bursts, failures)) for it, bursts in zip(connections, all_bursts)]
+        for client in clients:
+            client.start()
+        for client in clients:
+            client.join(PATIENCE)
+        expect(service.wait(), 0, f"the status of a service of {shape.name}")
+    expect(failures, [], "lines without a reply")
+    return sum(len(burst) for bursts in all_bursts for burst in bursts)
+
+
+def has_torn(image: bytes) -> bool:
+    """Whether a crash has left a slot of the file torn."""
+    slots = (image[start : start + SLOT_SIZE] for start in range(HEAD_SIZE, len(image), SLOT_SIZE))
+    return any(0 in slot and any(slot) for slot in slots)
+
+
+def try_images(program: Program, folder: str, seed: int, rounds: int) -> None:
+    """Each round serves a file in each of the shapes, one after the other. Each service goes on with an image that the one before it left."""
+    needs_strace()
+    draw, left = random.Random(seed), Plain(4, SLOTS).file()
+    images = answered = torn = 0
+    for shape in SHAPES * rounds:
+        torn += has_torn(left)
+        sent = serve(program, folder, left, shape, draw)
+        found = judged(program, folder, left, f"seed {seed}, {shape.name}", draw)
+        expect(found.answered, sent, f"how many lines were answered by {shape.name}")
+        images, answered, left = images + found.images, answered + found.answered, found.left
+    if images < answered:
+        raise Wrong(f"only {images} images of {answered} calls")
+    services = f"{len(SHAPES) * rounds} services of format 4, of which {torn} began with a torn slot"
+    print(f"         {images} images of {services}: {answered} calls answered", flush=True)
