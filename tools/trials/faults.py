@@ -18,6 +18,9 @@ from trials.report import Skip, Wrong, expect
 
 SLOTS = 3
 
+# A format whose writes are made at once, and the one whose writes are gathered up to a sync.
+FORMS = (2, 4)
+
 # A session that uses slots again and has each kind of answer.
 SESSION = (
     (Verb.ADD, 1),
@@ -81,10 +84,10 @@ def calls_of(text: str) -> List[Call]:
     return calls
 
 
-def try_one(program: Program, folder: str, call: str, number: int) -> None:
+def try_one(program: Program, folder: str, form: int, call: str, number: int) -> None:
     """A session whose call of that number fails: it is told halted, and what is found then is judged."""
-    file = os.path.join(folder, f"{call}-{number}")
-    program.make(file, SLOTS)
+    file = os.path.join(folder, f"{form}-{call}-{number}")
+    program.make(file, SLOTS, form)
     ended = program.run("run", file, lines=session_lines(), before=failing(file, call, number))
     if call == "fdatasync" and number == 1:
         expect(ended, REFUSED_DEVICE, "an open whose sync fails")
@@ -93,25 +96,30 @@ def try_one(program: Program, folder: str, call: str, number: int) -> None:
     replies = ended.text.splitlines()
     if ended.status != 1 or replies[-1:] != ["halted"] or replies.count("halted") != 1:
         raise Wrong(f"{call} {number} failed: status {ended.status}, {ended.text!r}")
-    history = History([Life(calls_of(ended.text), "stop", program.members(file))])
+    history = History([Life(calls_of(ended.text), kills.ENDS[form], program.members(file))])
     kills.judge(program, folder, history)
     with Service(program, file, 1) as service:
         expect(service.told.split()[:1], ["listening"], "a service after a failed device")
 
 
 def try_session(program: Program, folder: str) -> None:
-    """Each write and each sync of a session fails once."""
+    """Each write and each sync of a session fails once, in files of each of two formats."""
     needs_strace()
-    file = os.path.join(folder, "counted")
-    program.make(file, SLOTS)
+    for form in FORMS:
+        try_each(program, folder, form)
+
+
+def try_each(program: Program, folder: str, form: int) -> None:
+    file = os.path.join(folder, f"counted-{form}")
+    program.make(file, SLOTS, form)
     counts = count_calls(program, ["run", file], session_lines(), os.path.join(folder, "log"))
     if min(counts.values()) < 5:
         raise Wrong(f"too few calls to fail: {counts}")
     for call, count in counts.items():
         for number in range(1, count + 1):
-            try_one(program, folder, call, number)
+            try_one(program, folder, form, call, number)
     told = ", ".join(f"{count} of {call}" for call, count in counts.items())
-    print(f"         failed in turn: {told}", flush=True)
+    print(f"         format {form}: failed in turn: {told}", flush=True)
 
 
 def failed_life(program: Program, file: str, call: str, number: int, seed: int) -> Tuple[List[Call], int]:
@@ -144,17 +152,22 @@ def log_lines(slots: int, members: int, passes: int, call: str) -> List[str]:
 
 def try_service(program: Program, folder: str, seed: int) -> None:
     """A service of eight clients whose device fails: each is told halted, and it ends with status 1; then it is served
-    again, over the same file, and the whole is judged."""
+    again, over the same file, and the whole is judged; in files of each of two formats."""
     needs_strace()
-    file = os.path.join(folder, "served")
-    program.make(file, kills.SLOTS)
+    for form in FORMS:
+        serve_failing(program, folder, form, seed)
+
+
+def serve_failing(program: Program, folder: str, form: int, seed: int) -> None:
+    file = os.path.join(folder, f"served-{form}")
+    program.make(file, kills.SLOTS, form)
     history = History()
     for call, number in (("fdatasync", 5), ("pwrite64", 3), ("fdatasync", 12), ("pwrite64", 17)):
         calls, status = failed_life(program, file, call, number, seed + number)
         expect(status, 1, "the status of a service whose device failed")
         halted = sum(call.reply is Reply.HALTED for call in calls)
         expect(halted, kills.CLIENTS, "clients that were told halted")
-        history.lives.append(Life(calls, "stop", program.members(file)))
+        history.lives.append(Life(calls, kills.ENDS[form], program.members(file)))
     kills.judge(program, folder, history)
 
 

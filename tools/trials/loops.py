@@ -13,7 +13,7 @@ from typing import Callable, ContextManager, List
 from lazyset import Lazyset, Reply
 from trials import guests, kills, load
 from trials.crowd import Crowd, needs_descriptors
-from trials.faults import CAUSES, DEVICE_FAILED, failing, needs_strace, news_of
+from trials.faults import CAUSES, DEVICE_FAILED, FORMS, failing, needs_strace, news_of
 from trials.guests import connect, received, served
 from trials.history import History
 from trials.process import expect_rest, memory, processor_seconds
@@ -430,10 +430,15 @@ def try_idle(program: Program, folder: str) -> None:
 
 def try_device(program: Program, folder: str, seed: int, speak: Callable[[int], ContextManager[load.Ask]] = load.by_lines, *options: str) -> None:
     """A device that fails under forty-eight clients: each one's last command is answered `halted`, or is cut off, and some are told. The
-    service ends with status 1 and says why once. Then it is served again, and the whole is judged."""
+    service ends with status 1 and says why once. Then it is served again, and the whole is judged; in files of each of two formats."""
     needs_strace()
-    file = os.path.join(folder, "device")
-    program.make(file, kills.SLOTS)
+    for form in FORMS:
+        fail_device(program, folder, form, seed, speak, *options)
+
+
+def fail_device(program: Program, folder: str, form: int, seed: int, speak: Callable[[int], ContextManager[load.Ask]], *options: str) -> None:
+    file = os.path.join(folder, f"device-{form}")
+    program.make(file, kills.SLOTS, form)
     history, told = History(), 0
     for call, number in (("fdatasync", 5), ("pwrite64", 3), ("fdatasync", 12), ("pwrite64", 40)):
         with logged(program, file, PASSES, *at_once(HALTS), *options, before=failing(file, call, number)) as service:
@@ -444,10 +449,10 @@ def try_device(program: Program, folder: str, seed: int, speak: Callable[[int], 
         halted = sum(it.reply is Reply.HALTED for it in calls)
         if halted == 0:
             raise Wrong(f"no client was told that {call} {number} failed")
-        kills.note_life([history], [load.KEYS], calls, program.members(file))
+        kills.note_life([history], [load.KEYS], calls, program.members(file), kills.ENDS[form])
         told += halted
     kills.judge(program, folder, history)
-    print(f"         {told} of {4 * HALTS} clients were told halted", flush=True)
+    print(f"         format {form}: {told} of {4 * HALTS} clients were told halted", flush=True)
 
 
 def try_end(program: Program, folder: str) -> None:
