@@ -81,11 +81,11 @@ def events_in(log: str) -> Iterator[Event]:
             else:
                 if name in DEVICE and any(other in DEVICE for other, _ in begun.values()):
                     raise Wrong(f"two calls of the device at once: {name} {words}")
-                yield from began(name, words)
+                yield from begun_call(name, words)
             if CUT in words:
                 begun[thread] = name, words.replace(CUT, "")
             else:
-                yield from over(name, words)
+                yield from ended_call(name, words)
 
 
 def text_in(words: str) -> bytes:
@@ -94,7 +94,7 @@ def text_in(words: str) -> bytes:
     return bytes.fromhex(found[1].replace("\\x", "")) if found else b""
 
 
-def began(name: str, words: str) -> Iterator[Event]:
+def begun_call(name: str, words: str) -> Iterator[Event]:
     """What a call means where it begins: from there on what it writes may be on the disk, and what it sends may have come."""
     number, at = NUMBER.match(words), AT.search(words)
     if name == "pwrite64" and at:
@@ -103,7 +103,7 @@ def began(name: str, words: str) -> Iterator[Event]:
         yield Event("reply", int(number[0]), text_in(words))
 
 
-def over(name: str, words: str) -> Iterator[Event]:
+def ended_call(name: str, words: str) -> Iterator[Event]:
     """What a call means where it is over."""
     number, gave = NUMBER.match(words), GAVE.search(words)
     result = int(gave[1]) if gave else -1
@@ -173,8 +173,8 @@ class Watch:
         """Whether the key must be, or may be, in the file now."""
         ends = [end for end in (True, False) if is_key_explained(self.calls[key], key, key in self.began, end)]
         expect(ends != [], True, f"that the replies on {key} are explained")
-        (self.must.add if ends == [True] else self.must.discard)(key)
-        (self.may.add if True in ends else self.may.discard)(key)
+        self.must = self.must | {key} if ends == [True] else self.must - {key}
+        self.may = self.may | {key} if True in ends else self.may - {key}
 
 
 def members_of(image: bytes, what: str) -> FrozenSet[Key]:
