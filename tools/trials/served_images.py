@@ -8,6 +8,7 @@ import re
 import socket
 import threading
 from collections import defaultdict, deque
+from contextlib import suppress
 from typing import Deque, Dict, FrozenSet, Iterator, List, NamedTuple, Sequence, Set, Tuple
 
 from trials.explained import is_key_explained
@@ -34,20 +35,24 @@ SHOWN = 400
 
 
 class Shape(NamedTuple):
-    """How a set is served to the clients, and whether they speak in frames."""
+    """How a set is served to the clients, whether they speak in frames, and which call of the device strace has fail."""
 
     name: str
     passes: int
     options: Tuple[str, ...]
     in_frames: bool = False
+    failing: str = ""
 
 
-LOOP = ("--connections", str(CLIENTS))
+MANY = ("--connections", str(CLIENTS))
+LOOP = (*MANY, "--sessions", str(CLIENTS))
 SHAPES = (
     Shape("threads", CLIENTS, ("--sessions", "1")),
-    Shape("a loop", CLIENTS, (*LOOP, "--sessions", str(CLIENTS))),
-    Shape("two loops", 2, (*LOOP, "--loops", "2", "--sessions", str(CLIENTS // 2))),
-    Shape("frames", 2 * CLIENTS, (*LOOP, "--resp", "--sessions", str(CLIENTS)), True),
+    Shape("a loop", CLIENTS, LOOP),
+    Shape("two loops", 2, (*MANY, "--loops", "2", "--sessions", str(CLIENTS // 2))),
+    Shape("frames", 2 * CLIENTS, (*LOOP, "--resp"), True),
+    Shape("a loop whose sync fails", CLIENTS, LOOP, failing="fdatasync:error=EIO:when=6"),
+    Shape("frames where a write fails", 2 * CLIENTS, (*LOOP, "--resp"), True, "pwrite64:error=ENOSPC:when=10"),
 )
 
 FRAMES = {"add": "SADD", "remove": "SREM", "has": "SISMEMBER"}
@@ -64,7 +69,8 @@ CUT = "<unfinished ...>"
 
 
 class Event(NamedTuple):
-    """A write or a reply that begins, a sync that has ended, or a text that has come; and its number, a place of the file or a connection."""
+    """A write or a reply that begins, a sync that has ended, a call of the device that failed, a connection that was accepted, or a text that has
+    come on one; and its number, a place of the file or a connection."""
 
     name: str
     number: int = 0
@@ -107,10 +113,11 @@ def ended_call(name: str, words: str) -> Iterator[Event]:
     """What a call means where it is over."""
     number, gave = NUMBER.match(words), GAVE.search(words)
     result = int(gave[1]) if gave else -1
-    if name in ("pwrite64", "sendto"):
+    if name in DEVICE and result < 0:
+        yield Event("failed")
+    elif name in ("pwrite64", "sendto"):
         expect(result, len(text_in(words)), f"what {name} gave")
     elif name == "fdatasync":
-        expect(result, 0, "what a sync gave")
         yield Event("sync")
     elif name == "accept4" and result >= 0:
         yield Event("accept", result)
@@ -134,13 +141,14 @@ class Watch:
         self.began = set(Survey(start).members)
         self.calls: Dict[Key, List[Seen]] = defaultdict(list)
         self.talks: Dict[int, Talk] = {}
-        self.moment = self.answered = 0
+        self.moment = self.answered = self.failed = 0
         self.must: Set[Key] = set(self.began)
         self.may: Set[Key] = set(self.began)
 
     def note(self, event: Event) -> None:
         """Notes an event, but for those of the device."""
         self.moment += 1
+        self.failed += event.name == "failed"
         if event.name == "accept":
             self.talks[event.number] = Talk()
         elif event.name == "come":
@@ -162,6 +170,9 @@ class Watch:
         self._look(key)
 
     def _end(self, call: Seen, word: bytes) -> None:
+        """Notes a reply. A call that was halted may be done or not."""
+        if word in (b"halted", b"-HALTED"):
+            return
         call.ended, call.answer = self.moment, REPLIES.get(word)
         self.answered += 1
         if call.answer is None:
@@ -193,10 +204,11 @@ def expect_shown(program: Program, image: bytes, file: str) -> None:
 
 
 class Judged(NamedTuple):
-    """How many images were read and how many calls were answered, and an image that the service goes on with."""
+    """How many images were read, how many calls were answered and of the device failed, and an image that the next service goes on with."""
 
     images: int
     answered: int
+    failed: int
     left: bytes
 
 
@@ -218,8 +230,9 @@ def judged(program: Program, folder: str, start: bytes, what: str, draw: random.
         for members, image in held.items():
             if not watch.must <= members <= watch.may:
                 raise Wrong(f"{what}: must hold {sorted(watch.must)}, may hold {sorted(watch.may)}, holds {sorted(members)}: {image.hex()}")
-    expect(bytes_in(os.path.join(folder, "served")), bytes(watch.disk.seen), "the file, as the calls have it")
-    return Judged(count, watch.answered, left)
+    if not watch.failed:
+        expect(bytes_in(os.path.join(folder, "served")), bytes(watch.disk.seen), "the file, as the calls have it")
+    return Judged(count, watch.answered, watch.failed, left)
 
 
 def bursts_of(shape: Shape, draw: random.Random) -> List[List[str]]:
@@ -232,33 +245,32 @@ def bursts_of(shape: Shape, draw: random.Random) -> List[List[str]]:
     return [[line() for _ in range(draw.randint(1, AT_ONCE))] for _ in range(BURSTS)]
 
 
-def send(connection: socket.socket, bursts: Sequence[Sequence[str]], failures: List[str]) -> None:
-    """Sends each burst once the one before it is answered."""
-    with connection, connection.makefile("rb") as replies:
+def send(connection: socket.socket, bursts: Sequence[Sequence[str]]) -> None:
+    """Sends each burst once the one before it is answered, as long as all is answered."""
+    with connection, connection.makefile("rb") as replies, suppress(OSError):
         for burst in bursts:
             connection.sendall("".join(burst).encode())
-            if not all(replies.readline().endswith(b"\n") for _ in burst):
-                failures.append(f"no reply to one of {burst}")
+            if not all(replies.readline() for _ in burst):
+                return
         connection.shutdown(socket.SHUT_WR)
         replies.read()
 
 
 def serve(program: Program, folder: str, start: bytes, shape: Shape, draw: random.Random) -> int:
-    """Serves the clients over a file, under strace, until each has ended, and gives how many lines they sent."""
+    """Serves the clients over a file, under strace, until each has ended or the device has failed, and gives how many lines they have for it."""
     file, log = os.path.join(folder, "served"), os.path.join(folder, "calls")
     put(file, start)
     traced = ["strace", "-f", "-qq", "-o", log, "-xx", "-s", "65536", "-e", f"trace={','.join(CALLS)}"]
+    traced += ["-e", f"inject={shape.failing}"] if shape.failing else []
     all_bursts = [bursts_of(shape, draw) for _ in range(CLIENTS)]
-    failures: List[str] = []
     with Service(program, file, shape.passes, *shape.options, before=traced) as service:
         connections = [connect(service.port) for _ in all_bursts]
-        clients = [threading.Thread(target=send, args=(it, bursts, failures)) for it, bursts in zip(connections, all_bursts)]
+        clients = [threading.Thread(target=send, args=words) for words in zip(connections, all_bursts)]
         for client in clients:
             client.start()
         for client in clients:
             client.join(PATIENCE)
-        expect(service.wait(), 0, f"the status of a service of {shape.name}")
-    expect(failures, [], "lines without a reply")
+        expect(service.wait(), 1 if shape.failing else 0, f"the status of a service of {shape.name}")
     return sum(len(burst) for bursts in all_bursts for burst in bursts)
 
 
@@ -277,7 +289,8 @@ def try_images(program: Program, folder: str, seed: int, rounds: int) -> None:
         torn += has_torn(left)
         sent = serve(program, folder, left, shape, draw)
         found = judged(program, folder, left, f"seed {seed}, {shape.name}", draw)
-        expect(found.answered, sent, f"how many lines were answered by {shape.name}")
+        ended = (1, False) if shape.failing else (0, True)
+        expect((found.failed, found.answered == sent), ended, f"failures, and whether all was answered, of {shape.name}")
         images, answered, left = images + found.images, answered + found.answered, found.left
     if images < answered:
         raise Wrong(f"only {images} images of {answered} calls")
