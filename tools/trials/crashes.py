@@ -17,7 +17,7 @@ from trials.report import Wrong, expect
 # How many crashes a script has at least, how many lines a life, and how many actors.
 CRASHES, STEPS, ACTORS = 1000, 32, 5
 
-# Of so many keys each script has a few more than slots.
+# A script has some of these keys, as many as slots, or fewer, or more.
 KEYS = tuple(Key(room, number) for room in (0, 3, MOST_ROOM) for number in (0, 8, MOST_NUMBER))
 SLOTS, BUCKETS = 6, (1, 2, 7)
 
@@ -34,7 +34,7 @@ class Script:
     def __init__(self, draw: random.Random) -> None:
         self.draw = draw
         self.slots, self.buckets = draw.randint(1, SLOTS), draw.choice(BUCKETS)
-        self.keys = draw.sample(KEYS, self.slots + 2)
+        self.keys = draw.sample(KEYS, draw.randint(2, len(KEYS)))
         self.world = World(self.slots, self.buckets)
         self.lines: List[str] = []
         self.told: List[str] = []
@@ -93,12 +93,13 @@ class Script:
         self.play(f"crash {self._pick()}")
 
     def _pick(self) -> str:
-        pick = self.draw.choice(PICKS)
+        """Of a part every other one ends at the end of a slot, or next to it."""
+        pick, loose = self.draw.choice(PICKS), len(self.world.device.loose)
         if pick != "part":
             return pick
-        loose = len(self.world.device.loose)
-        whole = SLOT_SIZE * self.draw.randint(0, loose // SLOT_SIZE)
-        return f"part {max(0, whole + self.draw.choice((-1, 0, 0, 1))) if self.draw.randrange(2) else self.draw.randint(0, loose + 1)}"
+        if self.draw.randrange(2):
+            return f"part {self.draw.randint(0, loose + 1)}"
+        return f"part {max(0, SLOT_SIZE * self.draw.randint(0, loose // SLOT_SIZE) + self.draw.choice((-1, 0, 0, 1)))}"
 
     def _open(self) -> str:
         if self.draw.randrange(32) == 0:
