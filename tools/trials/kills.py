@@ -22,7 +22,8 @@ SLOTS = 20
 
 class Loaded(NamedTuple):
     """How a service is started, and who loads it: so many clients for each group of keys, who ask for no others, and how they speak. What they
-    saw is a history of its own, since calls on different keys don't touch each other; it may have 64 clients. A file's format is drawn."""
+    saw is a history of its own, since calls on different keys don't touch each other; it may have 64 clients. A file's format is drawn, for
+    each load by itself."""
 
     slots: int
     passes: int
@@ -30,7 +31,7 @@ class Loaded(NamedTuple):
     clients: int
     groups: Sequence[Sequence[Key]]
     speak: Callable[[int], ContextManager[load.Ask]] = load.by_lines
-    formats: Sequence[int] = (2, 3, 4)
+    formats: Sequence[int] = (2, 3, 4, 4)
 
 
 # What a kill is to a file: a service of format 4 hands its writes over at its syncs, so what it gathered since is lost.
@@ -133,7 +134,7 @@ def try_kills(program: Program, folder: str, kills: int, seed: int, loaded: Load
     """So many kills, in histories that are all judged good; spoiled ones aren't."""
     answered = under_way = done = judged = crashed = 0
     while done < kills:
-        form = random.Random(seed + done).choice(loaded.formats)
+        form = random.Random(f"{seed + done} {loaded.options}").choice(loaded.formats)
         histories = killed_histories(program, folder, loaded, form, min(KILLS_OF_A_HISTORY, kills - done), seed + done)
         done += len(histories[0].lives)
         crashed += sum(life.end == "crash" for life in histories[0].lives)
