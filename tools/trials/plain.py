@@ -150,6 +150,7 @@ class Survey:
         self.lines: List[str] = []
         self.flaws: List[Flaw] = []
         self.members: Dict[Key, int] = {}
+        self.torn = 0
         if not self.refusal:
             self.form, self.slots = NAMES[text[1:8]], int.from_bytes(text[8:16], "big")
             for place in range(self.slots):
@@ -158,6 +159,7 @@ class Survey:
 
     def _note(self, place: int, slot: bytes) -> None:
         if not is_open(self.form, slot):
+            self.torn += self.form == 4 and any(slot)
             return
         key = key_in(self.form, slot)
         if key is None:

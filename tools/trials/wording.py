@@ -7,7 +7,7 @@ import socket
 from typing import Optional, Tuple
 
 from trials.faults import CAUSES, failing, needs_strace
-from trials.files import ONE_SLOT, RENEWED, SEVENTEEN, TWO_SLOTS, changed, put
+from trials.files import ONE_SLOT, RENEWED, SEVENTEEN, TWO_SLOTS, changed, of_format, put
 from trials.program import Ended, Program
 from trials.report import expect
 
@@ -164,6 +164,12 @@ def try_reads(program: Program, folder: str) -> None:
         ended, said = program.run_loud(*words, before=before)
         expect((ended.text.splitlines()[-1:], ended.status), (["noread"], 1), f"{words} whose read {number} fails")
         expect(said, f"lazyset: {file}: Input/output error (os error 5)\n", f"what {words} says whose read {number} fails")
+    # A check is done after three reads. Where the count of torn slots fails, what was printed and the status stay.
+    put(file, of_format(4, TWO_SLOTS))
+    for number in (4, 5):
+        before = ["strace", "-f", "-qq", "-o", os.devnull, "-P", file, "-e", "trace=read", "-e", f"inject=read:error=EIO:when={number}"]
+        told = f"lazyset: {file}: torn slots weren't counted: Input/output error (os error 5)\n"
+        expect(program.run_loud("check", file, before=before), (Ended("good\n", 0), told), "a check whose count of torn slots fails")
 
 
 def try_devices(program: Program, folder: str) -> None:

@@ -18,10 +18,12 @@ use crate::heard::Heard;
 use crate::held::is_held;
 use crate::over_disk::{make_keys_over, make_over, renew_over, run_over};
 use crate::service::{At, Until, serve};
+use crate::source::Source;
 use crate::words::words_of;
 use lazyset_command_line::{Request, read, too_many_buckets};
 use lazyset_commands::{
     MOST_JUDGED, ServeOptions, Shown, Status, check_of_on, judge_on, rehearse_on, survey_on,
+    torn_slots,
 };
 use lz_disk::{Disk, FileDisk, Lock};
 use lz_slot::{Format, Header};
@@ -283,7 +285,34 @@ where
     let status = survey_on(rt.alloc(), &mut source, writer, shown);
     say_held(rt, file, was_held);
     say_cause(rt, file, source.end());
+    say_torn(rt, file, &mut source, status);
     Ok(status)
+}
+
+// Says how many slots a crash has torn in a file that was surveyed, where it has torn some. They are counted by a read of their own.
+fn say_torn<R>(rt: &R, file: &str, source: &mut Source<'_, '_, R, File>, status: Status)
+where
+    R: Eprint + Clock,
+{
+    let (Status::Done | Status::Damaged) = status else {
+        return;
+    };
+    let counted = match source.rewind() {
+        Ok(()) => torn_slots(source),
+        Err(error) => Err(error),
+    };
+    let _ = match counted {
+        Ok(0) => Ok(()),
+        Ok(1) => {
+            eprintln!(rt; "lazyset: {file}: 1 slot is torn: a crash left it so, and it is free")
+        }
+        Ok(count) => {
+            eprintln!(rt;
+                "lazyset: {file}: {count} slots are torn: a crash left them so, and they are free"
+            )
+        }
+        Err(error) => eprintln!(rt; "lazyset: {file}: torn slots weren't counted: {error}"),
+    };
 }
 
 // Says that a file was read while another process had it to itself, where one had or has.
@@ -311,6 +340,7 @@ where
     say_held(rt, old, was_older_held);
     say_cause(rt, file, source.end());
     say_cause(rt, old, older.end());
+    say_torn(rt, file, &mut source, status);
     Ok(status)
 }
 

@@ -4,7 +4,7 @@ ghost use Rattle.std.specs.Prelude.{◌≡◌};
 use crate::share::Share;
 use lz_disk::Cause;
 use std::io;
-use std::io::{ErrorKind, Read};
+use std::io::{ErrorKind, Read, Seek};
 use std::time::Clock;
 
 /// Reads a file, says how much of it was read, and remembers why a read failed. What it gives is what the file gives.
@@ -31,6 +31,13 @@ impl<'a, 'b, R: Eprint + Clock, F: Read> Source<'a, 'b, R, F> {
     pub fn end(&mut self) -> Option<Cause> {
         self.share.end();
         self.cause.map(Cause::System)
+    }
+}
+
+impl<R: Eprint + Clock, F: Read + Seek> Source<'_, '_, R, F> {
+    /// It is read from its beginning again.
+    pub fn rewind(&mut self) -> io::Result<()> {
+        self.file.rewind()
     }
 }
 

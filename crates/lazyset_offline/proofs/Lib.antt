@@ -15,3 +15,5 @@ pub mod HeldKeys
 pub mod ShownLists
 pub mod ShownCounts
 pub mod SurveyEnds
+pub mod TornSlots
+pub mod TornFree

@@ -14,3 +14,4 @@ pub mod ListParts
 pub mod Listings
 pub mod ShownLists
 pub mod ShownCounts
+pub mod Torn

@@ -17,6 +17,7 @@ mod renewing;
 mod shown;
 mod status;
 mod telling;
+mod torn;
 
 pub use checking::survey_on;
 pub use comparing::check_of_on;
@@ -30,3 +31,4 @@ pub use renewing::renew_on;
 pub use shown::Shown;
 pub use status::Status;
 pub use telling::tell;
+pub use torn::torn_slots;

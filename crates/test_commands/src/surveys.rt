@@ -1,6 +1,6 @@
 //! Surveys of files that come from a reader: in pieces, cut short, too long, and from a reader that fails.
 use crate::commands::HELD;
-use lazyset_commands::{Shown, check_of_on, survey_on};
+use lazyset_commands::{Shown, check_of_on, survey_on, torn_slots};
 use std::alloc::{AllocError, Global};
 use std::test::Fail;
 use test_support::Slow;
@@ -131,6 +131,76 @@ fn a_failed_read_of_an_older_file_ends_a_comparison(rt: HostRuntime) -> Result<(
         let code = check_of_on(rt.alloc(), &mut reader, &mut older, &mut told).code();
         let is_told = told.as_slice() == b"slot 0 key 17\ngood\nnoread\n".as_slice();
         assert!(rt; is_told && code == 1, "after {count} bytes");
+    }
+    Ok(())
+}
+
+// The byte that names format 4 in a head.
+const FOUR: u8 = 0x34;
+
+// A slot of format 4 that holds 17, and one that a crash has left amid its writing.
+const WHOLE: [u8; 16] = [
+    0x0f, 0x0f, 0x0f, 0x0f, 0x0f, 0x0f, 0x0f, 0x0f, 0x0f, 0x0f, 0x0f, 0x0f, 0x0f, 0x0f, 0x1e, 0x1e,
+];
+
+const TORN: [u8; 16] = [
+    0x0f, 0x0f, 0x0f, 0x0f, 0x0f, 0x0f, 0x0f, 0, 0x0f, 0x0f, 0x0f, 0x0f, 0x0f, 0x0f, 0x1e, 0x1e,
+];
+
+// A file of format 4 whose slots come in two pieces: 17 in slot 1, and four torn slots.
+fn torn_file(alloc: Global) -> Result<Vec<u8>, AllocError> {
+    let mut bytes: Vec<u8> = Vec::new(alloc);
+    bytes.extend_from_slice(&LONG_HEAD[..7])?;
+    bytes.push(FOUR)?;
+    bytes.extend_from_slice(&LONG_HEAD[8..])?;
+    for index in 0..1_500 {
+        let slot = match index {
+            0 | 1_023 | 1_024 | 1_499 => TORN,
+            1 => WHOLE,
+            _ => [0; 16],
+        };
+        bytes.extend_from_slice(&slot)?;
+    }
+    Ok(bytes)
+}
+
+#[test]
+fn torn_slots_of_each_piece_are_counted(rt: HostRuntime) -> Result<(), Fail> {
+    let file = torn_file(rt.alloc())?;
+    for step in [1, 7, 16, 4_096, 100_000] {
+        let mut reader = Slow {
+            text: file.as_slice(),
+            step,
+            fails: false,
+        };
+        let counted = torn_slots(&mut reader);
+        assert!(rt; matches!(counted, Ok(4)), "{step} bytes at a time");
+    }
+    Ok(())
+}
+
+// Of a file of another format no more is read than its head.
+#[test]
+fn no_slot_of_another_format_is_torn(rt: HostRuntime) -> Result<(), Fail> {
+    let mut reader = Slow {
+        text: LONG_HEAD.as_slice(),
+        step: 16,
+        fails: true,
+    };
+    assert!(rt; matches!(torn_slots(&mut reader), Ok(0)));
+    Ok(())
+}
+
+#[test]
+fn a_failed_read_ends_a_count_of_torn_slots(rt: HostRuntime) -> Result<(), Fail> {
+    let file = torn_file(rt.alloc())?;
+    for count in [0, 15, 16, 32, 24_015] {
+        let mut reader = Slow {
+            text: file.as_slice().get(..count).unwrap_or(b""),
+            step: 4_096,
+            fails: true,
+        };
+        assert!(rt; torn_slots(&mut reader).is_err(), "after {count} bytes");
     }
     Ok(())
 }

@@ -1,0 +1,18 @@
+use Rattle.std.proofs.Common.{◌≡◌, ◌-◌, ◌≤◌, ℕ, List, Option, length}
+use Rattle.std.specs.Io.KnownBytes.{Consumes}
+use Rattle.lz_slot.specs.Bytes.{format_of}
+use Rattle.lz_slot.specs.declared.format.Format.TheVariants.{Four}
+use Rattle.lazyset_offline.proofs.TornSlots.{HasCounted}
+use Rattle.lazyset_offline.proofs.torn.torn_slots_behind.Given as goal
+
+abbrev pub invariant-loop-done : goal.invariant-loop-done
+invariant-loop-done g l = record {
+  range : l.done ≤ l.slots;
+  room : length l.piece ≡ 16384;
+  bound : l.count ≤ l.done;
+  read : (input : Option (List ℕ)) (head : List ℕ) → length head ≡ 16 → format_of head ≡ Four → Consumes input (g.R.Read.remaining l.initial.reader) head
+      → HasCounted head input (g.R.Read.remaining l.reader) l.done l.count;
+}
+
+abbrev pub decreases-loop-done : goal.decreases-loop-done
+decreases-loop-done g l = l.slots - l.done
