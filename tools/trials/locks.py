@@ -7,9 +7,10 @@ import os
 import socket
 from typing import Tuple
 
-from trials.files import bytes_in
+from trials.files import CLOSED, TORN, bytes_in, put
 from trials.program import PATIENCE, Ended, Program, Service
 from trials.report import expect
+from trials.torn import HEAD_4, words_for
 
 NO_FILE = Ended("nofile\n", 3)
 
@@ -54,8 +55,21 @@ def try_locks(program: Program, folder: str) -> None:
         expect(ask(service.port, "has 1", "add 2"), "yes\nyes\n", "replies")
     expect(program.run("run", file, lines="has 1\nhas 2\n"), Ended("yes\nyes\n", 0), "a run after the service")
     expect(program.run_loud("info", file), (Ended("format 2\nslots 4\nmembers 2\nfree 2\ngood\n", 0), ""), "info after the service")
+    try_torn(program, os.path.join(folder, "torn"))
     try_shared(program, file, os.path.join(folder, "renewed"))
     try_itself(program, file)
+
+
+def try_torn(program: Program, file: str) -> None:
+    """Of a file that is served, and has a torn slot, both is said; its other slots are told as ever."""
+    put(file, HEAD_4 + TORN + CLOSED)
+    counted = "format 4\nslots 2\nmembers {}\nfree {}\ngood\n"
+    with Service(program, file, 1) as service:
+        expect(program.run_loud("info", file), (Ended(counted.format(0, 2), 0), beside(file) + words_for(file, 1)), "info of a torn file that is served")
+        expect(ask(service.port, "add 17"), "yes\n", "an addition over a torn slot")
+        for words, told in ((("check", file), "slot 0 key 17\ngood\n"), (("check", file, "--keys"), "17\n"), (("info", file), counted.format(1, 1))):
+            expect(program.run_loud(*words), (Ended(told, 0), beside(file)), f"{words[0]} beside the service")
+    expect(program.run_loud("check", file), (Ended("slot 0 key 17\ngood\n", 0), ""), "a check after the service")
 
 
 def try_shared(program: Program, old: str, new: str) -> None:
