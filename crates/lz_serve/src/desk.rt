@@ -201,13 +201,12 @@ impl<S: Stream, N: Named, B: Given> Desk<S, N, B> {
         self.crowd.tend_back(observer, buffer);
     }
 
-    /// Plays the Sync of each call that stands before one, and says whether one did. The first calls the device, and the others find their slots
-    /// covered.
+    /// Plays the Sync of each call that stands before one. The first calls the device, and the others find their slots covered.
     pub(crate) fn sync_all<D: Disk, G: StepGate, R: Wait + Clock>(
         &mut self,
         rt: &R,
         set: &Set<D, G, N>,
-    ) -> bool
+    )
         ensures given { self.new.given ≡ self.old.given }
         ensures synced { All (λ s. s ≢ Some stage.Syncs) self.new.stages }
     {
@@ -223,7 +222,6 @@ impl<S: Stream, N: Named, B: Given> Desk<S, N, B> {
             self.gathering.note_sync(time_since(rt, began));
             self.crowd.forget_out();
         }
-        has_synced
     }
 
     /// Whether the next sync waits a little for clients that were just answered, by whose calls it would do as well: where a pass is

@@ -231,7 +231,8 @@ where
         desk.play_all(rt, set, observer, &mut buffer);
         if desk.gathers(rt) {
             thread::sleep(rt, Duration::from_micros(GLIMPSE));
-        } else if desk.sync_all(rt, set) {
+        } else if !desk.rests() {
+            desk.sync_all(rt, set);
             // Whose sync it was is answered before others are heard, so that they ask again while those are.
             desk.play_all(rt, set, observer, &mut buffer);
         }

@@ -9,4 +9,4 @@ use Rattle.lz_board.proofs.Start.FirstWords.{opens_text}
 pub begins : (before after : Device) (B S : ℕ) (y : Yard) → OpensYard before after B S y → AreOpened y.words
 begins before after B S y o =
     let f = o.first in
-    (opens_text y.shape f.0 y.words f.2.text.no_key_twice (ap (λ (x : Yard). x.words) f.3)).0
+    (opens_text y.shape f.text y.words f.starts.text.no_key_twice (ap (λ (x : Yard). x.words) f.yard)).0
