@@ -1,13 +1,16 @@
-// The floor of the device: writes 16 bytes into a file of this folder and syncs it, again and again, from one thread.
+// The floor of the device: writes slots of 16 bytes into a file of this folder and syncs them, again and again, from one thread.
 //
-//     floor FILE SECONDS
+//     floor FILE SECONDS [SLOTS [together]]
 //
-// Prints how many such pairs were done, and the seconds that it took.
+// Before each sync it writes SLOTS slots (1), scattered and by a write each; with `together` side by side and by one write. Prints how many slots
+// were written, and the seconds that it took.
 #include <fcntl.h>
 #include <stdio.h>
 #include <stdlib.h>
 #include <time.h>
 #include <unistd.h>
+
+enum { SLOT = 16, ALL = 65536 };
 
 static double now(void) {
     struct timespec time;
@@ -15,12 +18,24 @@ static double now(void) {
     return (double)time.tv_sec + 1e-9 * (double)time.tv_nsec;
 }
 
+// Writes so many slots, the first of which is slot number `first` in an order that scatters them.
+static int write_slots(int file, unsigned long first, unsigned long slots, int together) {
+    static const char bytes[SLOT * ALL];
+    if (together) {
+        size_t length = SLOT * slots;
+        return pwrite(file, bytes, length, SLOT * (off_t)(first % (ALL - slots + 1))) == (ssize_t)length;
+    }
+    for (unsigned long done = first; done < first + slots; done++)
+        if (pwrite(file, bytes, SLOT, SLOT * (off_t)(done * 7919 % ALL)) != SLOT)
+            return 0;
+    return 1;
+}
+
 int main(int count, char **words) {
-    static const char slot[16], all[16 * 65536];
-    static const off_t slots = 65536;
-    unsigned long done = 0;
-    if (count != 3) {
-        fprintf(stderr, "floor FILE SECONDS\n");
+    static const char all[SLOT * ALL];
+    unsigned long done = 0, slots = count > 3 ? strtoul(words[3], NULL, 10) : 1;
+    if (count < 3 || count > 5 || slots < 1 || slots > ALL) {
+        fprintf(stderr, "floor FILE SECONDS [SLOTS [together]]\n");
         return 2;
     }
     int file = open(words[1], O_RDWR | O_CREAT, 0600);
@@ -31,12 +46,11 @@ int main(int count, char **words) {
     }
     double began = now(), ends_at = began + atof(words[2]);
     while (now() < ends_at) {
-        off_t at = 16 * ((off_t)(done * 7919) % slots);
-        if (pwrite(file, slot, sizeof slot, at) != (ssize_t)sizeof slot || fdatasync(file) != 0) {
+        if (!write_slots(file, done, slots, count > 4) || fdatasync(file) != 0) {
             perror("sync");
             return 1;
         }
-        done++;
+        done += slots;
     }
     printf("%lu %.6f\n", done, now() - began);
     return 0;
