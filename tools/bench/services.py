@@ -130,6 +130,13 @@ def switches(pid: int) -> int:
     return count
 
 
+def processor_seconds(pid: int) -> float:
+    """How much of a processor a process has taken."""
+    with open(f"/proc/{pid}/stat", encoding="ascii", errors="replace") as told:
+        user, system = told.read().rpartition(") ")[2].split()[11:13]
+    return (int(user) + int(system)) / os.sysconf("SC_CLK_TCK")
+
+
 def serves(target: str, connections: int, verb: str = "add") -> bool:
     """Whether a target is measured over so many connections at once: one with a thread for each has few."""
     if target in NARROW:
