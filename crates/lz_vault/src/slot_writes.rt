@@ -1,77 +1,87 @@
-//! The device calls that put a key into a slot, open it and close it.
-ghost use Rattle.std.specs.Prelude.{◌≡◌, ◌+◌, ◌*◌, ◌≤◌, length, IsTrue, OnErr, OnOk};
-ghost use Rattle.lz_vault.specs.Vaults.{Fails, Succeeds, WriteAt, closing_call, key_call, opening_call};
+//! What is written into a slot where a key is put into it, and where it is opened and closed; and what the answer tells.
+ghost use Rattle.std.specs.Prelude.{◌≡◌, ◌+◌, ◌*◌, ◌||◌, is_err};
+ghost use Rattle.lz_vault.specs.Vaults.{closing_bytes, key_call, opening_bytes, told_of};
+ghost use Rattle.lz_vault.specs.SlotWrites.{bytes_of, call_of};
 
-use crate::vault::Stage;
-use lz_disk::{DeviceFault, Disk};
+use crate::vault::{Stage, VaultFault};
+use lz_disk::DeviceFault;
 use lz_slot::{CLOSED_GATE, Format, Key, OPEN_GATE, Slot, slot_body, whole_slot};
 
-// Puts a key into a slot that is at this stage.
-pub(crate) fn write_key<D: Disk>(
-    disk: &mut D,
+// Bytes of a slot: its gate, those behind it, or all.
+#[derive(Clone, Copy)]
+pub(crate) enum SlotBytes {
+    Gate([u8; 1]),
+    Body([u8; 15]),
+    Whole([u8; 16]),
+}
+
+impl SlotBytes {
+    pub(crate) fn as_slice(&self) -> &[u8]
+        ensures { result.now ≡ bytes_of self.now }
+    {
+        match self {
+            SlotBytes::Gate(bytes) => bytes,
+            SlotBytes::Body(bytes) => bytes,
+            SlotBytes::Whole(bytes) => bytes,
+        }
+    }
+}
+
+// Where a key is put into a slot that is at this stage: from where on which bytes are written, if any are.
+pub(crate) fn key_write(
     format: Format,
     stage: Stage,
     slot: Slot,
     key: Key,
-) -> Result<(), DeviceFault>
-    requires { IsTrue (D.device disk.old).honest → 32 + 16 * slot ≤ length (D.device disk.old).medium.seen }
-    ensures done { OnOk result (Succeeds (key_call format stage slot key) (D.device disk.old) (D.device disk.new)) }
-    ensures failed { OnErr result (Fails (key_call format stage slot key) (D.device disk.old) (D.device disk.new)) }
+) -> Option<(u64, SlotBytes)>
+    ensures { call_of result ≡ key_call format stage slot key }
 {
     if format != Format::Four {
-        return write_at(disk, start_of(slot) + 1, &slot_body(key));
+        return Some((start_of(slot) + 1, SlotBytes::Body(slot_body(key))));
     }
     match stage {
-        Stage::Torn => write_at(disk, start_of(slot), &[0; 16]),
-        _ => Ok(()),
+        Stage::Torn => Some((start_of(slot), SlotBytes::Whole([0; 16]))),
+        _ => None,
     }
 }
 
-// Opens a slot for the key of this rank.
-pub(crate) fn write_opening<D: Disk>(
-    disk: &mut D,
-    format: Format,
-    slot: Slot,
-    rank: u64,
-) -> Result<(), DeviceFault>
-    requires { IsTrue (D.device disk.old).honest → 32 + 16 * slot ≤ length (D.device disk.old).medium.seen }
-    ensures done { OnOk result (Succeeds (opening_call format slot rank) (D.device disk.old) (D.device disk.new)) }
-    ensures failed { OnErr result (Fails (opening_call format slot rank) (D.device disk.old) (D.device disk.new)) }
+// What opens a slot for the key of this rank, from the slot's first byte on.
+pub(crate) fn opening_bytes(format: Format, rank: u64) -> SlotBytes
+    ensures { bytes_of result ≡ opening_bytes format rank }
 {
     if format == Format::Four {
-        return write_at(disk, start_of(slot), &whole_slot(rank));
+        return SlotBytes::Whole(whole_slot(rank));
     }
-    write_at(disk, start_of(slot), &[OPEN_GATE])
+    SlotBytes::Gate([OPEN_GATE])
 }
 
-// Closes a slot.
-pub(crate) fn write_closing<D: Disk>(
-    disk: &mut D,
-    format: Format,
-    slot: Slot,
-) -> Result<(), DeviceFault>
-    requires { IsTrue (D.device disk.old).honest → 32 + 16 * slot ≤ length (D.device disk.old).medium.seen }
-    ensures done { OnOk result (Succeeds (closing_call format slot) (D.device disk.old) (D.device disk.new)) }
-    ensures failed { OnErr result (Fails (closing_call format slot) (D.device disk.old) (D.device disk.new)) }
+// What closes one.
+pub(crate) fn closing_bytes(format: Format) -> SlotBytes
+    ensures { bytes_of result ≡ closing_bytes format }
 {
     if format == Format::Four {
-        return write_at(disk, start_of(slot), &[0; 16]);
+        return SlotBytes::Whole([0; 16]);
     }
-    write_at(disk, start_of(slot), &[CLOSED_GATE])
-}
-
-// A write, told as a device call of a vault.
-fn write_at<D: Disk>(disk: &mut D, at: u64, bytes: &[u8]) -> Result<(), DeviceFault>
-    requires { IsTrue (D.device disk.old).honest → at ≤ length (D.device disk.old).medium.seen }
-    ensures done { OnOk result (Succeeds (WriteAt at bytes.now) (D.device disk.old) (D.device disk.new)) }
-    ensures failed { OnErr result (Fails (WriteAt at bytes.now) (D.device disk.old) (D.device disk.new)) }
-{
-    disk.write(at, bytes)
+    SlotBytes::Gate([CLOSED_GATE])
 }
 
 // Where a slot's bytes begin.
-fn start_of(slot: Slot) -> u64
+pub(crate) fn start_of(slot: Slot) -> u64
     ensures { result ≡ 16 + 16 * slot }
 {
     16 + 16 * slot.index() as u64
+}
+
+// What a device call answers the vault's caller. Once one has failed, the vault is dead.
+pub(crate) fn answered(dead: &mut bool, call: Result<(), DeviceFault>) -> Result<(), VaultFault>
+    ensures told { result ≡ told_of call }
+    ensures dead { dead.new ≡ (dead.old || is_err call) }
+{
+    match call {
+        Ok(()) => Ok(()),
+        Err(DeviceFault) => {
+            *dead = true;
+            Err(VaultFault::Device)
+        }
+    }
 }
