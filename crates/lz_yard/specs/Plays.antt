@@ -5,6 +5,7 @@ use Rattle.lz_vault.specs.Vaults.{NoCall, Succeeds}
 use Rattle.lz_vault.specs.declared.vault.VaultFault.{VaultFault}
 use Rattle.lz_machine.specs.declared.event.Event.{Event}
 use Rattle.lz_machine.specs.declared.event.Outcome.{Outcome}
+use Rattle.lz_machine.specs.declared.course.Course.{Course}
 use Rattle.lz_machine.specs.declared.course.Course.TheVariants.{Plays}
 use Rattle.lz_machine.specs.Ready.{IsReady}
 use Rattle.lz_yard.specs.Parts.{PartsOver, PartsFit, Known, Does}
@@ -21,3 +22,8 @@ pub record MayBePlayed {D : Type 0} (device : D → Device) (parts : PartsOver D
 pub record IsPlayed {D : Type 0} (device : D → Device) (old new : PartsOver D) (a : ℕ) (e : Event) (result : Result Outcome VaultFault) : Type 0 where
   pub done : Does old.yard a e result new.yard (device old.disk) (device new.disk)
   pub rows : new.rows ≡ old.rows
+
+-- what holds where the course is that the event is played
+abbrev pub IfPlays : Course → Type 0 → Type 0
+IfPlays Plays P = P
+IfPlays course P = Unit {0}

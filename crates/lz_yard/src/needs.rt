@@ -1,9 +1,11 @@
 //! What an event needs, and what becomes of it.
-ghost use Rattle.std.specs.Prelude.{◌≡◌, ◌≢◌, ◌≤◌, length};
+ghost use Rattle.std.specs.Prelude.{◌≡◌, ◌≢◌, ◌≤◌, length, true};
 ghost use Rattle.lz_vault.specs.Vaults.{NoCall, Succeeds};
 ghost use Rattle.lz_machine.specs.Table.{course, needs};
 ghost use Rattle.lz_machine.specs.Ready.{IsEventOf};
+ghost use Rattle.lz_machine.specs.Runs.{MayPlay};
 ghost use Rattle.lz_yard.specs.Parts.{PartsFit, Known};
+ghost use Rattle.lz_yard.specs.Plays.{IfPlays, MayBePlayed};
 
 use crate::hold::{
     has_checked, has_closed, has_marked, has_opened, is_played_dead, may_check, may_claim,
@@ -58,12 +60,13 @@ impl<D: Disk> Parts<D> {
     #[tactic(auto, using(lz_machine::proofs::Runs::Course::course_rules))]
     #[inline(always)]
     pub(crate) fn course(&self, actor: usize, event: Event) -> Course
-        requires low { 1 ≤ actor }
-        requires high { actor ≤ length self.now.yard.actors }
+        requires actor { (1 ≤ actor) × (actor ≤ self.now.yard.shape.passes) }
         requires fits { PartsFit self.now.yard self.now.rows }
         requires event { IsEventOf self.now.yard event }
+        requires may { needs self.now.yard actor event ≡ true → MayPlay self.now.yard (D.device self.now.disk).honest (D.device self.now.disk).medium actor event }
         ensures course { result ≡ course self.now.yard actor event }
         ensures known { Known result self.now.yard actor event }
+        ensures plays { IfPlays result (MayBePlayed D.device self.now actor event) }
         ensures told { result ≢ Course.Refused Outcome.Fault }
         ensures quiet { Succeeds NoCall (D.device self.now.disk) (D.device self.now.disk) }
     {

@@ -19,14 +19,34 @@ use lz_machine::{Actor, Event, Hold, Outcome};
 use lz_slot::{Command, Key, Slot};
 use lz_vault::VaultFault;
 
-// One line for each kind of event, with what plays it.
+// Plays an event whose course is to be played, by the line of its kind.
 macro_rules! played {
-    ($parts:ident, $actor:ident, $event:ident; $($kind:pat => $play:ident($($part:ident),*);)*) => {
+    ($parts:expr, $actor:expr, $event:expr) => {
         match $event {
-            $($kind => $parts.$play($actor $(, $part)*),)*
+            Event::Invoke(command) => $parts.play_invoke($actor, command),
+            Event::Pin => $parts.play_pin($actor),
+            Event::Hop(word) => $parts.play_hop($actor, word),
+            Event::Reserve => $parts.play_reserve($actor),
+            Event::WriteKey(key) => $parts.play_write_key($actor, key),
+            Event::Claim(pred, curr) => $parts.play_claim($actor, pred, curr),
+            Event::Check => $parts.play_check($actor),
+            Event::WriteOpen => $parts.play_write_open($actor),
+            Event::Link => $parts.play_link($actor),
+            Event::WriteClose => $parts.play_write_close($actor),
+            Event::Mark => $parts.play_mark($actor),
+            Event::Release => $parts.play_release($actor),
+            Event::Sync(slot) => $parts.play_sync($actor, slot),
+            Event::Settle(slot) => $parts.play_settle($actor, slot),
+            Event::Unlink => $parts.play_unlink($actor),
+            Event::Retire => $parts.play_retire($actor),
+            Event::SeePin(pass, value) => $parts.play_see_pin($actor, pass, value),
+            Event::Answer => $parts.play_answer($actor),
+            Event::Halt => $parts.play_halt($actor),
         }
     };
 }
+
+pub(crate) use played;
 
 impl<D: Disk> Parts<D> {
     // An actor has this slot reserved, or none.
@@ -92,37 +112,12 @@ impl<D: Disk> Parts<D> {
             .set(Word::Link(slot), LinkWord { next, flags }.word());
     }
 
-    // Plays an event whose course is to be played.
     #[inline(always)]
-    pub(crate) fn play(&mut self, actor: usize, event: Event) -> Result<Outcome, VaultFault>
-        requires { MayBePlayed D.device self.old actor event }
-        ensures { IsPlayed D.device self.old self.new actor event result }
-    {
-        played! { self, actor, event;
-            Event::Invoke(command) => play_invoke(command);
-            Event::Pin => play_pin();
-            Event::Hop(word) => play_hop(word);
-            Event::Reserve => play_reserve();
-            Event::WriteKey(key) => play_write_key(key);
-            Event::Claim(pred, curr) => play_claim(pred, curr);
-            Event::Check => play_check();
-            Event::WriteOpen => play_write_open();
-            Event::Link => play_link();
-            Event::WriteClose => play_write_close();
-            Event::Mark => play_mark();
-            Event::Release => play_release();
-            Event::Sync(slot) => play_sync(slot);
-            Event::Settle(slot) => play_settle(slot);
-            Event::Unlink => play_unlink();
-            Event::Retire => play_retire();
-            Event::SeePin(pass, value) => play_see_pin(pass, value);
-            Event::Answer => play_answer();
-            Event::Halt => play_halt();
-        }
-    }
-
-    #[inline(always)]
-    fn play_invoke(&mut self, actor: usize, command: Command) -> Result<Outcome, VaultFault>
+    pub(crate) fn play_invoke(
+        &mut self,
+        actor: usize,
+        command: Command,
+    ) -> Result<Outcome, VaultFault>
         requires { MayBePlayed D.device self.old actor (Event.Invoke command) }
         ensures { IsPlayed D.device self.old self.new actor (Event.Invoke command) result }
     {
@@ -137,7 +132,7 @@ impl<D: Disk> Parts<D> {
     }
 
     #[inline(always)]
-    fn play_pin(&mut self, actor: usize) -> Result<Outcome, VaultFault>
+    pub(crate) fn play_pin(&mut self, actor: usize) -> Result<Outcome, VaultFault>
         requires { MayBePlayed D.device self.old actor Event.Pin }
         ensures { IsPlayed D.device self.old self.new actor Event.Pin result }
     {
@@ -147,7 +142,7 @@ impl<D: Disk> Parts<D> {
     }
 
     #[inline(always)]
-    fn play_hop(&mut self, actor: usize, word: Word) -> Result<Outcome, VaultFault>
+    pub(crate) fn play_hop(&mut self, actor: usize, word: Word) -> Result<Outcome, VaultFault>
         requires { MayBePlayed D.device self.old actor (Event.Hop word) }
         ensures { IsPlayed D.device self.old self.new actor (Event.Hop word) result }
     {
@@ -155,7 +150,7 @@ impl<D: Disk> Parts<D> {
     }
 
     #[inline(always)]
-    fn play_reserve(&mut self, actor: usize) -> Result<Outcome, VaultFault>
+    pub(crate) fn play_reserve(&mut self, actor: usize) -> Result<Outcome, VaultFault>
         requires { MayBePlayed D.device self.old actor Event.Reserve }
         ensures { IsPlayed D.device self.old self.new actor Event.Reserve result }
     {
@@ -169,7 +164,7 @@ impl<D: Disk> Parts<D> {
     }
 
     #[inline(always)]
-    fn play_write_key(&mut self, actor: usize, key: Key) -> Result<Outcome, VaultFault>
+    pub(crate) fn play_write_key(&mut self, actor: usize, key: Key) -> Result<Outcome, VaultFault>
         requires { MayBePlayed D.device self.old actor (Event.WriteKey key) }
         ensures { IsPlayed D.device self.old self.new actor (Event.WriteKey key) result }
     {
@@ -180,7 +175,7 @@ impl<D: Disk> Parts<D> {
     }
 
     #[inline(always)]
-    fn play_claim(
+    pub(crate) fn play_claim(
         &mut self,
         actor: usize,
         pred: Place,
@@ -205,7 +200,7 @@ impl<D: Disk> Parts<D> {
     }
 
     #[inline(always)]
-    fn play_check(&mut self, actor: usize) -> Result<Outcome, VaultFault>
+    pub(crate) fn play_check(&mut self, actor: usize) -> Result<Outcome, VaultFault>
         requires { MayBePlayed D.device self.old actor Event.Check }
         ensures { IsPlayed D.device self.old self.new actor Event.Check result }
     {
@@ -220,7 +215,7 @@ impl<D: Disk> Parts<D> {
     }
 
     #[inline(always)]
-    fn play_write_open(&mut self, actor: usize) -> Result<Outcome, VaultFault>
+    pub(crate) fn play_write_open(&mut self, actor: usize) -> Result<Outcome, VaultFault>
         requires { MayBePlayed D.device self.old actor Event.WriteOpen }
         ensures { IsPlayed D.device self.old self.new actor Event.WriteOpen result }
     {
@@ -233,7 +228,7 @@ impl<D: Disk> Parts<D> {
     }
 
     #[inline(always)]
-    fn play_link(&mut self, actor: usize) -> Result<Outcome, VaultFault>
+    pub(crate) fn play_link(&mut self, actor: usize) -> Result<Outcome, VaultFault>
         requires { MayBePlayed D.device self.old actor Event.Link }
         ensures { IsPlayed D.device self.old self.new actor Event.Link result }
     {
@@ -249,7 +244,7 @@ impl<D: Disk> Parts<D> {
     }
 
     #[inline(always)]
-    fn play_write_close(&mut self, actor: usize) -> Result<Outcome, VaultFault>
+    pub(crate) fn play_write_close(&mut self, actor: usize) -> Result<Outcome, VaultFault>
         requires { MayBePlayed D.device self.old actor Event.WriteClose }
         ensures { IsPlayed D.device self.old self.new actor Event.WriteClose result }
     {
@@ -260,7 +255,7 @@ impl<D: Disk> Parts<D> {
     }
 
     #[inline(always)]
-    fn play_mark(&mut self, actor: usize) -> Result<Outcome, VaultFault>
+    pub(crate) fn play_mark(&mut self, actor: usize) -> Result<Outcome, VaultFault>
         requires { MayBePlayed D.device self.old actor Event.Mark }
         ensures { IsPlayed D.device self.old self.new actor Event.Mark result }
     {
@@ -271,7 +266,7 @@ impl<D: Disk> Parts<D> {
     }
 
     #[inline(always)]
-    fn play_release(&mut self, actor: usize) -> Result<Outcome, VaultFault>
+    pub(crate) fn play_release(&mut self, actor: usize) -> Result<Outcome, VaultFault>
         requires { MayBePlayed D.device self.old actor Event.Release }
         ensures { IsPlayed D.device self.old self.new actor Event.Release result }
     {
@@ -282,7 +277,7 @@ impl<D: Disk> Parts<D> {
     }
 
     #[inline(always)]
-    fn play_sync(&mut self, actor: usize, slot: Slot) -> Result<Outcome, VaultFault>
+    pub(crate) fn play_sync(&mut self, actor: usize, slot: Slot) -> Result<Outcome, VaultFault>
         requires { MayBePlayed D.device self.old actor (Event.Sync slot) }
         ensures { IsPlayed D.device self.old self.new actor (Event.Sync slot) result }
     {
@@ -293,7 +288,7 @@ impl<D: Disk> Parts<D> {
     }
 
     #[inline(always)]
-    fn play_settle(&mut self, actor: usize, slot: Slot) -> Result<Outcome, VaultFault>
+    pub(crate) fn play_settle(&mut self, actor: usize, slot: Slot) -> Result<Outcome, VaultFault>
         requires { MayBePlayed D.device self.old actor (Event.Settle slot) }
         ensures { IsPlayed D.device self.old self.new actor (Event.Settle slot) result }
     {
@@ -305,7 +300,7 @@ impl<D: Disk> Parts<D> {
     }
 
     #[inline(always)]
-    fn play_unlink(&mut self, actor: usize) -> Result<Outcome, VaultFault>
+    pub(crate) fn play_unlink(&mut self, actor: usize) -> Result<Outcome, VaultFault>
         requires { MayBePlayed D.device self.old actor Event.Unlink }
         ensures { IsPlayed D.device self.old self.new actor Event.Unlink result }
     {
@@ -317,7 +312,7 @@ impl<D: Disk> Parts<D> {
     }
 
     #[inline(always)]
-    fn play_retire(&mut self, actor: usize) -> Result<Outcome, VaultFault>
+    pub(crate) fn play_retire(&mut self, actor: usize) -> Result<Outcome, VaultFault>
         requires { MayBePlayed D.device self.old actor Event.Retire }
         ensures { IsPlayed D.device self.old self.new actor Event.Retire result }
     {
@@ -328,7 +323,12 @@ impl<D: Disk> Parts<D> {
     }
 
     #[inline(always)]
-    fn play_see_pin(&mut self, actor: usize, pass: usize, value: u64) -> Result<Outcome, VaultFault>
+    pub(crate) fn play_see_pin(
+        &mut self,
+        actor: usize,
+        pass: usize,
+        value: u64,
+    ) -> Result<Outcome, VaultFault>
         requires { MayBePlayed D.device self.old actor (Event.SeePin pass value) }
         ensures { IsPlayed D.device self.old self.new actor (Event.SeePin pass value) result }
     {
@@ -337,7 +337,7 @@ impl<D: Disk> Parts<D> {
     }
 
     #[inline(always)]
-    fn play_answer(&mut self, actor: usize) -> Result<Outcome, VaultFault>
+    pub(crate) fn play_answer(&mut self, actor: usize) -> Result<Outcome, VaultFault>
         requires { MayBePlayed D.device self.old actor Event.Answer }
         ensures { IsPlayed D.device self.old self.new actor Event.Answer result }
     {
@@ -350,7 +350,7 @@ impl<D: Disk> Parts<D> {
     }
 
     #[inline(always)]
-    fn play_halt(&mut self, actor: usize) -> Result<Outcome, VaultFault>
+    pub(crate) fn play_halt(&mut self, actor: usize) -> Result<Outcome, VaultFault>
         requires { MayBePlayed D.device self.old actor Event.Halt }
         ensures { IsPlayed D.device self.old self.new actor Event.Halt result }
     {

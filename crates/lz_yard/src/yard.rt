@@ -13,6 +13,7 @@ ghost use Rattle.lz_machine.specs.Table.{is_sure, needs};
 
 use crate::filling::Tables;
 use crate::parts::Parts;
+use crate::plays::played;
 use crate::told::{Stepped, untold};
 use lz_allot::Counts;
 use lz_disk::Disk;
@@ -79,7 +80,7 @@ impl<D: Disk> Yard<D> {
     ///
     /// Where what the event needs doesn't hold it answers NotNow, and on a dead vault most kinds answer Dead; either changes
     /// nothing. Fault where the event's device call failed; from then on the vault is dead.
-    #[tactic(auto, using(crate::proofs::Events::PlayedLine::line_rules))]
+    #[tactic(auto, using(crate::proofs::Events::PlayedLine::line_rules, crate::proofs::Events::KeptFit::fits_played))]
     #[inline(always)]
     pub fn step(&mut self, actor: usize, event: Event) -> Stepped
         requires actor { (1 ≤ actor) × (actor ≤ self.old.yard.shape.passes) }
@@ -99,7 +100,8 @@ impl<D: Disk> Yard<D> {
             }
             Course::Plays => {
                 let told = self.parts.tell(actor, event);
-                match self.parts.play(actor, played) {
+                let done = played!(self.parts, actor, played);
+                match done {
                     Ok(outcome) => Stepped { outcome, told },
                     Err(_) => untold(Outcome::Fault),
                 }

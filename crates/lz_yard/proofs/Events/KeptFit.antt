@@ -1,6 +1,6 @@
 -- The yard's parts fit after an event, where they did before it.
 use Rattle.std.proofs.Common.{◌≡◌, ◌≢◌, ◌⊎◌, ℕ, zero, suc, ◌<◌, ◌≤◌, Bool, true, false, List, [], ◌∷◌, length, refl, sym, subst, arith, length-set}
-use Rattle.std.specs.Prelude.{Option, Some, IfSome, Ok, Err, slice_get, slice_set, if◌then◌else◌}
+use Rattle.std.specs.Prelude.{Option, Some, IfSome, Result, Ok, Err, slice_get, slice_set, if◌then◌else◌}
 use Rattle.std.proofs.lemmas.Option.{same_Some}
 use Rattle.std.proofs.lemmas.List.{length-map}
 use Rattle.lz_slot.specs.Counted.{set_of_pass}
@@ -29,7 +29,8 @@ use Rattle.lz_yard.specs.Steps.{Played, Tells}
 use Rattle.lz_yard.specs.declared.told.Told.{Told}
 use Rattle.lz_machine.specs.Ready.{IsEventOf, IsReady}
 use Rattle.lz_machine.specs.Runs.{MayPlay, with_words}
-use Rattle.lz_yard.specs.Parts.{PartsFit, HasInRange, Known, Does}
+use Rattle.lz_yard.specs.Parts.{PartsFit, PartsOver, HasInRange, Known, Does}
+use Rattle.lz_yard.specs.Plays.{IsPlayed, MayBePlayed}
 use Rattle.lz_yard.proofs.Events.HandRange.{hand_fits}
 use Rattle.lz_machine.proofs.Runs.Shape.{line_keeps_shape}
 use Rattle.lz_machine.proofs.Theorem.Readiness.{ready_to_play}
@@ -155,6 +156,15 @@ module _ (y : Yard) (known : ℕ) (fits : PartsFit y known) (new : Yard) (rows :
 
     pub fits_failed : (fault : VaultFault) → Does y a e (Err fault) new before after → PartsFit new rows
     fits_failed fault failed = fits_still (subst (λ (q : Yard). PartsFit q known) (sym failed.0) (failed_fits y known fits a e))
+
+-- what the parts played, done or failed
+pub fits_played : {D : Type 0} (device : D → Device) (old new : PartsOver D) (a : ℕ) (e : Event) (result : Result Outcome VaultFault)
+    → MayBePlayed device old a e → IsPlayed device old new a e result → PartsFit new.yard new.rows
+fits_played device old new a e (Ok outcome) may played =
+    fits_done old.yard old.rows may.fits new.yard new.rows played.rows a e (device old.disk) (device new.disk) outcome
+    (may.ready.actor.0, omega (arith, may.ready.actor.1, may.fits.actors)) may.ready.event may.known played.done
+fits_played device old new a e (Err fault) may played =
+    fits_failed old.yard old.rows may.fits new.yard new.rows played.rows a e (device old.disk) (device new.disk) fault played.done
 
 -- the word that is told is there after the event too
 pub word_stays : (y : Yard) (a : ℕ) (e : Event) (outcome : Outcome) (new : Yard) (told : Told) (before after : Device)

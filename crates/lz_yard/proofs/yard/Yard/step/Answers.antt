@@ -1,56 +1,73 @@
-use Rattle.std.proofs.Common.{refl, sym, ◌∙◌, subst}
-use Rattle.std.specs.Prelude.{IfSome}
-use Rattle.lz_list.specs.Lists.{IsWord}
-use Rattle.lz_yard.specs.declared.told.Stepped.{Stepped}
-use Rattle.lz_yard.proofs.Events.KeptFit.{fits_dead, fits_done, fits_failed, is_ready, word_stays}
+use Rattle.std.proofs.Common.{refl}
+use Rattle.lz_yard.specs.Parts.{Does}
+use Rattle.lz_yard.proofs.Events.KeptFit.{fits_dead, word_stays}
 use Rattle.lz_yard.proofs.Events.PlayedLine.{played_err, played_ok}
-use Rattle.lz_yard.proofs.yard.Yard.step.Goals.{in-Err, in-Ok}
+use Rattle.lz_yard.proofs.yard.Yard.step.Given.{Over}
+use Rattle.lz_yard.proofs.yard.Yard.step.Goals.{In-Err, In-Ok, in-Invoke, in-Pin, in-Hop, in-Reserve, in-WriteKey, in-Claim, in-Check, in-WriteOpen, in-Link, in-WriteClose, in-Mark, in-Release, in-Sync, in-Settle, in-Unlink, in-Retire, in-SeePin, in-Answer, in-Halt}
 use Rattle.lz_yard.proofs.yard.Yard.step.Goals as goal
 
-pub tell-told-requires-clause-ready : goal.tell-told-requires-clause-ready
-tell-told-requires-clause-ready g c =
-    let actor = rw (← c.self.view_is) at c.requires.actor in
-    let event = rw (← c.self.view_is) at c.requires.event in
-    let may = rw (← c.self.view_is) at c.requires.may in
-    is_ready _ _ _ _ c.args.actor c.args.event c.self.invariant actor event may c.in-Plays.ensures.known
-
-pub play-requires : goal.play-requires
-play-requires g c =
-    let actor = rw (← c.self.view_is) at c.requires.actor in
-    let event = rw (← c.self.view_is) at c.requires.event in
-    let may = rw (← c.self.view_is) at c.requires.may in
-    record {
-      fits = c.self.invariant;
-      ready = is_ready _ _ _ _ c.args.actor c.args.event c.self.invariant actor event may c.in-Plays.ensures.known;
-      known = c.in-Plays.ensures.known;
-      quiet = c.course.ensures.quiet;
-    }
+pub course-requires-clause-may : goal.course-requires-clause-may
+course-requires-clause-may g c = rw (← c.self.view_is) at c.requires.may
 
 pub invariant_of-self : goal.invariant_of-self
 invariant_of-self g c = fits_dead _ _ c.self.invariant _ _ c.die.ensures.rows c.die.ensures.yard
 
-pub invariant_of-self-in-Plays : goal.invariant_of-self-in-Plays
-invariant_of-self-in-Plays g c =
-    let actor = rw (← c.self.view_is) at c.requires.actor in
-    let event = rw (← c.self.view_is) at c.requires.event in
-    elim c.match-play.branch [
-      | in-Ok w ↦ fits_done _ _ c.self.invariant _ _ c.play.ensures.rows c.args.actor c.args.event _ _ w.in-Ok.outcome actor event c.in-Plays.ensures.known w.in-Ok.ensures.done
-      | in-Err w ↦ fits_failed _ _ c.self.invariant _ _ c.play.ensures.rows c.args.actor c.args.event _ _ w.in-Err.field-0 w.in-Err.ensures.done
-    ]
+-- whichever line was played, it was done
+done : (g : Over) (c : In-Ok g) → Does c.self.inside.parts.yard c.args.actor c.args.event c.match-played.done c.match-played.self.yard (g.D.Disk.device c.self.inside.parts.disk) (g.D.Disk.device c.match-played.self.disk)
+done g c = elim c.match-played.branch [
+  | in-Invoke w ↦ rw (w.self-is, w.done-is, w.in-Invoke.is) w.play_invoke-done.ensures.done
+  | in-Pin w ↦ rw (w.self-is, w.done-is, w.in-Pin.is) w.play_pin-done.ensures.done
+  | in-Hop w ↦ rw (w.self-is, w.done-is, w.in-Hop.is) w.play_hop-done.ensures.done
+  | in-Reserve w ↦ rw (w.self-is, w.done-is, w.in-Reserve.is) w.play_reserve-done.ensures.done
+  | in-WriteKey w ↦ rw (w.self-is, w.done-is, w.in-WriteKey.is) w.play_write_key-done.ensures.done
+  | in-Claim w ↦ rw (w.self-is, w.done-is, w.in-Claim.is) w.play_claim-done.ensures.done
+  | in-Check w ↦ rw (w.self-is, w.done-is, w.in-Check.is) w.play_check-done.ensures.done
+  | in-WriteOpen w ↦ rw (w.self-is, w.done-is, w.in-WriteOpen.is) w.play_write_open-done.ensures.done
+  | in-Link w ↦ rw (w.self-is, w.done-is, w.in-Link.is) w.play_link-done.ensures.done
+  | in-WriteClose w ↦ rw (w.self-is, w.done-is, w.in-WriteClose.is) w.play_write_close-done.ensures.done
+  | in-Mark w ↦ rw (w.self-is, w.done-is, w.in-Mark.is) w.play_mark-done.ensures.done
+  | in-Release w ↦ rw (w.self-is, w.done-is, w.in-Release.is) w.play_release-done.ensures.done
+  | in-Sync w ↦ rw (w.self-is, w.done-is, w.in-Sync.is) w.play_sync-done.ensures.done
+  | in-Settle w ↦ rw (w.self-is, w.done-is, w.in-Settle.is) w.play_settle-done.ensures.done
+  | in-Unlink w ↦ rw (w.self-is, w.done-is, w.in-Unlink.is) w.play_unlink-done.ensures.done
+  | in-Retire w ↦ rw (w.self-is, w.done-is, w.in-Retire.is) w.play_retire-done.ensures.done
+  | in-SeePin w ↦ rw (w.self-is, w.done-is, w.in-SeePin.is) w.play_see_pin-done.ensures.done
+  | in-Answer w ↦ rw (w.self-is, w.done-is, w.in-Answer.is) w.play_answer-done.ensures.done
+  | in-Halt w ↦ rw (w.self-is, w.done-is, w.in-Halt.is) w.play_halt-done.ensures.done
+]
 
-pub returns-after-play-clause-word : goal.returns-after-play-clause-word
-returns-after-play-clause-word g c =
-    elim c.match-play.branch [
-      | in-Ok w ↦
-          subst (λ (r : Stepped). IfSome r.told.changed (IsWord c.play.new.self.yard.words)) (sym w.result-is)
-          (word_stays _ c.args.actor c.args.event w.in-Ok.outcome _ c.tell-told.result _ _ w.in-Ok.ensures.done c.tell-told.ensures)
-      | in-Err w ↦ subst (λ (r : Stepped). IfSome r.told.changed (IsWord c.play.new.self.yard.words)) (sym (w.result-is ∙ w.untold-in-Err.ensures)) tt
-    ]
+pub returns-in-Ok-clause-word : goal.returns-in-Ok-clause-word
+returns-in-Ok-clause-word g c = word_stays _ c.args.actor c.args.event c.in-Ok.outcome _ c.tell-told.result _ _ (rw c.in-Ok.is at (done g c)) c.tell-told.ensures
 
-pub returns-after-play-clause-played : goal.returns-after-play-clause-played
-returns-after-play-clause-played g c =
-    rw (← c.self.view_is)
-    (elim c.match-play.branch [
-      | in-Ok w ↦ rw w.result-is (played_ok _ c.args.actor c.args.event w.in-Ok.outcome _ c.tell-told.result _ _ c.in-Plays.ensures.known w.in-Ok.ensures.done c.tell-told.ensures)
-      | in-Err w ↦ rw (w.result-is, w.untold-in-Err.ensures) (played_err _ c.args.actor c.args.event w.in-Err.field-0 _ _ _ _ c.in-Plays.ensures.known w.in-Err.ensures.done refl)
-    ])
+pub returns-in-Ok-clause-played : goal.returns-in-Ok-clause-played
+returns-in-Ok-clause-played g c =
+    rw (← c.self.view_is) (played_ok _ c.args.actor c.args.event c.in-Ok.outcome _ c.tell-told.result _ _ c.in-Plays.ensures.known (rw c.in-Ok.is at (done g c)) c.tell-told.ensures)
+
+-- or it failed
+failed : (g : Over) (c : In-Err g) → Does c.self.inside.parts.yard c.args.actor c.args.event c.match-played.done c.match-played.self.yard (g.D.Disk.device c.self.inside.parts.disk) (g.D.Disk.device c.match-played.self.disk)
+failed g c = elim c.match-played.branch [
+  | in-Invoke w ↦ rw (w.self-is, w.done-is, w.in-Invoke.is) w.play_invoke-done.ensures.done
+  | in-Pin w ↦ rw (w.self-is, w.done-is, w.in-Pin.is) w.play_pin-done.ensures.done
+  | in-Hop w ↦ rw (w.self-is, w.done-is, w.in-Hop.is) w.play_hop-done.ensures.done
+  | in-Reserve w ↦ rw (w.self-is, w.done-is, w.in-Reserve.is) w.play_reserve-done.ensures.done
+  | in-WriteKey w ↦ rw (w.self-is, w.done-is, w.in-WriteKey.is) w.play_write_key-done.ensures.done
+  | in-Claim w ↦ rw (w.self-is, w.done-is, w.in-Claim.is) w.play_claim-done.ensures.done
+  | in-Check w ↦ rw (w.self-is, w.done-is, w.in-Check.is) w.play_check-done.ensures.done
+  | in-WriteOpen w ↦ rw (w.self-is, w.done-is, w.in-WriteOpen.is) w.play_write_open-done.ensures.done
+  | in-Link w ↦ rw (w.self-is, w.done-is, w.in-Link.is) w.play_link-done.ensures.done
+  | in-WriteClose w ↦ rw (w.self-is, w.done-is, w.in-WriteClose.is) w.play_write_close-done.ensures.done
+  | in-Mark w ↦ rw (w.self-is, w.done-is, w.in-Mark.is) w.play_mark-done.ensures.done
+  | in-Release w ↦ rw (w.self-is, w.done-is, w.in-Release.is) w.play_release-done.ensures.done
+  | in-Sync w ↦ rw (w.self-is, w.done-is, w.in-Sync.is) w.play_sync-done.ensures.done
+  | in-Settle w ↦ rw (w.self-is, w.done-is, w.in-Settle.is) w.play_settle-done.ensures.done
+  | in-Unlink w ↦ rw (w.self-is, w.done-is, w.in-Unlink.is) w.play_unlink-done.ensures.done
+  | in-Retire w ↦ rw (w.self-is, w.done-is, w.in-Retire.is) w.play_retire-done.ensures.done
+  | in-SeePin w ↦ rw (w.self-is, w.done-is, w.in-SeePin.is) w.play_see_pin-done.ensures.done
+  | in-Answer w ↦ rw (w.self-is, w.done-is, w.in-Answer.is) w.play_answer-done.ensures.done
+  | in-Halt w ↦ rw (w.self-is, w.done-is, w.in-Halt.is) w.play_halt-done.ensures.done
+]
+
+pub returns-in-Err-clause-played : goal.returns-in-Err-clause-played
+returns-in-Err-clause-played g c =
+    rw (← c.self.view_is, c.untold-in-Err.ensures)
+    (played_err _ c.args.actor c.args.event c.in-Err.field-0 _ _ _ _ c.in-Plays.ensures.known (rw c.in-Err.is at (failed g (goal.at.returns-in-Err-clause-played g c).In-Err)) refl)
