@@ -9,7 +9,6 @@ use Rattle.lz_slot.specs.Texts.{key_read}
 use Rattle.lz_slot.specs.declared.spelling.KeyFault.{KeyFault}
 use Rattle.lz_slot.specs.declared.command.Command.{Command}
 use Rattle.lz_slot.specs.declared.command.Command.TheVariants.{Add, Remove, Has}
-use Rattle.lz_slot.specs.declared.history.Cut.{Cut}
 use Rattle.lz_slot.specs.declared.history.Cut.TheVariants.{Halted, Device}
 use Rattle.lz_slot.specs.declared.history.Refusal.{Refusal}
 use Rattle.lz_slot.specs.declared.history.Refusal.TheVariants.{Full, Worn, OldFile}
@@ -69,20 +68,13 @@ command_named name key =
     else if is_word name (codes "has") then Some (Has key)
     else None
 
--- `call I A add K`, `call I A remove K` or `call I A has K`, where K is a key or `R:K`
-abbrev pub call_read : List (List ℕ) → Option Line
-call_read words =
-    with_word call_number words (λ call words. with_word actor_number words (λ actor words.
-    with_word (λ name. Some name) words (λ name words. with_word key_named words (λ key words.
-    option_and_then (λ command. at_end (Seen (mark.Call call actor command)) words) (command_named name key)))))
+-- the command that the first two words are, and the words after them
+abbrev pub take_command : List (List ℕ) → Option (Command × List (List ℕ))
+take_command words = with_word (λ name. Some name) words (λ name words. with_word key_named words (λ key words. option_map (λ c. (c, words)) (command_named name key)))
 
 -- yes or no
 abbrev pub answer_read : List ℕ → Option Bool
 answer_read word = if is_word word (codes "yes") then Some true else if is_word word (codes "no") then Some false else None
-
--- `answer I yes` or `answer I no`
-abbrev pub answered_read : List (List ℕ) → Option Line
-answered_read words = with_word call_number words (λ call words. with_word answer_read words (λ answer words. at_end (Seen (mark.Answer call answer)) words))
 
 -- full, worn or oldfile
 abbrev pub refusal_read : List ℕ → Option Refusal
@@ -91,23 +83,6 @@ refusal_read word =
     else if is_word word (codes "worn") then Some Worn
     else if is_word word (codes "oldfile") then Some OldFile
     else None
-
--- `refused I full`, `refused I worn` or `refused I oldfile`
-abbrev pub refused_read : List (List ℕ) → Option Line
-refused_read words = with_word call_number words (λ call words. with_word refusal_read words (λ why words. at_end (Seen (mark.Refused call why)) words))
-
--- `halted I` or `device I`
-abbrev pub cut_read : Cut → List (List ℕ) → Option Line
-cut_read why words = with_word call_number words (λ call words. at_end (Seen (mark.Cut call why)) words)
-
--- `busy A`
-abbrev pub busy_read : List (List ℕ) → Option Line
-busy_read words = with_word actor_number words (λ actor words. at_end Other words)
-
--- `point I P`
-abbrev pub point_read : List (List ℕ) → Option Line
-point_read words =
-    with_word call_number words (λ call words. with_word (number_in 0 largest_place) words (λ place words. at_end (Placed (record { call = call; place = place })) words))
 
 -- the key, where it is not below the least one
 abbrev pub not_below : ℕ → ℕ → Option ℕ
@@ -139,26 +114,25 @@ open_read (word ∷ words) = if is_word word (codes "fault") then fault_read wor
 abbrev pub show_read : List (List ℕ) → Option Line
 show_read words = option_map (λ keys. Other) (keys_from 0 words)
 
--- what a line of this kind says with the words after, where it is no call's and no call's end
-abbrev pub other_read : List ℕ → List (List ℕ) → Option Line
-other_read kind words =
-    if is_word kind (codes "stop") then at_end (Seen mark.Stop) words
+-- What a line of this kind says by its fields. Each kind is one row: its word, what reads each of its fields, and what the line says.
+abbrev pub fields_read : List ℕ → List (List ℕ) → Option Line
+fields_read kind words =
+    if is_word kind (codes "call") then
+    with_word call_number words (λ i words. with_word actor_number words (λ a words. option_and_then (λ taken. at_end (Seen (mark.Call i a taken.0)) taken.1) (take_command words)))
+    else if is_word kind (codes "answer") then with_word call_number words (λ i words. with_word answer_read words (λ answer. at_end (Seen (mark.Answer i answer))))
+    else if is_word kind (codes "refused") then with_word call_number words (λ i words. with_word refusal_read words (λ why. at_end (Seen (mark.Refused i why))))
+    else if is_word kind (codes "halted") then with_word call_number words (λ i. at_end (Seen (mark.Cut i Halted)))
+    else if is_word kind (codes "device") then with_word call_number words (λ i. at_end (Seen (mark.Cut i Device)))
+    else if is_word kind (codes "stop") then at_end (Seen mark.Stop) words
     else if is_word kind (codes "crash") then at_end (Seen mark.Crash) words
-    else if is_word kind (codes "open") then open_read words
-    else if is_word kind (codes "show") then show_read words
-    else if is_word kind (codes "busy") then busy_read words
-    else if is_word kind (codes "point") then point_read words
+    else if is_word kind (codes "busy") then with_word actor_number words (λ a. at_end Other)
+    else if is_word kind (codes "point") then
+    with_word call_number words (λ i words. with_word (number_in 0 largest_place) words (λ place. at_end (Placed (record { call = i; place = place }))))
     else None
 
 -- what a line of this kind says with the words after
 abbrev pub kind_read : List ℕ → List (List ℕ) → Option Line
-kind_read kind words =
-    if is_word kind (codes "call") then call_read words
-    else if is_word kind (codes "answer") then answered_read words
-    else if is_word kind (codes "refused") then refused_read words
-    else if is_word kind (codes "halted") then cut_read Halted words
-    else if is_word kind (codes "device") then cut_read Device words
-    else other_read kind words
+kind_read kind words = if is_word kind (codes "open") then open_read words else if is_word kind (codes "show") then show_read words else fields_read kind words
 
 -- what a line says
 abbrev pub line_read : List ℕ → Option Line

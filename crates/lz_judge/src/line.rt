@@ -1,9 +1,8 @@
 //! One line of a history.
-ghost use Rattle.std.specs.Prelude.{◌≡◌, ◌≤◌, ◌∷◌, ℕ, IfOk, IfSome, Some, option_and_then, option_map};
-ghost use Rattle.lz_slot.specs.Limits.{most_actors};
-ghost use Rattle.lz_slot.specs.Numerals.{largest_read, number_in};
+ghost use Rattle.std.specs.Prelude.{◌≡◌, ◌≤◌, ◌∷◌, IfOk, IfSome, Some, option_map};
+ghost use Rattle.lz_slot.specs.Numerals.{number_in};
 ghost use Rattle.lz_judge.specs.Lines.{IsLow};
-ghost use Rattle.lz_judge.specs.LinesRead.{is_word, answer_read, answered_read, at_end, busy_read, call_read, command_named, cut_read, fault_read, key_from, key_named, keys_from, line_read, open_read, other_read, point_read, refusal_read, refused_read, show_read, take_word, words_behind, words_of};
+ghost use Rattle.lz_judge.specs.LinesRead.{answer_read, at_end, command_named, fault_read, fields_read, is_word, key_from, keys_from, line_read, open_read, refusal_read, show_read, take_command, take_word, words_behind, words_of};
 
 use crate::history::Point;
 use crate::limits::{MAX_PLACE, MOST_FAULTS};
@@ -20,11 +19,15 @@ pub enum Line {
     Other,
 }
 
-// A kind of line is known by its first word. Each kind is one line.
+// A line's first word is its kind, and each word after it a field. Each kind is one row: its word, its fields with what
+// reads each, and what the line says.
 macro_rules! kinds {
-    ($kind:ident; $($name:literal => $read:expr;)* _ => $other:expr) => {{
-        $(if is_word($kind, $name) {
-            return $read;
+    ($kind:ident, $text:ident; $($word:literal $(, $field:ident: $read:ident($($bound:expr),*))* => $line:expr;)* _ => $other:expr) => {{
+        $(if is_word($kind, $word) {
+            $(let Some(($field, $text)) = $read($text $(, $bound)*) else {
+                return None;
+            };)*
+            return read_end($text, $line);
         })*
         $other
     }};
@@ -36,29 +39,32 @@ pub fn read_line(alloc: Global, line: &[u8]) -> Result<Option<Line>, AllocError>
     ensures says { IfOk result (λ read. read ≡ line_read line.now) }
 {
     let (kind, rest) = split_word(line);
-    kinds! { kind;
-        b"call" => Ok(read_call(rest));
-        b"answer" => Ok(read_answer(rest));
-        b"refused" => Ok(read_refused(rest));
-        b"halted" => Ok(read_cut(rest, Cut::Halted));
-        b"device" => Ok(read_cut(rest, Cut::Device));
-        _ => read_other(alloc, kind, rest)
+    if is_word(kind, b"open") {
+        return read_open(alloc, rest);
     }
+    if is_word(kind, b"show") {
+        return read_show(alloc, rest);
+    }
+    Ok(read_fields(kind, rest))
 }
 
-// What a line says that is no call's and no call's end.
-fn read_other(alloc: Global, kind: &[u8], text: Option<&[u8]>) -> Result<Option<Line>, AllocError>
-    ensures low { IfOk result (λ read. IfSome read IsLow) }
-    ensures says { IfOk result (λ read. read ≡ other_read kind.now (words_behind text.entry)) }
+// What a line of this kind says by its fields.
+fn read_fields(kind: &[u8], text: Option<&[u8]>) -> Option<Line>
+    ensures low { IfSome result IsLow }
+    ensures says { result ≡ fields_read kind.now (words_behind text.entry) }
 {
-    kinds! { kind;
-        b"stop" => Ok(read_end(text, Line::Seen(Mark::Stop)));
-        b"crash" => Ok(read_end(text, Line::Seen(Mark::Crash)));
-        b"open" => read_open(alloc, text);
-        b"show" => read_show(alloc, text);
-        b"busy" => Ok(read_busy(text));
-        b"point" => Ok(read_point(text));
-        _ => Ok(None)
+    kinds! { kind, text;
+        b"call", call: read_number(1, u64::MAX), actor: read_number(1, MOST_ACTORS), command: read_command()
+            => Line::Seen(Mark::Call(call, actor as usize, command));
+        b"answer", call: read_number(1, u64::MAX), answer: read_answer() => Line::Seen(Mark::Answer(call, answer));
+        b"refused", call: read_number(1, u64::MAX), why: read_refusal() => Line::Seen(Mark::Refused(call, why));
+        b"halted", call: read_number(1, u64::MAX) => Line::Seen(Mark::Cut(call, Cut::Halted));
+        b"device", call: read_number(1, u64::MAX) => Line::Seen(Mark::Cut(call, Cut::Device));
+        b"stop" => Line::Seen(Mark::Stop);
+        b"crash" => Line::Seen(Mark::Crash);
+        b"busy", _actor: read_number(1, MOST_ACTORS) => Line::Other;
+        b"point", call: read_number(1, u64::MAX), place: read_number(0, MAX_PLACE) => Line::Placed(Point { call, place });
+        _ => None
     }
 }
 
@@ -88,45 +94,29 @@ fn next_word(text: Option<&[u8]>) -> Option<(&[u8], Option<&[u8]>)>
     }
 }
 
-fn read_call(text: Option<&[u8]>) -> Option<Line>
-    ensures low { IfSome result IsLow }
-    ensures says { result ≡ call_read (words_behind text.entry) }
+// The number from low up to high that the next word is, and what stands after it.
+fn read_number(text: Option<&[u8]>, low: u64, high: u64) -> Option<(u64, Option<&[u8]>)>
+    ensures words { option_map (λ r. (r.0, words_behind r.1)) result ≡ take_word (number_in low high) (words_behind text.entry) }
+    ensures range { IfSome result (λ r. r.0 ≤ high) }
 {
-    let Some((call, text)) = read_call_number(text) else {
-        return None;
-    };
-    let Some((actor, text)) = read_number(text, 1, MOST_ACTORS) else {
-        return None;
-    };
-    let Some((name, text)) = next_word(text) else {
-        return None;
-    };
-    let Some((word, text)) = next_word(text) else {
-        return None;
-    };
-    let Some(command) = command_of(name, word) else {
-        return None;
-    };
-    read_end(text, Line::Seen(Mark::Call(call, actor as usize, command)))
+    let (word, text) = next_word(text)?;
+    let number = lz_slot::read_number(word, low, high)?;
+    Some((number, text))
 }
 
-// The key that a word spells.
-fn key_of(word: &[u8]) -> Option<Key>
-    ensures { result ≡ key_named word.now }
+// The command that the next two words are, and what stands after them.
+fn read_command(text: Option<&[u8]>) -> Option<(Command, Option<&[u8]>)>
+    ensures { option_map (λ r. (r.0, words_behind r.1)) result ≡ take_command (words_behind text.entry) }
 {
-    match read_key(word) {
-        Ok(key) => Some(key),
-        Err(_) => None,
-    }
+    let (name, text) = next_word(text)?;
+    let (word, text) = next_word(text)?;
+    let command = command_of(name, read_key(word).ok()?)?;
+    Some((command, text))
 }
 
-// The command of this name on the key that the word spells.
-fn command_of(name: &[u8], word: &[u8]) -> Option<Command>
-    ensures { result ≡ option_and_then (λ key. command_named name.now key) (key_named word.now) }
+fn command_of(name: &[u8], key: Key) -> Option<Command>
+    ensures { result ≡ command_named name.now key }
 {
-    let Some(key) = key_of(word) else {
-        return None;
-    };
     if is_word(name, b"add") {
         return Some(Command::Add(key));
     }
@@ -139,96 +129,33 @@ fn command_of(name: &[u8], word: &[u8]) -> Option<Command>
     None
 }
 
-fn read_answer(text: Option<&[u8]>) -> Option<Line>
-    ensures low { IfSome result IsLow }
-    ensures says { result ≡ answered_read (words_behind text.entry) }
+fn read_answer(text: Option<&[u8]>) -> Option<(bool, Option<&[u8]>)>
+    ensures { option_map (λ r. (r.0, words_behind r.1)) result ≡ take_word answer_read (words_behind text.entry) }
 {
-    let Some((call, text)) = read_call_number(text) else {
-        return None;
-    };
-    let Some((word, text)) = next_word(text) else {
-        return None;
-    };
-    let Some(answer) = answer_of(word) else {
-        return None;
-    };
-    read_end(text, Line::Seen(Mark::Answer(call, answer)))
-}
-
-fn answer_of(word: &[u8]) -> Option<bool>
-    ensures { result ≡ answer_read word.now }
-{
+    let (word, text) = next_word(text)?;
     if is_word(word, b"yes") {
-        return Some(true);
+        return Some((true, text));
     }
     if is_word(word, b"no") {
-        return Some(false);
+        return Some((false, text));
     }
     None
 }
 
-fn read_refused(text: Option<&[u8]>) -> Option<Line>
-    ensures low { IfSome result IsLow }
-    ensures says { result ≡ refused_read (words_behind text.entry) }
+fn read_refusal(text: Option<&[u8]>) -> Option<(Refusal, Option<&[u8]>)>
+    ensures { option_map (λ r. (r.0, words_behind r.1)) result ≡ take_word refusal_read (words_behind text.entry) }
 {
-    let Some((call, text)) = read_call_number(text) else {
-        return None;
-    };
-    let Some((word, text)) = next_word(text) else {
-        return None;
-    };
-    let Some(why) = refusal_of(word) else {
-        return None;
-    };
-    read_end(text, Line::Seen(Mark::Refused(call, why)))
-}
-
-fn refusal_of(word: &[u8]) -> Option<Refusal>
-    ensures { result ≡ refusal_read word.now }
-{
+    let (word, text) = next_word(text)?;
     if is_word(word, b"full") {
-        return Some(Refusal::Full);
+        return Some((Refusal::Full, text));
     }
     if is_word(word, b"worn") {
-        return Some(Refusal::Worn);
+        return Some((Refusal::Worn, text));
     }
     if is_word(word, b"oldfile") {
-        return Some(Refusal::OldFile);
+        return Some((Refusal::OldFile, text));
     }
     None
-}
-
-fn read_cut(text: Option<&[u8]>, why: Cut) -> Option<Line>
-    ensures low { IfSome result IsLow }
-    ensures says { result ≡ cut_read why (words_behind text.entry) }
-{
-    let Some((call, text)) = read_call_number(text) else {
-        return None;
-    };
-    read_end(text, Line::Seen(Mark::Cut(call, why)))
-}
-
-fn read_busy(text: Option<&[u8]>) -> Option<Line>
-    ensures low { IfSome result IsLow }
-    ensures says { result ≡ busy_read (words_behind text.entry) }
-{
-    let Some((_, text)) = read_number(text, 1, MOST_ACTORS) else {
-        return None;
-    };
-    read_end(text, Line::Other)
-}
-
-fn read_point(text: Option<&[u8]>) -> Option<Line>
-    ensures low { IfSome result IsLow }
-    ensures says { result ≡ point_read (words_behind text.entry) }
-{
-    let Some((call, text)) = read_call_number(text) else {
-        return None;
-    };
-    let Some((place, text)) = read_number(text, 0, MAX_PLACE) else {
-        return None;
-    };
-    read_end(text, Line::Placed(Point { call, place }))
 }
 
 fn read_open(alloc: Global, text: Option<&[u8]>) -> Result<Option<Line>, AllocError>
@@ -251,9 +178,7 @@ fn read_fault(text: Option<&[u8]>) -> Option<Line>
     ensures low { IfSome result IsLow }
     ensures says { result ≡ fault_read (words_behind text.entry) }
 {
-    let Some((fault, text)) = read_number(text, 1, MOST_FAULTS) else {
-        return None;
-    };
+    let (fault, text) = read_number(text, 1, MOST_FAULTS)?;
     read_end(text, Line::Seen(Mark::OpenFailed(fault as u8)))
 }
 
@@ -279,27 +204,6 @@ fn read_end(text: Option<&[u8]>, line: Line) -> Option<Line>
     }
 }
 
-// A call's number, and what stands after it.
-fn read_call_number(text: Option<&[u8]>) -> Option<(u64, Option<&[u8]>)>
-    ensures { option_map (λ r. (r.0, words_behind r.1)) result ≡ take_word (number_in 1 largest_read) (words_behind text.entry) }
-{
-    read_number(text, 1, u64::MAX)
-}
-
-// The number from low up to high that the next word is, and what stands after it.
-fn read_number(text: Option<&[u8]>, low: u64, high: u64) -> Option<(u64, Option<&[u8]>)>
-    ensures words { option_map (λ r. (r.0, words_behind r.1)) result ≡ take_word (number_in low high) (words_behind text.entry) }
-    ensures range { IfSome result (λ r. r.0 ≤ high) }
-{
-    let Some((word, rest)) = next_word(text) else {
-        return None;
-    };
-    let Some(number) = lz_slot::read_number(word, low, high) else {
-        return None;
-    };
-    Some((number, rest))
-}
-
 // The keys that the words are, strictly ascending; none where they aren't.
 fn read_keys(alloc: Global, text: Option<&[u8]>) -> Result<Option<Vec<Key>>, AllocError>
     ensures { IfOk result (λ read. option_map (λ keys. keys.items) read ≡ keys_from 0 (words_behind text.entry)) }
@@ -323,8 +227,8 @@ fn read_keys(alloc: Global, text: Option<&[u8]>) -> Result<Option<Vec<Key>>, All
 fn key_from(word: &[u8], least: u64) -> Option<Key>
     ensures { result ≡ key_from least word.now }
 {
-    match key_of(word) {
-        Some(key) if key.rank() >= least => Some(key),
+    match read_key(word) {
+        Ok(key) if key.rank() >= least => Some(key),
         _ => None,
     }
 }

@@ -9,15 +9,15 @@ use Rattle.lz_judge.specs.MarkLines.{AreMarksOfRun, IsMarkOfRun}
 use Rattle.lz_judge.specs.Records.{IsLawful}
 use Rattle.lz_judge.specs.TextsRead as read
 use Rattle.lz_judge.specs.TextsRead.{Reads, calls_of}
-use Rattle.lz_judge.proofs.Texts.MarkLine.{mark_clear, marks_read_back}
+use Rattle.lz_judge.proofs.Texts.LineWord.{IsWritten}
+use Rattle.lz_judge.proofs.Texts.MarkLine.{mark_written, written_more}
 use Rattle.lz_rehearsal.specs.Tellings.{mark_line}
-use Rattle.lz_rehearsal.proofs.SilentLines.{IsSilent}
 
 -- the lines of the text say these marks, in their order
 pub data Says : List Mark → List ℕ → Type 0 where
   nothing : Says [] []
   mark : (marks : List Mark) (text : List ℕ) (m : Mark) → Says marks text → IsMarkOfRun m → Says (marks ++ m ∷ []) (text ++ mark_line m)
-  silence : (marks : List Mark) (text t : List ℕ) → Says marks text → IsSilent t → Says marks (text ++ (t ++ 10 ∷ []))
+  silence : (marks : List Mark) (text t : List ℕ) → Says marks text → IsWritten t Other → Says marks (text ++ (t ++ 10 ∷ []))
 
 -- one text after another
 pub says_join : (ms ns : List Mark) (t u : List ℕ) → Says ms t → Says ns u → Says (ms ++ ns) (t ++ u)
@@ -31,16 +31,13 @@ says_join ms _ t _ one (silence marks text line other silent) =
 pub says_one : (m : Mark) → IsMarkOfRun m → Says (m ∷ []) (mark_line m)
 says_one m of_run = mark [] [] m nothing of_run
 
-pub says_silence : (t : List ℕ) → IsSilent t → Says [] (t ++ 10 ∷ [])
+pub says_silence : (t : List ℕ) → IsWritten t Other → Says [] (t ++ 10 ∷ [])
 says_silence t silent = silence [] [] t nothing silent
 
 pub says_marks : (marks : List Mark) → AreMarksOfRun marks → Says marks (marks_text marks)
 says_marks [] are = nothing
 says_marks (m ∷ marks) (of_run, are) =
     subst (Says (m ∷ marks)) (append_assoc (mark_text m) (10 ∷ []) (marks_text marks)) (says_join (m ∷ []) marks (mark_line m) (marks_text marks) (says_one m of_run) (says_marks marks are))
-
-line_fits : (text t : List ℕ) → length (text ++ (t ++ 10 ∷ [])) ≤ most_bytes → length text + length t + 1 ≤ most_bytes
-line_fits text t fits = omega (arith, fits, length-append text (t ++ 10 ∷ []), length-append t (10 ∷ []))
 
 pub said_reads : (marks : List Mark) (text : List ℕ) → Says marks text → IsLawful (reverse marks) → calls_of (reverse marks) ≤ most_calls → length text ≤ most_bytes
     → (n : ℕ) × Reads n text (record { marks = reverse marks; points = [] })
@@ -49,13 +46,11 @@ said_reads _ _ (mark marks text m before of_run) lawful few fits =
     let newest : reverse (marks ++ m ∷ []) ≡ m ∷ reverse marks = reverse-append marks (m ∷ []) in
     let now : IsLawful (m ∷ reverse marks) = subst IsLawful newest lawful in
     let few_now : calls_of (m ∷ reverse marks) ≤ most_calls = subst (λ (M : List Mark). calls_of M ≤ most_calls) newest few in
-    let long = line_fits text (mark_text m) fits in
-    let inner = said_reads marks text before now.1 (omega arith) (omega arith) in (
+    let inner = said_reads marks text before now.1 (omega arith) (omega (arith, length-append text (mark_line m))) in (
       inner.0 + 1,
       subst (λ (M : List Mark). Reads (inner.0 + 1) (text ++ mark_line m) (record { marks = M; points = [] })) (sym newest)
-          (read.line inner.0 text (record { marks = reverse marks; points = [] }) (mark_text m) (Seen m) inner.1 (mark_clear m of_run) (marks_read_back m of_run, (now.0, few_now), long)),
+          (written_more inner.0 text (record { marks = reverse marks; points = [] }) (mark_text m) (Seen m) inner.1 (mark_written m of_run) (now.0, few_now) fits),
     )
 said_reads _ _ (silence marks text t before silent) lawful few fits =
-    let long = line_fits text t fits in
-    let inner = said_reads marks text before lawful few (omega arith) in
-    (inner.0 + 1, read.line inner.0 text (record { marks = reverse marks; points = [] }) t Other inner.1 silent.clear (silent.reads, tt, long))
+    let inner = said_reads marks text before lawful few (omega (arith, length-append text (t ++ 10 ∷ []))) in
+    (inner.0 + 1, written_more inner.0 text (record { marks = reverse marks; points = [] }) t Other inner.1 silent tt fits)

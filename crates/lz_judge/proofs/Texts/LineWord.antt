@@ -1,5 +1,5 @@
 -- Words and the end of a line.
-use Rattle.std.proofs.Common.{◌≡◌, ℕ, ◌+◌, ◌-◌, ◌≤◌, false, ◌==◌, List, [], ◌∷◌, ◌++◌, length, take, drop, All, Some, None, sym, refl, ap, ◌∙◌, arith}
+use Rattle.std.proofs.Common.{◌≡◌, ℕ, ◌+◌, ◌-◌, ◌≤◌, false, ◌==◌, List, [], ◌∷◌, ◌++◌, length, take, drop, All, Option, Some, None, sym, refl, ap, ◌∙◌, arith}
 use Rattle.std.proofs.lemmas.Bool.Decides.{nat_tests}
 use Rattle.std.proofs.lemmas.List.{take_rest}
 use Rattle.std.proofs.lemmas.List.Elements.{All-nil, All-cons}
@@ -60,14 +60,35 @@ joined_lacks [] are = refl
 joined_lacks (word ∷ []) (is, are) = is.feed
 joined_lacks (word ∷ next ∷ words) (is, are) = lacks_join 10 word (32 ∷ join_with_byte 32 (next ∷ words)) is.feed (joined_lacks (next ∷ words) are)
 
--- the line of these words
-pub record IsLineOf (text : List ℕ) (kind : List ℕ) (words : List (List ℕ)) : Type 0 where
+-- the text is the words of a line that says this
+pub record IsWritten (text : List ℕ) (l : Line) : Type 0 where
+  pub kind : List ℕ
+  pub words : List (List ℕ)
   pub joined : text ≡ join_with_byte 32 (kind ∷ words)
   pub are : AreWords (kind ∷ words)
+  pub reads : kind_read kind words ≡ Some l
 
-pub of_words : {text kind : List ℕ} {words : List (List ℕ)} → IsLineOf text kind words → line_read text ≡ kind_read kind words
-of_words {kind = kind} {words = words} is =
-    ap line_read is.joined ∙ ap (λ (ws : List (List ℕ)). with_word (λ (kind : List ℕ). Some kind) ws kind_read) (words_joined kind words is.are)
+pub written_reads : {text : List ℕ} {l : Line} → IsWritten text l → line_read text ≡ Some l
+written_reads w =
+    ap line_read w.joined ∙ ap (λ (ws : List (List ℕ)). with_word (λ (kind : List ℕ). Some kind) ws kind_read) (words_joined w.kind w.words w.are) ∙ w.reads
 
-pub is_clear : {text kind : List ℕ} {words : List (List ℕ)} → IsLineOf text kind words → IsClear text
-is_clear {text = text} {kind = kind} {words = words} is = none_of 10 text (rw (is.joined) (joined_lacks (kind ∷ words) is.are))
+pub written_clear : {text : List ℕ} {l : Line} → IsWritten text l → IsClear text
+written_clear {text = text} w = none_of 10 text (rw (w.joined) (joined_lacks (w.kind ∷ w.words) w.are))
+
+-- a word that is written is read as this
+pub record IsField {A : Type 0} (read : List ℕ → Option A) (word : List ℕ) (a : A) : Type 0 where
+  pub is : IsWord word
+  pub reads : read word ≡ Some a
+
+pub plain : (word : List ℕ) → Lacks 32 word → Lacks 10 word → IsWord word
+plain word space feed = record { space = space; feed = feed }
+
+-- a line of one field, and of two
+pub one_field : {A : Type 0} {read : List ℕ → Option A} {word : List ℕ} {a : A} (kind : List ℕ) (l : Line) → IsWord kind → IsField read word a
+    → kind_read kind (word ∷ []) ≡ Some l → IsWritten (kind ++ 32 ∷ word) l
+one_field {word = word} kind l is field reads = record { kind = kind; words = word ∷ []; joined = refl; are = (is, (field.is, tt)); reads = reads }
+
+pub two_fields : {A B : Type 0} {read : List ℕ → Option A} {other : List ℕ → Option B} {word next text : List ℕ} {a : A} {b : B} (kind : List ℕ) (l : Line) → IsWord kind
+    → IsField read word a → IsField other next b → text ≡ kind ++ 32 ∷ (word ++ 32 ∷ next) → kind_read kind (word ∷ next ∷ []) ≡ Some l → IsWritten text l
+two_fields {word = word} {next = next} kind l is first second joined reads =
+    record { kind = kind; words = word ∷ next ∷ []; joined = joined; are = (is, (first.is, (second.is, tt))); reads = reads }

@@ -1,5 +1,4 @@
 use Rattle.std.proofs.Common.{◌∙◌, ⊎_elim, refl, sym, ap, subst}
-use Rattle.lz_slot.specs.declared.slot.SlotRead.TheVariants as read
 use Rattle.lz_judge.specs.Surveys.{open_slot}
 use Rattle.lz_judge.proofs.Surveys.SlotFinding.{IsOpened, scanned_closed, scanned_more}
 use Rattle.lz_judge.proofs.scan.Scan.note.Goals as goal
