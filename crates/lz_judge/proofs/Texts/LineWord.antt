@@ -82,13 +82,3 @@ pub record IsField {A : Type 0} (read : List ℕ → Option A) (word : List ℕ)
 
 pub plain : (word : List ℕ) → Lacks 32 word → Lacks 10 word → IsWord word
 plain word space feed = record { space = space; feed = feed }
-
--- a line of one field, and of two
-pub one_field : {A : Type 0} {read : List ℕ → Option A} {word : List ℕ} {a : A} (kind : List ℕ) (l : Line) → IsWord kind → IsField read word a
-    → kind_read kind (word ∷ []) ≡ Some l → IsWritten (kind ++ 32 ∷ word) l
-one_field {word = word} kind l is field reads = record { kind = kind; words = word ∷ []; joined = refl; are = (is, (field.is, tt)); reads = reads }
-
-pub two_fields : {A B : Type 0} {read : List ℕ → Option A} {other : List ℕ → Option B} {word next text : List ℕ} {a : A} {b : B} (kind : List ℕ) (l : Line) → IsWord kind
-    → IsField read word a → IsField other next b → text ≡ kind ++ 32 ∷ (word ++ 32 ∷ next) → kind_read kind (word ∷ next ∷ []) ≡ Some l → IsWritten text l
-two_fields {word = word} {next = next} kind l is first second joined reads =
-    record { kind = kind; words = word ∷ next ∷ []; joined = joined; are = (is, (first.is, (second.is, tt))); reads = reads }

@@ -1,5 +1,5 @@
 -- What is written of a mark is read as the mark.
-use Rattle.std.proofs.Common.{◌≡◌, ℕ, suc, ◌+◌, ◌≤◌, Bool, List, [], ◌∷◌, ◌++◌, map, reverse, length, length-append, decimal, codes, true, false, Some, arith, refl, sym, ap, subst, ◌∙◌, append_assoc, option_map, option_and_then}
+use Rattle.std.proofs.Common.{◌≡◌, ℕ, suc, ◌+◌, ◌≤◌, Bool, List, [], ◌∷◌, ◌++◌, map, reverse, length, length-append, decimal, codes, true, false, Some, arith, refl, sym, ap, subst, ◌∙◌, append_assoc, option_map}
 use Rattle.std.specs.Cmp.Lexicographic.{same_text}
 use Rattle.std.specs.List.{join_with_byte}
 use Rattle.std.proofs.lemmas.Bool.{false_from_ne_true, false≢true}
@@ -28,7 +28,7 @@ use Rattle.lz_judge.specs.Records.{Record}
 use Rattle.lz_judge.specs.MarkLines.{AscendFrom, IsCallNumber, IsMarkOfRun, MarksReadBack, HistoriesReadBack}
 use Rattle.lz_judge.specs.Limits.{most_bytes, most_faults}
 use Rattle.lz_judge.specs.TextsRead.{MayCome, Reads, nothing, line, with_line}
-use Rattle.lz_judge.proofs.Texts.LineWord.{AreWords, IsField, IsWord, IsWritten, one_field, plain, two_fields, written_clear, written_reads}
+use Rattle.lz_judge.proofs.Texts.LineWord.{AreWords, IsField, IsWord, IsWritten, plain, written_clear, written_reads}
 
 pub number_field : (low high n : ℕ) → high ≤ largest_read → low ≤ n → n ≤ high → IsField (number_in low high) (decimal n) n
 number_field low high n big above below = record {
@@ -59,22 +59,18 @@ refusal_field Full = record { is = plain (codes "full") refl refl; reads = refl 
 refusal_field Worn = record { is = plain (codes "worn") refl refl; reads = refl }
 refusal_field OldFile = record { is = plain (codes "oldfile") refl refl; reads = refl }
 
-keys_are_words : (least : ℕ) (ks : List ℕ) → AscendFrom least ks → AreWords (map key_text ks)
-keys_are_words least [] ascend = tt
-keys_are_words least (k ∷ ks) (above, small, rest) = ((key_field k small).is, keys_are_words (k + 1) ks rest)
-
 keys_joined : (word : List ℕ) (ks : List ℕ) → word ++ keys_text ks ≡ join_with_byte 32 (word ∷ map key_text ks)
 keys_joined word [] = append-nil word
 keys_joined word (k ∷ ks) = ap (λ (t : List ℕ). word ++ 32 ∷ t) (keys_joined (key_text k) ks)
 
-from_is : (least k : ℕ) → least ≤ k → k ≤ largest_key → key_from least (key_text k) ≡ Some k
-from_is least k above small = let named = (key_field k small).reads in grind (arith, nat_tests, named)
-
-keys_are : (least : ℕ) (ks : List ℕ) → AscendFrom least ks → keys_from least (map key_text ks) ≡ Some ks
-keys_are least [] ascend = refl
-keys_are least (k ∷ ks) (above, small, rest) =
-    ap (option_and_then (λ (key : ℕ). option_map (λ (keys : List ℕ). key ∷ keys) (keys_from (key + 1) (map key_text ks)))) (from_is least k above small)
-    ∙ ap (option_map (λ (keys : List ℕ). k ∷ keys)) (keys_are (k + 1) ks rest)
+keys_fields : (least : ℕ) (ks : List ℕ) → AscendFrom least ks → AreWords (map key_text ks) × (keys_from least (map key_text ks) ≡ Some ks)
+keys_fields least [] ascend = (tt, refl)
+keys_fields least (k ∷ ks) (above, small, rest) =
+    let key = key_field k small in
+    let named = key.reads in
+    let (are, others) = keys_fields (k + 1) ks rest in
+    let from : key_from least (key_text k) ≡ Some k = grind (arith, nat_tests, named) in
+    ((key.is, are), rw (from, others) refl)
 
 -- a line of keys, whose kind reads them
 pub keys_written : (kind ks : List ℕ) (says : List ℕ → Line) → IsWord kind → AscendFrom 0 ks → kind_read kind (map key_text ks) ≡ option_map says (keys_from 0 (map key_text ks))
@@ -83,8 +79,8 @@ keys_written kind ks says is ascend reads = record {
   kind = kind;
   words = map key_text ks;
   joined = keys_joined kind ks;
-  are = (is, keys_are_words 0 ks ascend);
-  reads = reads ∙ ap (option_map says) (keys_are 0 ks ascend);
+  are = (is, (keys_fields 0 ks ascend).0);
+  reads = reads ∙ ap (option_map says) (keys_fields 0 ks ascend).1;
 }
 
 -- a key is no `fault`
@@ -114,13 +110,17 @@ mark_written (Call i a c) (number, one, low, small) =
 mark_written (Answer i answer) number =
     let call = call_field i number in
     let told = answer_field answer in
-    two_fields (codes "answer") (Seen (Answer i answer)) (plain (codes "answer") refl refl) call told (simp append_assoc) (rw (call.reads, told.reads) refl)
+    record { kind = codes "answer"; words = decimal i ∷ answer_word answer ∷ []; joined = simp append_assoc; are = (plain (codes "answer") refl refl, (call.is, (told.is, tt))); reads = rw (call.reads, told.reads) refl }
 mark_written (Refused i why) number =
     let call = call_field i number in
     let told = refusal_field why in
-    two_fields (codes "refused") (Seen (Refused i why)) (plain (codes "refused") refl refl) call told (simp append_assoc) (rw (call.reads, told.reads) refl)
-mark_written (Cut i Halted) number = let call = call_field i number in one_field (codes "halted") (Seen (Cut i Halted)) (plain (codes "halted") refl refl) call (rw (call.reads) refl)
-mark_written (Cut i Device) number = let call = call_field i number in one_field (codes "device") (Seen (Cut i Device)) (plain (codes "device") refl refl) call (rw (call.reads) refl)
+    record { kind = codes "refused"; words = decimal i ∷ refusal_word why ∷ []; joined = simp append_assoc; are = (plain (codes "refused") refl refl, (call.is, (told.is, tt))); reads = rw (call.reads, told.reads) refl }
+mark_written (Cut i Halted) number =
+    let call = call_field i number in
+    record { kind = codes "halted"; words = decimal i ∷ []; joined = refl; are = (plain (codes "halted") refl refl, (call.is, tt)); reads = rw (call.reads) refl }
+mark_written (Cut i Device) number =
+    let call = call_field i number in
+    record { kind = codes "device"; words = decimal i ∷ []; joined = refl; are = (plain (codes "device") refl refl, (call.is, tt)); reads = rw (call.reads) refl }
 mark_written Stop is = record { kind = codes "stop"; words = []; joined = refl; are = (plain (codes "stop") refl refl, tt); reads = refl }
 mark_written Crash is = record { kind = codes "crash"; words = []; joined = refl; are = (plain (codes "crash") refl refl, tt); reads = refl }
 mark_written (Opened keys) ascend = keys_written (codes "open") keys (λ (keys : List ℕ). Seen (Opened keys)) (plain (codes "open") refl refl) ascend (found_reads keys ascend)
