@@ -1,5 +1,5 @@
 -- One mark, or one point, more in a pass.
-use Rattle.std.proofs.Common.{◌≡◌, ◌≢◌, ◌⊎◌, inl, inr, ⊎_elim, ℕ, ◌+◌, ◌<◌, Bool, true, false, List, [], ◌∷◌, length, get_or, take, sym, refl, ◌∙◌, ap, subst, Option, Some, None, Result, Ok, Err, reverse, IfOk, IsSome, OnOk, is_some, not, BTreeMap, BTreeSet, nat_cmp}
+use Rattle.std.proofs.Common.{◌≡◌, ◌≢◌, ◌⊎◌, inl, inr, ⊎_elim, ℕ, ◌+◌, ◌<◌, Bool, true, false, List, [], ◌∷◌, length, get_or, take, sym, refl, ◌∙◌, ap, subst, Option, Some, None, Result, Ok, Err, reverse, IsSome, OnOk, is_some, BTreeMap, BTreeSet, nat_cmp}
 use Rattle.std.specs.BTreeMap as tree
 use Rattle.std.specs.BTreeSet as set
 use Rattle.std.proofs.lemmas.List.{reverse-append, take_more}
@@ -101,19 +101,7 @@ refused_unlisted M places least n why unlisted before = record {
       at;
 }
 
-pub not_new : (b is_new : Bool) → is_new ≡ not b → is_new ≡ false → b ≡ true
-not_new false is_new same is = absurd (let e : true ≡ false = sym same ∙ is in cc)
-not_new true is_new same is = refl
-
-pub fresh_if_new : (b is_new : Bool) → is_new ≡ not b → is_new ≡ true → b ≡ false
-fresh_if_new false is_new same is = refl
-fresh_if_new true is_new same is = absurd (let e : false ≡ true = sym same ∙ is in cc)
-
 -- what holds anyway holds where a call succeeded
 pub on_ok : {T E : Type 0} (r : Result T E) (P : Type 0) → P → OnOk r P
 on_ok (Ok x) P p = p
 on_ok (Err e) P p = tt
-
-pub if_ok : {T E : Type 0} (r : Result T E) {P Q : T → Type 0} → ((x : T) → P x → Q x) → IfOk r P → IfOk r Q
-if_ok (Ok x) more p = more x p
-if_ok (Err e) more p = tt

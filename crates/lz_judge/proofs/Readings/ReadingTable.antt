@@ -5,7 +5,7 @@ use Rattle.std.proofs.lemmas.Option.{same_Some}
 use Rattle.std.proofs.lemmas.Bool.Decides.{eqb_tells}
 use Rattle.lz_slot.specs.Sets.{Keys}
 use Rattle.lz_slot.specs.declared.history.Mark.{Mark}
-use Rattle.lz_slot.specs.declared.history.Mark.TheVariants.{Call, Answer, Refused, Cut, Stop, Crash, Opened, OpenFailed}
+use Rattle.lz_slot.specs.declared.history.Mark.TheVariants.{Call, Answer, Refused, Cut, Opened, OpenFailed}
 use Rattle.lz_slot.specs.Histories.{ChainTo, IsAnswered, Life, count_of}
 use Rattle.lz_judge.specs.declared.history.Point.{Point}
 use Rattle.lz_judge.specs.Limits.{largest_place}
@@ -30,8 +30,6 @@ made_is (_ ∷ M) i (d, (actor, has)) = made_is M i (⊎_elim (λ here. absurd (
 -- an answered call was made
 pub told_made : (M : List Mark) (i : ℕ) (b : Bool) → IsLawful M → IsAnswered M i b → IsMade M i
 told_made [] i b lawful has = absurd has
-told_made (Stop ∷ M) i b lawful has = made_more (Stop) M i (told_made M i b lawful.1 (⊎_elim (λ here. absurd (cc)) (λ there. there) has))
-told_made (Crash ∷ M) i b lawful has = made_more (Crash) M i (told_made M i b lawful.1 (⊎_elim (λ here. absurd (cc)) (λ there. there) has))
 told_made (Answer j d ∷ M) i b lawful has = ⊎_elim
     (λ here. let same : j ≡ i = cc in made_more (Answer j d) M i (subst (IsMade M) same (open_made M j lawful.0.0 lawful.0.1)))
     (λ there. made_more (Answer j d) M i (told_made M i b lawful.1 there))

@@ -1,8 +1,7 @@
 -- A survey without damage is one of a file that holds a set.
-use Rattle.std.proofs.Common.{◌≡◌, ◌↔◌, ℕ, ◌+◌, ◌*◌, ◌≤◌, List, [], ◌∷◌, length, take, refl, sym, ◌∙◌, ap, subst, arith, Ok, Err, true, All, IsTrue}
+use Rattle.std.proofs.Common.{◌≡◌, ◌↔◌, ℕ, ◌+◌, ◌*◌, ◌≤◌, List, ◌∷◌, length, take, sym, ◌∙◌, ap, subst, arith, Ok, Err, IsTrue}
 use Rattle.std.specs.List.{list_all}
-use Rattle.std.proofs.lemmas.List.Elements.{All-nil, All-cons, All-head, All-tail}
-use Rattle.std.proofs.lemmas.Bool.{and_parts, and_from}
+use Rattle.std.proofs.lemmas.List.Sums.{AllPass-from_list_all, list_all-from_AllPass}
 use Rattle.lz_slot.specs.Limits.{most_slots_of}
 use Rattle.lz_slot.specs.declared.header.HeaderFault.{HeaderFault}
 use Rattle.lz_slot.specs.Sets.{Keys}
@@ -32,22 +31,8 @@ sound_holds t N found bytes head findings = (holds, sound)
     range : (1 ≤ N) × (N ≤ most_slots_of (format_of t)) × (length t ≡ 16 + 16 * N)
     range = header_counts t (length t) N head
 
-    pass : IsTrue (list_all is_sound found) → All (λ f. IsTrue (is_sound f)) found
-    pass all = passes found all
-      where
-        passes : (xs : List Finding) → list_all is_sound xs ≡ true → All (λ f. IsTrue (is_sound f)) xs
-        passes [] all = All-nil (λ f. IsTrue (is_sound f))
-        passes (x ∷ xs) all = let both = and_parts (is_sound x) (list_all is_sound xs) all in All-cons (λ f. IsTrue (is_sound f)) x xs both.0 (passes xs both.1)
-
-    every : All (λ f. IsTrue (is_sound f)) found → list_all is_sound found ≡ true
-    every = all_of found
-      where
-        all_of : (xs : List Finding) → All (λ f. IsTrue (is_sound f)) xs → list_all is_sound xs ≡ true
-        all_of [] each = refl
-        all_of (x ∷ xs) each = and_from (is_sound x) (list_all is_sound xs) (All-head (λ f. IsTrue (is_sound f)) x xs each) (all_of xs (All-tail (λ f. IsTrue (is_sound f)) x xs each))
-
     holds : IsTrue (list_all is_sound found) → (n : ℕ) × (S : Keys) × Holds t n S
-    holds all = let sound = pass all in (
+    holds all = let sound = AllPass-from_list_all is_sound found all in (
       N,
       found_keys found,
       record {
@@ -64,4 +49,4 @@ sound_holds t N found bytes head findings = (holds, sound)
     sound (n, S, held) =
         let same : n ≡ N = omega (arith, held.size, range.2) in
         let held' = subst (λ (m : ℕ). Holds t m S) same held in
-        every (sound_where (slot_at t) N found findings held'.no_bad_key held'.no_key_twice)
+        list_all-from_AllPass is_sound found (sound_where (slot_at t) N found findings held'.no_bad_key held'.no_key_twice)

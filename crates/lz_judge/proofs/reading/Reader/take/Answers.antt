@@ -1,5 +1,6 @@
 use Rattle.std.proofs.Common.{◌≡◌, ◌≤◌, [], ◌∷◌, None, Option, Some, sym, refl, ap, subst, ◌∙◌, IfSome, reverse}
 use Rattle.std.proofs.lemmas.List.{reverse-append}
+use Rattle.std.proofs.lemmas.Result.{IfOk-weaker}
 use Rattle.lz_judge.specs.Limits.{largest_place}
 use Rattle.lz_judge.specs.Lines.{IsLow}
 use Rattle.lz_judge.specs.LinesRead.{line_read}
@@ -8,18 +9,17 @@ use Rattle.lz_judge.specs.Records.{ArePlaces}
 use Rattle.lz_judge.specs.TextsRead.{MayCome}
 use Rattle.lz_judge.specs.declared.line.Line.{Line}
 use Rattle.lz_judge.specs.declared.line.Line.TheVariants.{Seen, Placed, Other}
-use Rattle.lz_judge.proofs.Readings.NextMark.{if_ok}
 use Rattle.lz_judge.proofs.reading.Reader.take.Goals as goal
 
 pub returns-in-Some-Seen-clause-reads : goal.returns-in-Some-Seen-clause-reads
 returns-in-Some-Seen-clause-reads c =
     let says = sym c.in_ok-mark.ensures.says ∙ c.in-Some-Seen.is ∙ ap (λ (l : Line). Some l) c.in-Some-Seen.field-0-is in
-    if_ok c.see.result (λ may told yes. let (is_reader, comes, same) = told yes in (is_reader, (Seen c.in-Some-Seen.mark, says, comes, same))) c.see.ensures.reads
+    IfOk-weaker c.see.result _ _ (λ may told yes. let (is_reader, comes, same) = told yes in (is_reader, (Seen c.in-Some-Seen.mark, says, comes, same))) c.see.ensures.reads
 
 pub returns-in-Some-Seen-clause-refuses : goal.returns-in-Some-Seen-clause-refuses
 returns-in-Some-Seen-clause-refuses c =
     let says : line_read c.args.line.now ≡ Some (Seen c.in-Some-Seen.mark) = sym c.in_ok-mark.ensures.says ∙ c.in-Some-Seen.is ∙ ap (λ (l : Line). Some l) c.in-Some-Seen.field-0-is in
-    if_ok c.see.result
+    IfOk-weaker c.see.result _ _
     (λ may never no l at comes.
     let same : l ≡ Seen c.in-Some-Seen.mark = cc (at, says) in
     never no (subst (λ (l : Line). MayCome l (seen_by c.args.self.now)) same comes))
