@@ -123,29 +123,24 @@ module _ (says : ℕ → SlotRead) (n : ℕ) (found : List Finding) (findings : 
 
   -- a key that a slot holds is told by a finding
   pub key_told : (i k : ℕ) → i < n → says i ≡ read.Member k → (first : ℕ) × Contains found (Key first k)
-  key_told i k lt is = let (finding, at, here) = finding_of i lt (some i k is) in told finding at (All-contains (IsFinding says) found finding findings.each at) here
+  key_told i k lt is =
+      let (finding, at, here) = finding_of i lt (some i k is) in
+      told i is (λ first less one.
+      let (finding, there, place) = finding_of first (omega (arith, less, lt)) (some first k one.holds) in
+      told first one.holds (λ lower less lowest. absurd (one.lowest lower less lowest.holds)) finding there (All-contains (IsFinding says) found finding findings.each there) place)
+      finding at (All-contains (IsFinding says) found finding findings.each at) here
     where
       some : (i k : ℕ) → says i ≡ read.Member k → IsOpened (says i)
       some i k is = subst IsOpened (sym is) tt
 
-      -- the first slot of a key that stands again
-      told_first : (first : ℕ) → IsFirst says first k → (finding : Finding) → Contains found finding → IsFinding says finding → slot_of finding ≡ first → (first : ℕ) × Contains found (Key first k)
-      told_first first one (Key j q) at here same =
-          let key : q ≡ k = same_member q k (sym here.holds ∙ ap says same ∙ one.holds) in (j, subst (λ (p : ℕ). Contains found (Key j p)) key at)
-      told_first first one (BadKey j) at here same = absurd (let e : read.BadKey ≡ read.Member k = sym here ∙ ap says same ∙ one.holds in cc)
-      told_first first one (Twice j lower) at here same =
-          let (less, (q, holds, below)) = here in
-          let key : q ≡ k = same_member q k (sym holds ∙ ap says same ∙ one.holds) in
-          absurd (one.lowest lower (omega (arith, less, same)) (below.holds ∙ ap (λ (p : ℕ). read.Member p) key))
-
-      told : (finding : Finding) → Contains found finding → IsFinding says finding → slot_of finding ≡ i → (first : ℕ) × Contains found (Key first k)
-      told (Key j q) at here same = let key : q ≡ k = same_member q k (sym here.holds ∙ ap says same ∙ is) in (j, subst (λ (p : ℕ). Contains found (Key j p)) key at)
-      told (BadKey j) at here same = absurd (let e : read.BadKey ≡ read.Member k = sym here ∙ ap says same ∙ is in cc)
-      told (Twice j first) at here same =
-          let (less, (q, holds, one)) = here in
+      -- the finding of a slot with the key tells it, or that a slot below holds it first
+      told : (i : ℕ) → says i ≡ read.Member k → ((first : ℕ) → first < i → IsFirst says first k → (first : ℕ) × Contains found (Key first k)) → (finding : Finding) → Contains found finding → IsFinding says finding
+          → slot_of finding ≡ i → (first : ℕ) × Contains found (Key first k)
+      told i is below (Key j q) at here same = let key : q ≡ k = same_member q k (sym here.holds ∙ ap says same ∙ is) in (j, subst (λ (p : ℕ). Contains found (Key j p)) key at)
+      told i is below (BadKey j) at here same = absurd (let e : read.BadKey ≡ read.Member k = sym here ∙ ap says same ∙ is in cc)
+      told i is below (Twice j first) at (less, (q, holds, one)) same =
           let key : q ≡ k = same_member q k (sym holds ∙ ap says same ∙ is) in
-          let (finding, there, place) = finding_of first (omega (arith, less, same, lt)) (some first q one.holds) in
-          told_first first (subst (λ (p : ℕ). IsFirst says first p) key one) finding there (All-contains (IsFinding says) found finding findings.each there) place
+          below first (omega (arith, less, same)) (subst (λ (p : ℕ). IsFirst says first p) key one)
 
   -- the finding of the table that has this key
   pub found_again : (k i : ℕ) (finding : Finding) → says n ≡ read.Member k → i < length found → finding ≡ get_or found i finding → get_or (map finding_key found) i None ≡ Some k → IsFinding says (Twice n (slot_of finding))
