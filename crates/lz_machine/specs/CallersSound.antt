@@ -105,6 +105,11 @@ pub record IsSettledChange (k : ℕ) (P : Trace) (changed : Option ℕ) : Type 0
   pub within : at < length P
   pub settled : SettledYes (upto (suc at) P) P k ⊎ SettledNo (upto (suc at) P) P k
 
+-- only an adder asks for a slot, writes a key, and walks with a slot
+abbrev pub IsAdder : Command → Type 0
+IsAdder (Add k) = Unit {0}
+IsAdder _ = ⊥
+
 abbrev pub MayAnswer : Command → Reply → Trace → Trace → Option ℕ → Type 0
 MayAnswer (Has k) Yes P0 P changed = (changed ≡ None) × RestsYes k P0 P
 MayAnswer (Has k) No P0 P changed = (changed ≡ None) × RestsNo k P0 P
@@ -112,7 +117,7 @@ MayAnswer (Add k) Yes P0 P changed = IsSettledChange k P changed
 MayAnswer (Add k) No P0 P changed = (changed ≡ None) × RestsYes k P0 P
 MayAnswer (Remove k) Yes P0 P changed = IsSettledChange k P changed
 MayAnswer (Remove k) No P0 P changed = (changed ≡ None) × RestsNo k P0 P
-MayAnswer c (Full counts) P0 P changed = (changed ≡ None) × WasAbsent (key_of c) P0 P
+MayAnswer c (Full counts) P0 P changed = (changed ≡ None) × WasAbsent (key_of c) P0 P × IsAdder c
 MayAnswer c SaysWorn P0 P changed = changed ≡ None
 MayAnswer c SaysOldFile P0 P changed = changed ≡ None
 MayAnswer c _ P0 P changed = halt_word P ≡ 1
@@ -160,11 +165,6 @@ IsEmptyHanded actor P = ((actor.hold ≡ Nothing) × (actor.slot ≡ None)) ⊎ 
 
 abbrev pub IsKeyed : Stage → Type 0
 IsKeyed stage = (stage ≡ KeyLoose) ⊎ (stage ≡ Keyed)
-
--- only an adder writes a key, and walks with a slot
-abbrev pub IsAdder : Command → Type 0
-IsAdder (Add k) = Unit {0}
-IsAdder _ = ⊥
 
 abbrev pub MayAim : Command → Option ℕ → Type 0
 MayAim c None = Unit {0}

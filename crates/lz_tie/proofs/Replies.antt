@@ -1,5 +1,4 @@
 pub mod CallSteps
-pub mod FullReply
 pub mod OwnChange
 pub mod LastTurn
 pub mod ReplyRows

@@ -203,7 +203,7 @@ module _ (n calls : ℕ) (y : Yard) (callers : List (Option Caller)) (disk : Med
   me = own n calls y callers disk M P notes a i c (Reserving again) is sound
 
   full_relies : (d : Command) → IsAdder d → notes.changed a ≡ None → WasAbsent (key_of d) (notes.begun a) P → MayAnswer d (Full (counts uses)) (notes.begun a) P (notes.changed a)
-  full_relies (Add k) adder none absent = (none, absent)
+  full_relies (Add k) adder none absent = (none, absent, adder)
   full_relies _ adder none absent = absurd adder
 
   -- no slot is free

@@ -18,7 +18,7 @@ use Rattle.lz_machine.specs.declared.event.Reply.TheVariants.{Yes, No, Full, Wor
 use Rattle.lz_machine.specs.declared.caller.Progress.TheVariants.{Answering}
 use Rattle.lz_machine.specs.Yards.{Shape, IsInside}
 use Rattle.lz_machine.specs.Table.{is_old, last_pin}
-use Rattle.lz_machine.specs.CallersSound.{View, Relies, IsAdder, is_before_pin, side_of}
+use Rattle.lz_machine.specs.CallersSound.{View, Relies, is_before_pin, side_of}
 use Rattle.lz_machine.specs.CallsStand.{own_change}
 use Rattle.lz_board.specs.declared.view.What.TheVariants.{Played}
 use Rattle.lz_board.specs.declared.view.Sizes.{Sizes}
@@ -34,7 +34,6 @@ use Rattle.lz_tie.specs.Answers.{Promises, WasFull, IsOneCall, Answers}
 use Rattle.lz_tie.specs.Holds.{HoldNotes, Turned, IsIdle}
 use Rattle.lz_tie.specs.UnderWay.{UnderWay, OwnAt, FoundFull}
 use Rattle.lz_tie.proofs.Replies.CallSteps.{call_steps, one_call, steps_since, same_reserve}
-use Rattle.lz_tie.proofs.Replies.FullReply.{full_adds}
 use Rattle.lz_tie.proofs.Replies.LastTurn.{answer_done, answer_silent, answer_pin, stays_outside, goes_outside, worn_pin, their_view, answer_relies}
 use Rattle.lz_tie.proofs.Replies.ReplyRows.{yes_since, no_since, added, removed}
 
@@ -65,25 +64,25 @@ module _ (slots buckets passes p : ℕ) (v : View) (format : Format) (pin : ℕ)
 
   rows : (c : Command) (reply : Reply) (changes : Trace) → (is_before_pin (Answering reply) ≡ false → Stands v p c reply P P0 Q)
       → Changes p P Q changes → OwnAt p c (Answering reply) changes → (reply ≡ Worn → pin ≡ last_pin) → (reply ≡ OldFile → is_old format c ≡ true)
-      → ((counts : Counts) → reply ≡ Full counts → IsAdder c × FoundFull slots passes counts new Q)
+      → ((counts : Counts) → reply ≡ Full counts → FoundFull slots passes counts new Q)
       → Promises shape p format c reply pin new P Q
   rows (Has k) Yes changes stands made is worn old full = let s = stands refl in (yes_since k P P0 Q s.from s.relies.0.1, subst (Changes p P Q) is made)
   rows (Has k) No changes stands made is worn old full = let s = stands refl in (no_since k P P0 Q s.from s.relies.0.1, subst (Changes p P Q) is made)
-  rows (Has k) (Full counts) changes stands made is worn old full = absurd (full counts refl).0
+  rows (Has k) (Full counts) changes stands made is worn old full = absurd (stands refl).relies.0.2
   rows (Has k) Worn changes stands made is worn old full = (worn refl, subst (Changes p P Q) is made)
   rows (Has k) OldFile changes stands made is worn old full = (old refl, subst (Changes p P Q) is made)
   rows (Has k) Halted changes stands made is worn old full = record { halted = (stands refl).relies.0; own = changes; changes = made; may = is }
   rows (Has k) Device changes stands made is worn old full = record { halted = (stands refl).relies.0; own = changes; changes = made; may = is }
   rows (Add k) Yes changes stands made is worn old full = let s = stands refl in added k p P P0 Q changes made is s.from s.to s.relies.0
   rows (Add k) No changes stands made is worn old full = let s = stands refl in (yes_since k P P0 Q s.from s.relies.0.1, subst (Changes p P Q) is made)
-  rows (Add k) (Full counts) changes stands made is worn old full = full_row k counts (stands refl) (subst (Changes p P Q) is made) (full counts refl).1
+  rows (Add k) (Full counts) changes stands made is worn old full = full_row k counts (stands refl) (subst (Changes p P Q) is made) (full counts refl)
   rows (Add k) Worn changes stands made is worn old full = (worn refl, subst (Changes p P Q) is made)
   rows (Add k) OldFile changes stands made is worn old full = (old refl, subst (Changes p P Q) is made)
   rows (Add k) Halted changes stands made is worn old full = record { halted = (stands refl).relies.0; own = changes; changes = made; may = is }
   rows (Add k) Device changes stands made is worn old full = record { halted = (stands refl).relies.0; own = changes; changes = made; may = is }
   rows (Remove k) Yes changes stands made is worn old full = let s = stands refl in removed k p buckets slots P P0 Q changes law made is s.from s.to s.relies.0
   rows (Remove k) No changes stands made is worn old full = let s = stands refl in (no_since k P P0 Q s.from s.relies.0.1, subst (Changes p P Q) is made)
-  rows (Remove k) (Full counts) changes stands made is worn old full = absurd (full counts refl).0
+  rows (Remove k) (Full counts) changes stands made is worn old full = absurd (stands refl).relies.0.2
   rows (Remove k) Worn changes stands made is worn old full = (worn refl, subst (Changes p P Q) is made)
   rows (Remove k) OldFile changes stands made is worn old full = (old refl, subst (Changes p P Q) is made)
   rows (Remove k) Halted changes stands made is worn old full = record { halted = (stands refl).relies.0; own = changes; changes = made; may = is }
@@ -146,17 +145,15 @@ module _ (b : BoardId) (c : Command) (format : Format) (before : Part) (reply : 
         relies = answer_relies b.opened was h c reply o x turned in_side;
       }
 
-  found : (b.sizes.passes ≡ 1 → now ≡ h.known) → (counts : Counts) → reply ≡ Full counts → IsAdder c × FoundFull b.sizes.slots b.sizes.passes counts new now
+  found : (b.sizes.passes ≡ 1 → now ≡ h.known) → (counts : Counts) → reply ≡ Full counts → FoundFull b.sizes.slots b.sizes.passes counts new now
   found alone counts full =
-      let f = under.full counts (ap Answering full) in (
-        full_adds (shape_of_sizes b.sizes) h.number format c counts is_call.within is_call.only (is_call.answers ∙ ap (λ r. Some (c, Answering r)) full),
-        record {
-          reserve = same_reserve h.number format c holds.moment h.loads under.within ∙ f.reserve;
-          free = f.free;
-          sum = f.sum;
-          alone = λ one. subst (λ R. HasMembers (λ j. member j R) b.sizes.slots) (sym (alone one)) (f.alone one);
-        },
-      )
+      let f = under.full counts (ap Answering full) in
+      record {
+        reserve = same_reserve h.number format c holds.moment h.loads under.within ∙ f.reserve;
+        free = f.free;
+        sum = f.sum;
+        alone = λ one. subst (λ R. HasMembers (λ j. member j R) b.sizes.slots) (sym (alone one)) (f.alone one);
+      }
 
   kept : (b.sizes.passes ≡ 1 → now ≡ h.known) → Promises (shape_of_sizes b.sizes) h.number format c reply after.pin new before.known now
   kept alone =
