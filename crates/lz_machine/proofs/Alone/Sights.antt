@@ -38,14 +38,14 @@ left_set uses r b u no_limbo left s seen is = ⊎_elim
 collect_limbo : (u : Use) (seen : List Sight) → collect_at u ≡ Limbo seen → (u ≡ Limbo seen) × (list_all has_left seen ≡ false)
 collect_limbo u seen is = grind arith
 
-pub collected_limbo : (uses : List Use) (s : ℕ) (seen : List Sight) → use_of (collect uses) s ≡ Limbo seen → (use_of uses s ≡ Limbo seen) × (list_all has_left seen ≡ false)
+collected_limbo : (uses : List Use) (s : ℕ) (seen : List Sight) → use_of (collect uses) s ≡ Limbo seen → (use_of uses s ≡ Limbo seen) × (list_all has_left seen ≡ false)
 collected_limbo uses s seen is = collect_limbo (use_of uses s) seen (sym (use_map collect_at uses s refl) ∙ is)
 
 pub left_collect : (uses : List Use) (b : ℕ) → HasLeft uses b → HasLeft (collect uses) b
 left_collect uses b left s seen is = left s seen (collected_limbo uses s seen is).0
 
 -- one sight of a list
-pub sight_cases : (seen : List Sight) (p b : ℕ) (x : Sight) → ((b ≡ p) × (of_pass (set_of_pass seen p x) b Left ≡ x)) ⊎ (of_pass (set_of_pass seen p x) b Left ≡ of_pass seen b Left)
+sight_cases : (seen : List Sight) (p b : ℕ) (x : Sight) → ((b ≡ p) × (of_pass (set_of_pass seen p x) b Left ≡ x)) ⊎ (of_pass (set_of_pass seen p x) b Left ≡ of_pass seen b Left)
 sight_cases seen zero b x = inr refl
 sight_cases seen (suc i) zero x = inr refl
 sight_cases seen (suc i) (suc j) x = elim (cases_eq j i) [
@@ -69,7 +69,7 @@ seen_limbo p v (Limbo x) seen is = (x, refl, sym (limbo_same is))
 seen_limbo p v _ seen is = absurd cc
 
 -- a slot in limbo was so before a pin was seen
-pub saw : (uses : List Use) (p v s : ℕ) (seen : List Sight) → use_of (see_pin p v uses) s ≡ Limbo seen → (old : List Sight) × (use_of uses s ≡ Limbo old) × (seen ≡ set_of_pass old p (sight_after v (of_pass old p Left)))
+saw : (uses : List Use) (p v s : ℕ) (seen : List Sight) → use_of (see_pin p v uses) s ≡ Limbo seen → (old : List Sight) × (use_of uses s ≡ Limbo old) × (seen ≡ set_of_pass old p (sight_after v (of_pass old p Left)))
 saw uses p v s seen is = seen_limbo p v (use_of uses s) seen (sym (use_map (see_pin_at p v) uses s refl) ∙ is)
 
 -- a pass that has left stays so

@@ -1,302 +1,146 @@
--- What was seen of passes since a slot was unlinked: one that becomes free was left by each.
-use Rattle.std.proofs.Common.{◌≡◌, ◌≢◌, ◌⊎◌, inl, inr, ⊎_elim, ℕ, zero, suc, ◌+◌, ◌<◌, ◌≤◌, ◌%◌, Bool, true, false, List, [], ◌∷◌, ◌++◌, replicate, Option, Some, None, refl, sym, ap, ◌∙◌, subst, arith}
-use Rattle.std.specs.Prelude.{◌&&◌, if◌then◌else◌, is_some, unwrap_or, slice_set}
-use Rattle.std.proofs.lemmas.Bool.{cases_eq, and_parts}
-use Rattle.std.proofs.lemmas.Bool.Decides.{nat_tests}
-use Rattle.std.proofs.lemmas.List.{get_or-replicate}
-use Rattle.lz_slot.specs.Counted.{of_pass, set_of_pass}
-use Rattle.lz_slot.specs.Histories.{History, Life, lives}
-use Rattle.lz_slot.proofs.Counted.{of_pass_same, of_pass_other}
-use Rattle.lz_disk.specs.Images.{Medium, at_rest}
-use Rattle.lz_vault.specs.declared.vault.Stage.{Stage}
-use Rattle.lz_vault.specs.declared.vault.Stage.TheVariants.{Open}
+-- A slot that becomes free was left by each pass: since it was unlinked, each was outside in some state.
+use Rattle.std.proofs.Common.{◌≡◌, ◌⊎◌, ⊎_elim, inl, inr, ℕ, if◌then◌else◌, true, false, List, [], ◌∷◌, ◌++◌, Option, Some, None, refl, sym, ap, ◌∙◌, subst, arith, suc}
+use Rattle.std.proofs.lemmas.Bool.{cases_Bool}
+use Rattle.std.proofs.lemmas.Bool.Decides.{eqb_tells, nat_tests}
+use Rattle.lz_disk.specs.Images.{Medium}
 use Rattle.lz_allot.specs.declared.sight.Sight.{Sight}
-use Rattle.lz_allot.specs.declared.sight.Sight.TheVariants.{Unseen, Inside, Left}
-use Rattle.lz_allot.specs.Uses.{Use, Free, Taken, Limbo, Moment, Pins, use_of, collect, collect_at, lowest_free, sight_after, see_pin, was_outside}
-use Rattle.lz_list.specs.declared.word.Word.TheVariants.{Pin as pin_at}
-use Rattle.lz_list.specs.Words.{Words, get}
-use Rattle.lz_list.specs.Traces.{Trace, bucket_of, key_word}
-use Rattle.lz_machine.specs.declared.actor.Actor.{Actor}
-use Rattle.lz_machine.specs.declared.actor.Hold.{Hold}
-use Rattle.lz_machine.specs.declared.actor.Hold.TheVariants.{Marked}
-use Rattle.lz_machine.specs.declared.course.Course.{Course}
-use Rattle.lz_machine.specs.declared.course.Course.TheVariants.{Plays}
-use Rattle.lz_machine.specs.declared.event.Event.{Event}
-use Rattle.lz_machine.specs.declared.event.Event.TheVariants.{Pin, Reserve, Link, Settle, Unlink, Retire, SeePin, Answer}
-use Rattle.lz_machine.specs.Yards.{Shape, Yard, actor_at, cell_at, slots_read, pin_in}
-use Rattle.lz_machine.specs.Table.{course, line, line_on, line_publishes, published_on, publishes, settling, words_after, uses_after, node_of, has_marked, is_unused, given_back, reserved, needs, stays_out, pin_answered}
-use Rattle.lz_machine.specs.Calls.{event_at, loaded}
-use Rattle.lz_machine.specs.Runs.{Start, IsStart, Caller, Service, State, Up, Down, Transition, Turn, Fails, Looks, Stops, Crashes, CrashesIn, Opens, OpenFails, MayStep, IsRun, run, first_point, caller_at, next_event, start_keys, state_after, after_turn, after_fault, looked, pins_of, unlinkings, moments_of_step, moments, turn_publishes, opened_service}
+use Rattle.lz_allot.specs.Uses.{Moment, use_of, collect_at, is_outside, was_outside}
+use Rattle.lz_list.specs.declared.publishing.Publishing.TheVariants.{Unlinked as unlinked}
+use Rattle.lz_list.specs.Pinned.{Stood}
+use Rattle.lz_list.specs.Traces.{Trace, Begins, Lawful, bucket_of, on, chain}
+use Rattle.lz_list.proofs.Traces.Absence.{begins_itself}
+use Rattle.lz_list.proofs.Traces.Hindsight.{once_from}
+use Rattle.lz_machine.specs.Yards.{IsInside, pin_in, first_trace}
+use Rattle.lz_machine.specs.CallsStand.{is_out, trace_outside}
+use Rattle.lz_machine.specs.Runs.{Start, Caller, Service, State, Up, Down, Transition, Calls, Turn, Fails, Looks, Trips, Opens, OpenFails, Point, MayStep, IsRun, run, first_point, caller_at, state_after, trace_after, after_turn, after_fault, turn_publishes, opened_service, pins_of, unlinkings, moments_of_step, moments, played, next_event, invoked, looked}
 use Rattle.lz_machine.specs.FreedSlots.{FreedIsAllFree}
-use Rattle.lz_machine.specs.Notes.{Notes}
-use Rattle.lz_machine.specs.LocksSound.{HasClosed, RestsOn}
-use Rattle.lz_machine.specs.Sound.{Sound, PointSound}
-use Rattle.lz_machine.proofs.Steps.Trip.{point}
-use Rattle.lz_machine.proofs.Frames.OtherCallers.{held_node}
-use Rattle.lz_machine.proofs.Steps.Turn.{settled_pins}
-use Rattle.lz_machine.proofs.Steps.Unlink.{redirect_pins}
-use Rattle.lz_machine.proofs.Steps.Pin.{pinned}
-use Rattle.lz_machine.proofs.Frames.Outside.{answered_pin}
-use Rattle.lz_machine.proofs.Frames.OneActor.{caller_range}
-use Rattle.lz_machine.proofs.Frames.Ranges.{on_range}
-use Rattle.lz_machine.proofs.Frames.Uses.{collected_free, free_limbo, left_of, limbo_same, use_map}
-use Rattle.lz_machine.proofs.Alone.Sights.{set_cases, sight_cases, saw, collected_limbo}
-use Rattle.lz_machine.proofs.Open.FoundSlots.{no_limbo_read}
-use Rattle.lz_machine.proofs.Crash.ImageSlots.{node_stands}
-use Rattle.lz_machine.proofs.Runs.Shape.{line_keeps_shape}
-use Rattle.lz_machine.proofs.Theorem.Needs.{is_marking}
-use Rattle.lz_machine.proofs.Runs.Course.{plays_needs}
-use Rattle.lz_machine.proofs.Theorem.Reached.{reached_sound}
+use Rattle.lz_machine.specs.Limbo.{IsAway, IsRightSight}
+use Rattle.lz_machine.proofs.Frames.Uses.{collected_free, free_limbo, left_of, use_map}
+use Rattle.lz_machine.proofs.Open.FoundSlots.{pass_of}
+use Rattle.lz_machine.proofs.Theorem.TraceOutside.{IsTied, tied}
+use Rattle.lz_machine.specs.Table.{line, line_failed}
 
--- What a sight of pass q says of slot s, where the pass's pin word is v.
-abbrev IsPast : ℕ → ℕ → ℕ → List Moment → Sight → Type 0
-IsPast v s q ms Unseen = Unit {0}
-IsPast v s q ms (Inside u) = (u % 2 ≡ 1) × (u ≤ v) × (u < v → was_outside s q ms ≡ true)
-IsPast v s q ms Left = was_outside s q ms ≡ true
+-- a slot was unlinked since the trace P0
+abbrev IsUnlinkedSince : ℕ → Trace → Trace → Type 0
+IsUnlinkedSince s P0 [] = ⊥
+IsUnlinkedSince s P0 (unlinked k t p ∷ P) = ((t ≡ s) × Begins P0 P) ⊎ IsUnlinkedSince s P0 P
+IsUnlinkedSince s P0 (_ ∷ P) = IsUnlinkedSince s P0 P
 
--- it stays so while the pin word goes up by one at most
-past_on : (v w s q : ℕ) (pins : List ℕ) (ms : List Moment) (x : Sight) → pin_in pins q ≡ w → (w ≡ v) ⊎ (w ≡ suc v) → IsPast v s q ms x → IsPast w s q (Pins pins ∷ ms) x
-past_on v w s q pins ms x at goes h = grind arith
+-- so it stood on a chain since then
+stood_since : (buckets slots s : ℕ) (P0 P : Trace) → Lawful buckets slots P → IsUnlinkedSince s P0 P → (b : ℕ) × Stood buckets b P0 P (suc s)
+stood_since buckets slots s P0 (unlinked k t p ∷ P) law (inl (same, begins)) =
+    let b = bucket_of buckets k in
+    (b, inr (once_from P0 P P (λ R. on 0 (chain buckets b R) (suc s) ≡ true) begins (begins_itself P) (subst (λ (q : ℕ). on 0 (chain buckets b P) (suc q) ≡ true) same law.0.stands)))
+stood_since buckets slots s P0 (unlinked k t p ∷ P) law (inr before) = let there = stood_since buckets slots s P0 P law.1 before in (there.0, inr there.1)
+stood_since buckets slots s P0 (e ∷ P) law since = let there = stood_since buckets slots s P0 P law.1 since in (there.0, inr there.1)
+stood_since buckets slots s P0 [] law since = absurd since
 
--- and after the pin word was looked at
-past_seen : (v s q : ℕ) (pins : List ℕ) (ms : List Moment) (x : Sight) → pin_in pins q ≡ v → IsPast v s q (Pins pins ∷ ms) x → IsPast v s q (Pins pins ∷ ms) (sight_after v x)
-past_seen v s q pins ms x at h = grind arith
+module _ (s q : ℕ) where
+  -- the pass was outside since the slot was unlinked, or the slot was unlinked since the trace P0
+  abbrev IsPast : List Moment → Trace → Trace → Type 0
+  IsPast ms P0 P = Begins P0 P × ((was_outside s q ms ≡ true) ⊎ IsUnlinkedSince s P0 P)
 
--- it is said of moments by what they show of the slot
-past_same : (v s q : ℕ) (ms new : List Moment) (x : Sight) → was_outside s q new ≡ was_outside s q ms → IsPast v s q ms x → IsPast v s q new x
-past_same v s q ms new Unseen same h = tt
-past_same v s q ms new (Inside u) same h = (h.0, h.1, λ lt. same ∙ h.2 lt)
-past_same v s q ms new Left same h = same ∙ h
-
--- of each pass and slot in limbo
-abbrev AreSeen : ℕ → List ℕ → List Use → List Moment → Type 0
-AreSeen passes pins uses ms = (s q : ℕ) (seen : List Sight) → 1 ≤ q → q ≤ passes → use_of uses s ≡ Limbo seen → IsPast (pin_in pins q) s q ms (of_pass seen q Left)
-
-abbrev SeenAt : State → List Moment → Type 0
-SeenAt (Up service disk) ms = AreSeen service.yard.shape.passes service.yard.words.pins service.yard.uses ms
-SeenAt (Down shape disk) ms = Unit {0}
-
-same_seen : (passes : ℕ) (pins : List ℕ) (uses : List Use) (ms : List Moment) → AreSeen passes pins uses ms → AreSeen passes pins uses (Pins pins ∷ ms)
-same_seen passes pins uses ms h s q seen low high is = past_on (pin_in pins q) (pin_in pins q) s q pins ms (of_pass seen q Left) refl (inl refl) (h s q seen low high is)
-
--- the value of a pin word that is looked at
-loaded_value : (w : Words) (e : Event) (p v : ℕ) → loaded w e ≡ SeePin p v → v ≡ get w (pin_at p)
-loaded_value w e p v is = grind arith
-
--- an event that is played
-module _ (n calls : ℕ) (y : Yard) (callers : List (Option Caller)) (disk : Medium) (M : History) (P : Trace) (notes : Notes) (sound : Sound n calls y callers disk M P notes)
-    (a : ℕ) (low : 1 ≤ a) (high : a ≤ y.shape.passes) where
-  abbrev actor : Actor
-  actor = actor_at y a
-
-  abbrev pins_after : Event → List ℕ
-  pins_after e = (words_after y actor a e).pins
-
-  abbrev Goes : Event → ℕ → Type 0
-  Goes e q = (pin_in (pins_after e) q ≡ pin_in y.words.pins q) ⊎ (pin_in (pins_after e) q ≡ suc (pin_in y.words.pins q))
-
-  counted : (q : ℕ) → (pin_in (set_of_pass y.words.pins a (pin_in y.words.pins a + 1)) q ≡ pin_in y.words.pins q) ⊎ (pin_in (set_of_pass y.words.pins a (pin_in y.words.pins a + 1)) q ≡ suc (pin_in y.words.pins q))
-  counted q = elim (cases_eq q a) [
-    | inl same ↦ inr (subst (λ (p : ℕ). pin_in (set_of_pass y.words.pins a (pin_in y.words.pins a + 1)) p ≡ suc (pin_in y.words.pins p)) (sym same) (omega (arith, own_pin)))
-    | inr other ↦ inl (of_pass_other y.words.pins a q (pin_in y.words.pins a + 1) 0 other)
-  ]
-    where
-      own_pin : pin_in (set_of_pass y.words.pins a (pin_in y.words.pins a + 1)) a ≡ pin_in y.words.pins a + 1
-      own_pin = of_pass_same y.words.pins a (pin_in y.words.pins a + 1) 0 low (omega (arith, high, sound.trace.pins))
-
-  settled_goes : (s q : ℕ) → Goes (Settle s) q
-  settled_goes s q = inl (ap (λ (pins : List ℕ). pin_in pins q) (settled_pins y a s))
-
-  answered_goes : (q : ℕ) → Goes Answer q
-  answered_goes q = go (stays_out actor (pin_in y.words.pins a))
-    where
-      go : (out : Bool) → let pins : List ℕ = (if out then y.words else pinned y.words a).pins in (pin_in pins q ≡ pin_in y.words.pins q) ⊎ (pin_in pins q ≡ suc (pin_in y.words.pins q))
-      go true = inl refl
-      go false = counted q
-
-  goes : (e : Event) (q : ℕ) → Goes e q
-  goes Pin q = counted q
-  goes Answer q = answered_goes q
-  goes Link q = inl (ap (λ (pins : List ℕ). pin_in pins q) (redirect_pins y.words actor.pred _))
-  goes Unlink q = inl (ap (λ (pins : List ℕ). pin_in pins q) (redirect_pins y.words actor.pred _))
-  goes (Settle s) q = settled_goes s q
-  goes _ q = inl refl
-
-  -- only an unlinking is a moment
-  settled_none : (stage : Stage) (s : ℕ) → unlinkings (settling stage s) ≡ []
-  settled_none Open s = refl
-  settled_none _ s = refl
-
-  abbrev Shown : Event → ℕ → ℕ → List Moment → Type 0
-  Shown e s q ms = was_outside s q (unlinkings (publishes y actor a e) ++ ms) ≡ was_outside s q ms
-
-  shown : (e : Event) (s q : ℕ) (ms : List Moment) → (e ≡ Unlink → node_of actor ≢ s) → Shown e s q ms
-  shown Unlink s q ms apart = let other = apart refl in grind (arith, nat_tests, other)
-  shown (Settle t) s q ms apart = ap (λ (new : List Moment). was_outside s q (new ++ ms)) (settled_none (cell_at y t).stage t)
-  shown _ s q ms apart = refl
-
-  -- what is unlinked isn't in limbo
-  linked_taken : needs y a Unlink ≡ true → use_of y.uses (node_of actor) ≡ Taken
-  linked_taken has =
-      let two = and_parts (has_marked actor.hold && is_some actor.curr) _ has in
-      let first = and_parts (has_marked actor.hold) (is_some actor.curr) two.0 in
-      let rests : HasClosed y.shape.buckets true actor P = subst (λ (q : Hold). RestsOn y.shape.buckets q actor P) (is_marking actor.hold first.0) (sound.locks.rests a) in
-      let there = held_node y.shape P Marked actor sound.trace.lawful rests rests.node rests.curr refl in
-      let lt = on_range y.shape.buckets y.shape.slots P (bucket_of y.shape.buckets (key_word rests.node P)) rests.node sound.trace.lawful there in
-      ap (λ (o : Option ℕ). use_of y.uses (unwrap_or o 0)) rests.curr ∙ (node_stands n calls y callers disk M P notes sound rests.node lt there).0.taken
-
-  apart : (e : Event) (s : ℕ) (seen : List Sight) → needs y a e ≡ true → use_of y.uses s ≡ Limbo seen → e ≡ Unlink → node_of actor ≢ s
-  apart e s seen has is unlinks same =
-      let taken = linked_taken (subst (λ (f : Event). needs y a f ≡ true) unlinks has) in
-      not_limbo (sym taken ∙ ap (use_of y.uses) same ∙ is)
-    where
-      not_limbo : Taken ≡ Limbo seen → ⊥
-      not_limbo e = absurd cc
-
-  -- what became of a sight
-  abbrev Became : Event → ℕ → ℕ → Sight → Type 0
-  Became e s q x = (x ≡ Unseen) ⊎ ((old : List Sight) × (use_of y.uses s ≡ Limbo old) × ((x ≡ of_pass old q Left) ⊎ (x ≡ sight_after (pin_in (pins_after e) q) (of_pass old q Left))))
-
-  abbrev Becomes : Event → Type 0
-  Becomes e = (s q : ℕ) (seen : List Sight) → 1 ≤ q → q ≤ y.shape.passes → use_of (uses_after y actor a e) s ≡ Limbo seen → Became e s q (of_pass seen q Left)
-
-  stays : (e : Event) (s q : ℕ) (seen : List Sight) → use_of y.uses s ≡ Limbo seen → Became e s q (of_pass seen q Left)
-  stays e s q seen is = inr (seen, is, inl refl)
-
-  -- of a use that was set, and isn't limbo
-  from_set : (uses : List Use) (r s : ℕ) (u : Use) (seen : List Sight) → (u ≡ Limbo seen → ⊥) → use_of (slice_set uses r u) s ≡ Limbo seen → use_of uses s ≡ Limbo seen
-  from_set uses r s u seen other is = ⊎_elim (λ set. absurd (other (sym set ∙ is))) (λ same. sym same ∙ is) (set_cases uses r s u)
-
-  reserving : Becomes Reserve
-  reserving s q seen low' high' is = stays Reserve s q seen (collected_limbo y.uses s seen (was (lowest_free (collect y.uses)) is)).0
-    where
-      was : (found : Option ℕ) → use_of (reserved (collect y.uses) found) s ≡ Limbo seen → use_of (collect y.uses) s ≡ Limbo seen
-      was None is = is
-      was (Some t) is = from_set (collect y.uses) t s Taken seen (λ e. absurd cc) is
-
-  retiring : Becomes Retire
-  retiring s q seen low' high' is = ⊎_elim
-      (λ set. inl (ap (λ (x : List Sight). of_pass x q Left) (sym (limbo_same (sym set ∙ is))) ∙ unseen q low' high'))
-      (λ same. stays Retire s q seen (sym same ∙ is))
-      (set_cases y.uses (node_of actor) s (Limbo (replicate y.shape.passes Unseen)))
-    where
-      unseen : (q : ℕ) → 1 ≤ q → q ≤ y.shape.passes → of_pass (replicate y.shape.passes Unseen) q Left ≡ Unseen
-      unseen zero low' high' = absurd (omega (arith, low'))
-      unseen (suc i) low' high' = get_or-replicate y.shape.passes i Unseen Left (omega (arith, high'))
-
-  -- a pin word was looked at
-  looking : (e : Event) (uses : List Use) (p v s q : ℕ) (seen : List Sight) → ((old : List Sight) → use_of uses s ≡ Limbo old → use_of y.uses s ≡ Limbo old) → v ≡ pin_in (pins_after e) p
-      → use_of (see_pin p v uses) s ≡ Limbo seen → Became e s q (of_pass seen q Left)
-  looking e uses p v s q seen were value is =
-      let was = saw uses p v s seen is in
-      inr (
-        was.0,
-        were was.0 was.1,
-        ⊎_elim
-            (λ own. inr (ap (λ (x : List Sight). of_pass x q Left) was.2 ∙ own.1 ∙ ap (λ (x : ℕ). sight_after x (of_pass was.0 p Left)) (value ∙ ap (pin_in (pins_after e)) (sym own.0)) ∙ ap (λ (x : ℕ). sight_after (pin_in (pins_after e) q) (of_pass was.0 x Left)) (sym own.0)))
-            (λ same. inl (ap (λ (x : List Sight). of_pass x q Left) was.2 ∙ same))
-            (sight_cases was.0 p q (sight_after v (of_pass was.0 p Left))),
+  past_publishing : (new : Trace) (ms : List Moment) (P0 P : Trace) → IsPast ms P0 P → IsPast (unlinkings new ++ ms) P0 (new ++ P)
+  past_publishing [] ms P0 P h = h
+  past_publishing (unlinked k t p ∷ new) ms P0 P h =
+      let before = past_publishing new ms P0 P h in (
+        inr before.0,
+        elim (eqb_tells t s) [
+          | inl same ↦ inr (inl (same.1, before.0))
+          | inr other ↦ ⊎_elim (λ was. inl (rw other.0 was)) (λ since. inr (inr since)) before.1
+        ],
       )
+  past_publishing (e ∷ new) ms P0 P h = let before = past_publishing new ms P0 P h in (inr before.0, before.1)
 
-  answering : Becomes Answer
-  answering s q seen low' high' is =
-      looking Answer (given_back y actor.slot) a (pin_answered actor (pin_in y.words.pins a)) s q seen (λ old. was actor.slot old) (sym (answered_pin y actor a low (omega (arith, high, sound.trace.pins)))) is
-    where
-      was : (slot : Option ℕ) (old : List Sight) → use_of (given_back y slot) s ≡ Limbo old → use_of y.uses s ≡ Limbo old
-      was None old is = is
-      was (Some t) old is = go (is_unused (cell_at y t).stage) is
-        where
-          go : (b : Bool) → use_of (if b then slice_set y.uses t Free else y.uses) s ≡ Limbo old → use_of y.uses s ≡ Limbo old
-          go true is = from_set y.uses t s Free old free_limbo is
-          go false is = is
+  -- of an open service, with the trace at which the pass went in
+  abbrev PastAt : State → List Moment → Trace → Trace → Type 0
+  PastAt (Up service disk) ms P0 P = IsPast ms P0 P
+  PastAt (Down shape disk) ms P0 P = Unit {0}
 
-  becomes : (e : Event) → ((p v : ℕ) → e ≡ SeePin p v → v ≡ pin_in y.words.pins p) → Becomes e
-  becomes Reserve loads s q seen low' high' is = reserving s q seen low' high' is
-  becomes Retire loads s q seen low' high' is = retiring s q seen low' high' is
-  becomes (SeePin p v) loads s q seen low' high' is = looking (SeePin p v) y.uses p v s q seen (λ old is. is) (loads p v refl) is
-  becomes Answer loads s q seen low' high' is = answering s q seen low' high' is
-  becomes _ loads s q seen low' high' is = inr (seen, is, inl refl)
+  abbrev begun_after : State → Trace → Trace → Trace
+  begun_after w P0 P = if is_out w q then P else P0
 
-  module _ (e : Event) (loads : (p v : ℕ) → e ≡ SeePin p v → v ≡ pin_in y.words.pins p) (ms : List Moment) (h : AreSeen y.shape.passes y.words.pins y.uses ms) where
-    abbrev later : List Moment
-    later = unlinkings (publishes y actor a e) ++ ms
+  -- the pins of a state count as a moment
+  shown : (service : Service) (disk : Medium) (ms : List Moment) (P0 P : Trace) → IsPast ms P0 P → IsPast (pins_of (Up service disk) ++ ms) (begun_after (Up service disk) P0 P) P
+  shown service disk ms P0 P h = elim (cases_Bool (is_out (Up service disk) q)) [
+    | inl out ↦ rw out (begins_itself P, inl refl)
+    | inr inside ↦ rw inside (h.0, h.1)
+  ]
 
-    abbrev IsNow : ℕ → ℕ → Sight → Type 0
-    IsNow s q x = IsPast (pin_in (pins_after e) q) s q (Pins (pins_after e) ∷ later) x
+  -- where the pass is outside nothing need be known
+  shown_out : (w : State) (ms : List Moment) (P0 P : Trace) → is_out w q ≡ true → PastAt w (pins_of w ++ ms) (begun_after w P0 P) P
+  shown_out (Up service disk) ms P0 P out = rw out (begins_itself P, inl refl)
+  shown_out (Down shape disk) ms P0 P out = tt
 
-    -- of a sight that stays
-    before : needs y a e ≡ true → (s q : ℕ) → 1 ≤ q → q ≤ y.shape.passes → (old : List Sight) → use_of y.uses s ≡ Limbo old → IsNow s q (of_pass old q Left)
-    before has s q low' high' old limbo =
-        past_on (pin_in y.words.pins q) (pin_in (pins_after e) q) s q (pins_after e) later (of_pass old q Left) refl (goes e q)
-        (past_same (pin_in y.words.pins q) s q ms later (of_pass old q Left) (shown e s q ms (apart e s old has limbo)) (h s q old low' high' limbo))
+  abbrev StepsTo : State → State → Transition → List Moment → Trace → Trace → Type 0
+  StepsTo after w step ms P0 P = PastAt after (pins_of after ++ moments_of_step w step ++ ms) (begun_after after P0 (trace_after w P step)) (trace_after w P step)
 
-    played : needs y a e ≡ true → AreSeen y.shape.passes (pins_after e) (uses_after y actor a e) (Pins (pins_after e) ∷ later)
-    played has s q seen low' high' is = ⊎_elim (λ unseen. subst (IsNow s q) (sym unseen) tt) was (becomes e loads s q seen low' high' is)
-      where
-        was : ((old : List Sight) × (use_of y.uses s ≡ Limbo old) × ((of_pass seen q Left ≡ of_pass old q Left) ⊎ (of_pass seen q Left ≡ sight_after (pin_in (pins_after e) q) (of_pass old q Left)))) → IsNow s q (of_pass seen q Left)
-        was (old, limbo, now) = ⊎_elim
-            (λ same. subst (IsNow s q) (sym same) (before has s q low' high' old limbo))
-            (λ looked. subst (IsNow s q) (sym looked) (past_seen (pin_in (pins_after e) q) s q (pins_after e) later (of_pass old q Left) refl (before has s q low' high' old limbo)))
-            now
+  turn_past : (service : Service) (disk : Medium) (a : ℕ) (who : Option Caller) (ms : List Moment) (P0 P : Trace) → IsPast ms P0 P
+      → PastAt (after_turn service disk a who) (pins_of (after_turn service disk a who) ++ unlinkings (turn_publishes service a who) ++ ms) (begun_after (after_turn service disk a who) P0 (turn_publishes service a who ++ P)) (turn_publishes service a who ++ P)
+  turn_past service disk a None ms P0 P h = shown service disk ms P0 P h
+  turn_past service disk a (Some caller) ms P0 P h = shown (played service a caller (line service.yard a (next_event service.yard caller))) disk (unlinkings (turn_publishes service a (Some caller)) ++ ms) P0 (turn_publishes service a (Some caller) ++ P) (past_publishing (turn_publishes service a (Some caller)) ms P0 P h)
 
-    pub seen_after : AreSeen y.shape.passes (line y a e).0.words.pins (line y a e).0.uses (Pins (line y a e).0.words.pins ∷ unlinkings (line_publishes y a e) ++ ms)
-    seen_after = go (course y a e) refl
-      where
-        go : (k : Course) → course y a e ≡ k → AreSeen y.shape.passes (line_on k y actor a e).0.words.pins (line_on k y actor a e).0.uses (Pins (line_on k y actor a e).0.words.pins ∷ unlinkings (published_on k y actor a e) ++ ms)
-        go Plays is = played (plays_needs y a e is)
-        go _ is = same_seen y.shape.passes y.words.pins y.uses ms h
+  fault_past : (service : Service) (disk new : Medium) (a : ℕ) (who : Option Caller) (ms : List Moment) (P0 P : Trace) → IsPast ms P0 P
+      → PastAt (after_fault service new a who) (pins_of (after_fault service new a who) ++ moments_of_step (Up service disk) (Fails a new) ++ ms) (begun_after (after_fault service new a who) P0 P) P
+  fault_past service disk new a None ms P0 P h = shown service new ms P0 P h
+  fault_past service disk new a (Some caller) ms P0 P h = shown (played service a caller (line_failed service.yard a (next_event service.yard caller))) new ms P0 P h
 
--- a turn, a fault
-module _ (n calls : ℕ) (service : Service) (disk : Medium) (M : History) (P : Trace) (notes : Notes) (sound : Sound n calls service.yard service.callers disk M P notes) (a : ℕ) (ms : List Moment)
-    (h : SeenAt (Up service disk) ms) where
-  turn_seen : (who : Option Caller) → caller_at service.callers a ≡ who → SeenAt (after_turn service disk a who) (pins_of (after_turn service disk a who) ++ unlinkings (turn_publishes service a who) ++ ms)
-  turn_seen None is = same_seen service.yard.shape.passes service.yard.words.pins service.yard.uses ms h
-  turn_seen (Some caller) is =
-      let range = caller_range service.callers a caller is in
-      let e = next_event service.yard caller in
-      subst (λ (passes : ℕ). AreSeen passes (line service.yard a e).0.words.pins (line service.yard a e).0.uses (Pins (line service.yard a e).0.words.pins ∷ unlinkings (line_publishes service.yard a e) ++ ms))
-      (sym (ap (λ (shape : Shape). shape.passes) (line_keeps_shape (course service.yard a e) service.yard (actor_at service.yard a) a e)))
-      (seen_after n calls service.yard service.callers disk M P notes sound a range.0 (omega (arith, range.1, sound.callers.count)) e
-      (λ p v is. loaded_value service.yard.words (event_at service.yard.shape caller.command caller.progress) p v is) ms h)
+  step_past : (i : ℕ) (w : State) (step : Transition) (ms : List Moment) (P0 P : Trace) → MayStep w step → PastAt w ms P0 P → StepsTo (state_after i w step) w step ms P0 P
+  step_past i (Up service disk) (Calls a c) ms P0 P may h = shown (record { yard = invoked service.yard a c; callers = service.callers }) disk ms P0 P h
+  step_past i (Up service disk) (Turn a) ms P0 P may h = turn_past service disk a (caller_at service.callers a) ms P0 P h
+  step_past i (Up service disk) (Fails a new) ms P0 P may h = fault_past service disk new a (caller_at service.callers a) ms P0 P h
+  step_past i (Up service disk) (Looks a) ms P0 P may h = shown (record { yard = looked service.yard a; callers = service.callers }) disk ms P0 P h
+  step_past i (Up service disk) Trips ms P0 P may h = shown service disk ms P0 P h
+  step_past i (Up service disk) Opens ms P0 P may h = absurd may
+  step_past i (Up service disk) (OpenFails why done) ms P0 P may h = absurd may
+  step_past i (Up service disk) _ ms P0 P may h = tt
+  step_past i (Down shape disk) Opens ms P0 P may h = shown_out (Up (opened_service shape disk.seen) disk) ms P0 (first_trace shape disk.seen) (ap is_outside (pass_of shape.passes q 0))
+  step_past i (Down shape disk) (OpenFails why true) ms P0 P may h = tt
+  step_past i (Down shape disk) (OpenFails why false) ms P0 P may h = tt
+  step_past i (Down shape disk) _ ms P0 P may h = tt
 
-  fault_seen : (new : Medium) (who : Option Caller) → SeenAt (after_fault service new a who) (pins_of (after_fault service new a who) ++ moments_of_step (Up service disk) (Fails a new) ++ ms)
-  fault_seen new None = same_seen service.yard.shape.passes service.yard.words.pins service.yard.uses ms h
-  fault_seen new (Some caller) = same_seen service.yard.shape.passes service.yard.words.pins service.yard.uses ms h
+  run_past : (start : Start) (steps : List Transition) → IsRun (first_point start) steps
+      → PastAt (run (first_point start) steps).state (moments (first_point start) steps) (trace_outside (first_point start) steps q) (run (first_point start) steps).trace
+  run_past start [] runs = (begins_itself _, inl (rw (pass_of {X = ℕ} start.shape.passes q 0) refl))
+  run_past start (step ∷ steps) runs =
+      let p = run (first_point start) steps in
+      step_past _ p.state step (moments (first_point start) steps) (trace_outside (first_point start) steps q) p.trace runs.0 (run_past start steps runs.1)
 
-  look_seen : 1 ≤ a → a ≤ service.yard.shape.passes → AreSeen service.yard.shape.passes (looked service.yard a).words.pins service.yard.uses (Pins (looked service.yard a).words.pins ∷ ms)
-  look_seen low high s q seen low' high' is =
-      past_on (pin_in service.yard.words.pins q) (pin_in (looked service.yard a).words.pins q) s q (looked service.yard a).words.pins ms (of_pass seen q Left) refl
-      (counted n calls service.yard service.callers disk M P notes sound a low high q) (h s q seen low' high' is)
-
-opened_seen : (shape : Shape) (t : List ℕ) (disk : Medium) (ms : List Moment) → SeenAt (Up (opened_service shape t) disk) ms
-opened_seen shape t disk ms s q seen low high is = absurd (no_limbo_read (slots_read t shape.slots) s seen is)
-
-step_seen : (start : Start) (w : State) (M : History) (P : Trace) (calls : ℕ) (step : Transition) (ms : List Moment) → MayStep w step → (L : List Life) → PointSound start (point w M P calls) L → SeenAt w ms
-    → SeenAt (state_after (suc calls) w step) (pins_of (state_after (suc calls) w step) ++ moments_of_step w step ++ ms)
-step_seen start w M P calls step ms may [] sound h = absurd sound
-step_seen start (Up service disk) M P calls (Turn a) ms may (life ∷ earlier) sound h = turn_seen sound.2.0 calls service disk life.history P sound.2.1 sound.2.2.sound a ms h (caller_at service.callers a) refl
-step_seen start (Up service disk) M P calls (Fails a new) ms may (life ∷ earlier) sound h = fault_seen sound.2.0 calls service disk life.history P sound.2.1 sound.2.2.sound a ms h new (caller_at service.callers a)
-step_seen start (Up service disk) M P calls (Looks a) ms may (life ∷ earlier) sound h = look_seen sound.2.0 calls service disk life.history P sound.2.1 sound.2.2.sound a ms h may.0.0 may.0.1
-step_seen start (Up service disk) M P calls Stops ms may (life ∷ earlier) sound h = tt
-step_seen start (Up service disk) M P calls (Crashes t) ms may (life ∷ earlier) sound h = tt
-step_seen start (Up service disk) M P calls (CrashesIn a t) ms may (life ∷ earlier) sound h = tt
-step_seen start (Up service disk) M P calls _ ms may (life ∷ earlier) sound h = same_seen service.yard.shape.passes service.yard.words.pins service.yard.uses ms h
-step_seen start (Down shape disk) M P calls Opens ms may (life ∷ earlier) sound h = opened_seen shape disk.seen disk (pins_of (Up (opened_service shape disk.seen) disk) ++ ms)
-step_seen start (Down shape disk) M P calls (OpenFails why true) ms may (life ∷ earlier) sound h = tt
-step_seen start (Down shape disk) M P calls _ ms may (life ∷ earlier) sound h = tt
-
-reached_seen : (start : Start) (steps : List Transition) → IsStart start → IsRun (first_point start) steps → SeenAt (run (first_point start) steps).state (moments (first_point start) steps)
-reached_seen start [] is runs = opened_seen start.shape start.text (at_rest start.bytewise start.text) (moments (first_point start) [])
-reached_seen start (step ∷ steps) is runs =
-    let p = run (first_point start) steps in
-    step_seen start p.state p.marks p.trace p.calls step (moments (first_point start) steps) runs.0 (lives (start_keys start) p.marks) (reached_sound start steps is runs.1) (reached_seen start steps is runs.1)
+  -- in a state in which the pass is outside
+  past_out : (p : Point) (steps : List Transition) (service : Service) (disk : Medium) → (run p steps).state ≡ Up service disk → is_out (Up service disk) q ≡ true → was_outside s q (moments p steps) ≡ true
+  past_out p [] service disk state out = subst (λ (w : State). was_outside s q (pins_of w) ≡ true) (sym state) (rw out refl)
+  past_out p (step ∷ steps) service disk state out =
+      subst (λ (w : State). was_outside s q (pins_of w ++ moments_of_step (run p steps).state step ++ moments p steps) ≡ true) (sym state) (rw out refl)
 
 -- a slot that is collected was left by each pass
 pub freed_is_all_free : FreedIsAllFree
-freed_is_all_free start steps service disk s seen is runs state limbo free q low high = ⊎_elim
-    (λ already. absurd (free_limbo (sym already ∙ limbo)))
-    (λ left. subst (IsPast (pin_in service.yard.words.pins q) s q (moments (first_point start) steps)) (left_of left.0 q left.2) (all s q left.0 low high left.1))
-    (collected_free (use_of service.yard.uses s) (sym (use_map collect_at service.yard.uses s refl) ∙ free))
+freed_is_all_free start steps service disk s seen is runs state limbo free q low high = elim (cases_Bool (is_out (Up service disk) q)) [
+  | inl out ↦ past_out s q (first_point start) steps service disk state out
+  | inr in_now ↦ ⊎_elim (λ was. was) (λ since. absurd (never (grind (arith, nat_tests, in_now)) since)) there.1
+]
   where
-    all : AreSeen service.yard.shape.passes service.yard.words.pins service.yard.uses (moments (first_point start) steps)
-    all = subst (λ (w : State). SeenAt w (moments (first_point start) steps)) state (reached_seen start steps is runs)
+    p : Point
+    p = run (first_point start) steps
+
+    P0 : Trace
+    P0 = trace_outside (first_point start) steps q
+
+    there : IsPast s q (moments (first_point start) steps) P0 p.trace
+    there = subst (λ (w : State). PastAt s q w (moments (first_point start) steps) P0 p.trace) state (run_past s q start steps runs)
+
+    known : IsTied p.calls service disk p.trace (trace_outside (first_point start) steps)
+    known = tied start steps service disk is runs state
+
+    -- the slot that each pass has left stood on no chain since this one went in
+    away : IsInside (pin_in service.yard.words.pins q) → IsAway service.yard.shape.buckets P0 p.trace s
+    away inside = ⊎_elim
+        (λ already. absurd (free_limbo (sym already ∙ limbo)))
+        (λ left.
+        let right = subst (λ (x : Sight). IsRightSight service.yard.shape.buckets (pin_in service.yard.words.pins q) (known.notes.begun q) p.trace s x) (left_of left.0 q left.2) (known.up.sound.reuse.seen q s left.0 left.1) in
+        subst (λ (R : Trace). IsAway service.yard.shape.buckets R p.trace s) (known.tied q inside) (right inside))
+        (collected_free (use_of service.yard.uses s) (sym (use_map collect_at service.yard.uses s refl) ∙ free))
+
+    never : IsInside (pin_in service.yard.words.pins q) → IsUnlinkedSince s P0 p.trace → ⊥
+    never inside since =
+        let stood = stood_since service.yard.shape.buckets service.yard.shape.slots s P0 p.trace known.up.sound.trace.lawful since in
+        away inside stood.0 stood.1

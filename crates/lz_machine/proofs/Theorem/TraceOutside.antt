@@ -40,13 +40,13 @@ use Rattle.lz_machine.proofs.Runs.CallerTable.{none_of}
 use Rattle.lz_machine.proofs.Theorem.Reached.{reached_sound, up_at}
 
 -- an open service is sound, with notes that are tied to these traces
-record IsTied (calls : ℕ) (service : Service) (disk : Medium) (P : Trace) (B : ℕ → Trace) : Type 0 where
-  n : ℕ
-  life : Life
-  notes : Notes
-  up : UpSound n calls service disk life P notes
-  tied : (a : ℕ) → IsInside (pin_in service.yard.words.pins a) → notes.begun a ≡ B a
-  told : (a : ℕ) → IsInside (pin_in service.yard.words.pins a) → notes.changed a ≡ own_change a (length (B a)) P
+pub record IsTied (calls : ℕ) (service : Service) (disk : Medium) (P : Trace) (B : ℕ → Trace) : Type 0 where
+  pub n : ℕ
+  pub life : Life
+  pub notes : Notes
+  pub up : UpSound n calls service disk life P notes
+  pub tied : (a : ℕ) → IsInside (pin_in service.yard.words.pins a) → notes.begun a ≡ B a
+  pub told : (a : ℕ) → IsInside (pin_in service.yard.words.pins a) → notes.changed a ≡ own_change a (length (B a)) P
 
 abbrev TiedAt : ℕ → Trace → State → (ℕ → Trace) → Type 0
 TiedAt calls P (Up service disk) B = IsTied calls service disk P B
@@ -221,7 +221,7 @@ module _ (start : Start) (steps : List Transition) (service : Service) (disk : M
   abbrev B : ℕ → Trace
   B = trace_outside (first_point start) steps
 
-  tied : IsTied p.calls service disk p.trace B
+  pub tied : IsTied p.calls service disk p.trace B
   tied = subst (λ (w : State). TiedAt p.calls p.trace w B) state (reached_tied start steps is runs)
 
   module _ (a : ℕ) (inside : IsInside (pin_in service.yard.words.pins a)) where
