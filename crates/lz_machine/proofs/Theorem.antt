@@ -20,6 +20,6 @@ pub mod TraceOutside
 pub mod WalkEnds
 pub mod NoSlotCounts
 pub mod EventNeeds
-pub mod WornPass
+pub mod BetweenLooks
 pub mod TraceRows
 pub mod Needs

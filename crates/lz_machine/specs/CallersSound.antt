@@ -24,7 +24,7 @@ use Rattle.lz_machine.specs.declared.caller.Sequence.TheVariants.{Pinning, Resti
 use Rattle.lz_machine.specs.declared.caller.Progress.{Progress}
 use Rattle.lz_machine.specs.declared.caller.Progress.TheVariants.{Playing, LoadsHalt, Walking, Reserving, SeeingPins, Claiming, Checking, Answering}
 use Rattle.lz_machine.specs.Yards.{Shape, actor_in, cell_in, stage_in, pin_in, IsInside}
-use Rattle.lz_machine.specs.Table.{is_old}
+use Rattle.lz_machine.specs.Table.{is_old, last_pin}
 use Rattle.lz_machine.specs.Runs.{Caller, caller_at}
 use Rattle.lz_machine.specs.Kept.{upto}
 use Rattle.lz_machine.specs.Stands.{IsWalking, WasBetween}
@@ -239,11 +239,16 @@ abbrev pub side_of : Bool → ℕ
 side_of true = 0
 side_of false = 1
 
+-- where the pass of a call is: outside, at its last pin where it was found worn, or inside
+abbrev pub IsSide : ℕ → Progress → Type 0
+IsSide pin (Answering SaysWorn) = pin ≡ last_pin
+IsSide pin at = pin % 2 ≡ side_of (is_before_pin at)
+
 -- a call that is inside adds only a key that the file can hold
 abbrev pub IsCaller : View → ℕ → Option Caller → Trace → Trace → Option ℕ → Type 0
 IsCaller v pin None P0 P changed = IsEmptyHanded v.actor P × (changed ≡ None)
 IsCaller v pin (Some caller) P0 P changed =
-    (pin % 2 ≡ side_of (is_before_pin caller.progress)) × (IsInside pin → is_old v.format caller.command ≡ false)
+    IsSide pin caller.progress × (IsInside pin → is_old v.format caller.command ≡ false)
     × Relies v caller.command caller.progress P0 P changed
 
 pub record CallerSound (v : View) (pin : ℕ) (caller : Option Caller) (P0 P : Trace) (changed : Option ℕ) : Type 0 where

@@ -16,8 +16,8 @@ use Rattle.lz_machine.specs.Runs.{Transition, Caller, Service, State, Up, MayPla
 use Rattle.lz_machine.specs.Points.{IsBetweenLooks}
 use Rattle.lz_yard.specs.Parts.{YardOver}
 use Rattle.lz_machine.proofs.Runs.CallerEvent.{Next}
-use Rattle.lz_machine.proofs.Theorem.Timing.{is_event, quiet_step}
-use Rattle.lz_machine.proofs.Theorem.WornPass.{is_look}
+use Rattle.lz_machine.proofs.Theorem.Timing.{is_event}
+use Rattle.lz_machine.proofs.Theorem.BetweenLooks.{is_look, quiet_step}
 use Rattle.lz_yard.proofs.Events.RunTransition.{may_play}
 use Rattle.lz_core.specs.Worlds.{WorldOver, Goes, HasRun, IsCallOn, IsWorld, MayStepOn, armed, call_shown, next_of, next_of_caller, state_shown}
 use Rattle.lz_core.proofs.Runs.PlayedStep.{shape_is}

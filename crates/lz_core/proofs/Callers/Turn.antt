@@ -23,7 +23,7 @@ use Rattle.lz_yard.specs.Parts.{YardOver}
 use Rattle.lz_machine.proofs.Runs.CallerEvent.{Next}
 use Rattle.lz_machine.proofs.Theorem.Timing.{may_take}
 use Rattle.lz_machine.proofs.Theorem.EventNeeds.{may_take_fault}
-use Rattle.lz_machine.proofs.Theorem.WornPass.{is_look}
+use Rattle.lz_machine.proofs.Theorem.BetweenLooks.{is_look}
 use Rattle.lz_machine.proofs.Runs.CallerTable.{fault_no_reply}
 use Rattle.lz_yard.proofs.Events.KeptFit.{played_shape, fault_or_not}
 use Rattle.lz_yard.proofs.Events.PassPlaces.{set_at}

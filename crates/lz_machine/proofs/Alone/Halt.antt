@@ -115,7 +115,7 @@ refusals_are_right start service disk M P a caller reached is may =
     let known = (mine service.yard.shape service.yard.vault service.yard.words.pins service.yard.actors service.callers p.trace there.notes a caller is there.up.sound.callers).stands in
     let relies = λ (reply : Reply) (told : reply_at caller.progress ≡ Some reply). subst (λ (at : Progress). Relies v caller.command at (there.notes.begun a) p.trace (there.notes.changed a)) (replies caller.progress reply told) known.2 in
     let dead = λ (halt : halt_word p.trace ≡ 1). halted_dead start reached.steps service disk reached.runs reached.state (there.up.sound.trace.halt ∙ halt) in (
-      (λ worn. worn_there start reached.steps reached.starts reached.runs service disk reached.state a caller is (replies caller.progress SaysWorn worn)),
+      (λ worn. worn_there start p service disk (reached_sound start reached.steps reached.starts reached.runs) reached.state a caller is (replies caller.progress SaysWorn worn)),
       (λ halted. dead (halted_word v caller.command (there.notes.begun a) p.trace (there.notes.changed a) (relies Halted halted))),
       (λ device. dead (device_word v caller.command (there.notes.begun a) p.trace (there.notes.changed a) (relies Device device))),
       (λ old. old_command v caller.command (there.notes.begun a) p.trace (there.notes.changed a) caller.progress (replies caller.progress SaysOldFile old) known.2),

@@ -20,6 +20,7 @@ use Rattle.lz_machine.specs.CallersSound.{View, Relies, IsCaller, is_before_pin,
 use Rattle.lz_machine.specs.CallsStand.{own_change}
 use Rattle.lz_machine.proofs.Ledger.Change.{changes_at, changed_same, changed_other}
 use Rattle.lz_machine.proofs.Ledger.Parts.{ends_now}
+use Rattle.lz_machine.proofs.Frames.Outside.{side_even}
 
 -- Of a pass that is inside now the note tells its own change still, where it did before.
 abbrev pub IsTold : List ℕ → Trace → (ℕ → Option ℕ) → Trace → (ℕ → Option ℕ) → Type 0
@@ -104,4 +105,4 @@ before_pin v c at P0 P changed outside h = grind arith
 
 pub none_outside : (v : View) (pin : ℕ) (caller : Option Caller) (P0 P : Trace) (changed : Option ℕ) → pin % 2 ≡ 0 → IsCaller v pin caller P0 P changed → changed ≡ None
 none_outside v pin None P0 P changed even h = h.1
-none_outside v pin (Some caller) P0 P changed even h = before_pin v caller.command caller.progress P0 P changed (side_out (is_before_pin caller.progress) (sym h.0 ∙ even)) h.2
+none_outside v pin (Some caller) P0 P changed even h = before_pin v caller.command caller.progress P0 P changed (side_out (is_before_pin caller.progress) (sym (side_even pin caller.progress h.0) ∙ even)) h.2

@@ -1,5 +1,6 @@
 -- Actors that answer without a pin, and the pin words after an Answer.
-use Rattle.std.proofs.Common.{◌≡◌, ◌≢◌, ℕ, ◌+◌, ◌≤◌, ◌%◌, ◌==◌, ◌&&◌, ◌||◌, not, if◌then◌else◌, Bool, true, false, length, refl, ap, ◌∙◌, arith}
+use Rattle.std.proofs.Common.{◌≡◌, ◌≢◌, ℕ, ◌+◌, ◌≤◌, ◌%◌, ◌==◌, ◌&&◌, ◌||◌, not, if◌then◌else◌, Bool, true, false, length, refl, sym, ap, ◌∙◌, arith}
+use mathlib.Core.Bool.{false≢true}
 use Rattle.std.proofs.lemmas.Bool.Decides.{nat_tests}
 use Rattle.lz_slot.specs.Counted.{of_pass}
 use Rattle.lz_slot.proofs.Counted.{of_pass_same, of_pass_other}
@@ -8,14 +9,27 @@ use Rattle.lz_list.specs.declared.word.Word.TheVariants.{Pin as pin_at}
 use Rattle.lz_list.specs.Words.{set}
 use Rattle.lz_machine.specs.declared.actor.Actor.{Actor}
 use Rattle.lz_machine.specs.declared.event.Event.TheVariants.{Answer}
+use Rattle.lz_machine.specs.declared.event.Reply.TheVariants.{Worn as SaysWorn}
+use Rattle.lz_machine.specs.declared.caller.Progress.{Progress}
+use Rattle.lz_machine.specs.declared.caller.Progress.TheVariants.{Answering}
 use Rattle.lz_machine.specs.Yards.{Yard}
 use Rattle.lz_machine.specs.Table.{last_pin, pin_of, stays_out, pin_answered, words_after}
+use Rattle.lz_machine.specs.CallersSound.{IsSide, is_before_pin, side_of}
 
 pub even_of : (pin : ℕ) → (pin % 2 == 0) ≡ true → pin % 2 ≡ 0
 even_of pin is = grind (arith, nat_tests)
 
 pub outside_even : (pin : ℕ) → pin % 2 ≡ 0 → is_outside pin ≡ true
 outside_even pin even = ap (λ (q : ℕ). q == 0) even
+
+-- the side of a call's pass
+pub side_even : (pin : ℕ) (at : Progress) → IsSide pin at → pin % 2 ≡ side_of (is_before_pin at)
+side_even pin (Answering SaysWorn) side = ap (λ (q : ℕ). q % 2) side
+side_even pin _ side = side
+
+pub inside_side : (pin : ℕ) (at : Progress) → is_before_pin at ≡ false → pin % 2 ≡ 1 → IsSide pin at
+inside_side pin (Answering SaysWorn) inside odd = absurd (false≢true (sym inside))
+inside_side pin _ inside odd = odd ∙ ap side_of (sym inside)
 
 or_true : (b : Bool) → (b || true) ≡ true
 or_true true = refl

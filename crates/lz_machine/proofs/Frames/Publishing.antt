@@ -38,6 +38,7 @@ use Rattle.lz_machine.specs.Yards.{IsInside}
 use Rattle.lz_machine.specs.CallersSound.{View, IsWritten, IsAimed, IsBeyond, HasEnded, IsLooking, IsSince, RestsYes, RestsNo, WasAbsent, IsSettledChange, MayAnswer, HasAdded, HasMarked, MayRest, IsEmptyHanded, ReliesWriting, ReliesAdding, ReliesRemoving, ReliesOn, Relies, IsCaller, CallerSound, is_before_pin, side_of}
 use Rattle.lz_machine.specs.SlotsSound.{shuts}
 use Rattle.lz_machine.proofs.Ledger.Growth.{upto_more, yes_stays, no_stays}
+use Rattle.lz_machine.proofs.Frames.Outside.{side_even}
 
 pub halt_stays : (e : Publishing) (P : Trace) → halt_word P ≡ 1 → halt_word (e ∷ P) ≡ 1
 halt_stays halted P is = refl
@@ -286,7 +287,7 @@ module _ (buckets slots : ℕ) (e : Publishing) (P : Trace) (law : Lawful bucket
       h.1,
       elim (cases_Bool (is_before_pin caller.progress)) [
         | inl before ↦ outside_stays caller.command caller.progress before h.2
-        | inr after ↦ let inside : IsInside pin = h.0 ∙ ap side_of after in relies_stays inside (quiet inside) caller.command caller.progress h.2
+        | inr after ↦ let inside : IsInside pin = side_even pin caller.progress h.0 ∙ ap side_of after in relies_stays inside (quiet inside) caller.command caller.progress h.2
       ],
     )
 

@@ -1,5 +1,5 @@
 -- Whether an actor's call was refused says nothing of what it has in hand.
-use Rattle.std.proofs.Common.{◌≡◌, ◌≢◌, ℕ, ◌≤◌, Bool, true, false, List, length, Option, None, if◌then◌else◌, refl, sym, ap, ◌∙◌, subst, arith}
+use Rattle.std.proofs.Common.{◌≡◌, ◌≢◌, ℕ, ◌≤◌, Bool, true, false, List, length, Option, None, if◌then◌else◌, refl, sym, ap, ◌∙◌, subst, arith, ◌%◌}
 use Rattle.lz_slot.specs.declared.command.Command.{Command}
 use Rattle.lz_slot.specs.Counted.{set_of_pass}
 use Rattle.lz_slot.specs.Histories.{History, Life}
@@ -15,7 +15,7 @@ use Rattle.lz_machine.specs.Table.{is_old}
 use Rattle.lz_machine.specs.Calls.{begun, first_progress}
 use Rattle.lz_machine.specs.Runs.{Caller, caller_at, invoked}
 use Rattle.lz_machine.specs.Notes.{Notes, entries}
-use Rattle.lz_machine.specs.CallersSound.{View, IsEmptyHanded, Relies, is_before_pin, view_of, CallerSound, CallersSound}
+use Rattle.lz_machine.specs.CallersSound.{View, IsEmptyHanded, Relies, IsSide, view_of, CallerSound, CallersSound}
 use Rattle.lz_machine.specs.LocksSound.{HasLock, RestsOn}
 use Rattle.lz_machine.specs.LedgerSound.{TailsSound}
 use Rattle.lz_machine.specs.Sound.{Sound, UpSound}
@@ -27,9 +27,9 @@ use Rattle.lz_machine.proofs.Frames.Hand.{reuse_turn}
 use Rattle.lz_machine.proofs.Frames.NodeLocks.{held_locks}
 
 -- a call begins outside
-pub begun_outside : (b : Bool) → is_before_pin (if b then Answering SaysOldFile else first_progress) ≡ true
-begun_outside true = refl
-begun_outside false = refl
+pub begun_side : (pin : ℕ) (b : Bool) → pin % 2 ≡ 0 → IsSide pin (if b then Answering SaysOldFile else first_progress)
+begun_side pin true even = even
+begun_side pin false even = even
 
 -- what it relies on, where its actor has noted whether it was refused
 pub begun_relies : (v : View) (c : Command) (P0 P : Trace) (changed : Option ℕ) → v.actor.refused ≡ is_old v.format c → IsEmptyHanded v.actor P → changed ≡ None → Relies v c (begun v.format c) P0 P changed

@@ -35,7 +35,7 @@ use Rattle.lz_machine.specs.Sound.{TraceSound, ReuseSound, IsAfter, Sound, UpSou
 use Rattle.lz_machine.proofs.Runs.Course.{answer_plays}
 use Rattle.lz_machine.proofs.Frames.ActorTable.{by_actor}
 use Rattle.lz_machine.proofs.Frames.OneActor.{caller_range, carry}
-use Rattle.lz_machine.proofs.Frames.Outside.{out_even}
+use Rattle.lz_machine.proofs.Frames.Outside.{out_even, side_even}
 use Rattle.lz_machine.proofs.Frames.Grip.{keeps_itself}
 use Rattle.lz_machine.proofs.Frames.KeptSlots.{slots_turn, slots_uses}
 use Rattle.lz_machine.proofs.Frames.NodeLocks.{held_locks}
@@ -234,7 +234,7 @@ module _ (n calls : ℕ) (y : Yard) (callers : List (Option Caller)) (disk : Med
   -- it was refused outside
   refused_up : (pin_in y.words.pins a % 2 ≡ 0) → Answered (new_yard true)
   refused_up even =
-      let outside = out_of (is_before_pin (Answering says)) (sym me.stands.0 ∙ even) in
+      let outside = out_of (is_before_pin (Answering says)) (sym (side_even (pin_in y.words.pins a) (Answering says) me.stands.0) ∙ even) in
       let relies = out_rests c says a y (notes.begun a) P (notes.changed a) outside me.stands.2 in
       let how = ends n calls y.shape.passes callers P M notes a i range.1 up.sound.ledger y.words.pins up.after c says is (inl outside) relies.1 in (
         ends_now notes a how.last,
@@ -252,7 +252,7 @@ module _ (n calls : ℕ) (y : Yard) (callers : List (Option Caller)) (disk : Med
   -- its pass goes out
   played_up : (pin_in y.words.pins a % 2 ≡ 1) → pin_in y.words.pins a ≢ last_pin → Answered (new_yard false)
   played_up inside fresh =
-      let relies = rests_of c says a y (notes.begun a) P (notes.changed a) (in_of (is_before_pin (Answering says)) (sym me.stands.0 ∙ inside)) me.stands.2 in
+      let relies = rests_of c says a y (notes.begun a) P (notes.changed a) (in_of (is_before_pin (Answering says)) (sym (side_even (pin_in y.words.pins a) (Answering says) me.stands.0) ∙ inside)) me.stands.2 in
       let how = ends n calls y.shape.passes callers P M notes a i range.1 up.sound.ledger y.words.pins up.after c says is (inr (inside, up.since a inside)) relies.0 in
       let out = goes_out n calls y callers disk M P notes up.sound up.after a i c says is range.1 how inside fresh in (
         ends_now notes a how.last,

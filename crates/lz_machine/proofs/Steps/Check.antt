@@ -35,7 +35,7 @@ use Rattle.lz_machine.specs.Stands.{Faces, WasBetween, InBucket}
 use Rattle.lz_machine.specs.Notes.{Notes}
 use Rattle.lz_machine.specs.SlotsSound.{closes, opens, shuts, unlocks, has_removed_node}
 use Rattle.lz_machine.specs.LocksSound.{HasLock, has_locks, RestsOn, IsBeside, IsRightBefore, IsChecked}
-use Rattle.lz_machine.specs.CallersSound.{side_of, IsBeyond, HasEnded, MayAim, IsAimed, IsWritten, View, CallerSound}
+use Rattle.lz_machine.specs.CallersSound.{IsBeyond, HasEnded, MayAim, IsAimed, IsWritten, View, CallerSound}
 use Rattle.lz_machine.specs.Sound.{TraceSound, Sound}
 use Rattle.lz_machine.proofs.Frames.OneActor.{moving}
 use Rattle.lz_machine.proofs.Frames.Grip.{fresh_grip}
@@ -46,6 +46,7 @@ use Rattle.lz_machine.proofs.Steps.Walk.{GoesOn}
 use Rattle.lz_machine.proofs.Steps.Hop.{call_at, own, own_inside}
 use Rattle.lz_machine.proofs.Frames.Hand.{in_hands, same_hand, other_hand, hands_keep}
 use Rattle.lz_machine.proofs.Steps.Claim.{pred_was, node_was, aimed_same}
+use Rattle.lz_machine.proofs.Frames.Outside.{inside_side}
 
 -- a place that leads along one bucket's chain does so along that of another key of the bucket
 pub faces_bucket : (buckets k j x n : ℕ) (P : Trace) → bucket_of buckets j ≡ bucket_of buckets k → Faces buckets k x n P → Faces buckets j x n P
@@ -138,7 +139,7 @@ module _ (n calls : ℕ) (y : Yard) (callers : List (Option Caller)) (disk : Med
       (λ place lock. record { locks = ap has_locks h.1; among = (subst (λ (q : Actor). HasLock q place) hand lock).among })
       (subst (λ (q : Actor). RestsOn y.shape.buckets q.hold q P) (sym hand) rests))
       (fresh_grip y.vault.dead actor (with_hold actor hold) (ap (closes y.vault.dead) h.1) (ap (opens y.vault.dead) h.1) (ap has_removed_node h.1) kept open_yet shut_yet refl)
-      (record { quiet = me.quiet; begins = me.begins; stands = (me.stands.0 ∙ ap side_of (sym goes.inside), me.stands.1, goes.relies) })
+      (record { quiet = me.quiet; begins = me.begins; stands = (inside_side (pin_in y.words.pins a) next goes.inside me.stands.0, me.stands.1, goes.relies) })
 
   may_aim : (d : Command) → HasEnded d aim y.shape.buckets (notes.begun a) P actor.pred curr → MayAim d aim
   may_aim d h1 = grind arith

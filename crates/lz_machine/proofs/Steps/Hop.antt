@@ -27,6 +27,7 @@ use Rattle.lz_machine.proofs.Frames.SameYard.{KeepsTail, going_keeps}
 use Rattle.lz_machine.proofs.Steps.Walk.{GoesOn, hop_after}
 use mathlib.Core.Bool.{false≢true}
 use Rattle.lz_machine.proofs.Frames.Ranges.{few_slots}
+use Rattle.lz_machine.proofs.Frames.Outside.{side_even, inside_side}
 
 -- a call of this number and command
 abbrev pub call_at : ℕ → Command → Progress → Caller
@@ -37,14 +38,14 @@ module _ (n calls : ℕ) (y : Yard) (callers : List (Option Caller)) (disk : Med
   own = mine y.shape y.vault y.words.pins y.actors callers P notes a (call_at i c at) is sound.callers
 
   pub own_inside : is_before_pin at ≡ false → IsInside (pin_in y.words.pins a)
-  own_inside inside = own.stands.0 ∙ ap side_of inside
+  own_inside inside = side_even (pin_in y.words.pins a) at own.stands.0 ∙ ap side_of inside
 
   -- a turn that leaves the yard, after which the call may go on so
   pub goes_on_keeps : (next : Progress) → is_before_pin at ≡ false → KeepsTail (notes.changed a) at next → GoesOn (view_of y.shape y.vault y.actors a) c next (notes.begun a) P (notes.changed a) → Sound n calls y (moving callers a (call_at i c at) next) disk M P notes
   goes_on_keeps next inside keeps h = going_keeps n calls y callers disk M P notes a (call_at i c at) is next keeps (record {
     quiet = own.quiet;
     begins = own.begins;
-    stands = (own_inside inside ∙ ap side_of (sym h.inside), own.stands.1, h.relies);
+    stands = (inside_side (pin_in y.words.pins a) next h.inside (own_inside inside), own.stands.1, h.relies);
   }) sound
 
   -- the vault is dead

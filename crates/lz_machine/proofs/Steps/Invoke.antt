@@ -23,12 +23,12 @@ use Rattle.lz_machine.specs.Runs.{Start, Service, Caller, Up, Calls, MayStep, in
 use Rattle.lz_machine.specs.Yards.{Yard, pin_in, actor_in, cell_in, IsInside}
 use Rattle.lz_machine.specs.Table.{pin_of, is_old as is_old_file}
 use Rattle.lz_machine.specs.Notes.{Notes, pending_row, pending, entries}
-use Rattle.lz_machine.specs.CallersSound.{side_of, is_before_pin, IsEmptyHanded, Relies, view_of, CallerSound, CallersSound}
+use Rattle.lz_machine.specs.CallersSound.{IsSide, IsEmptyHanded, Relies, view_of, CallerSound, CallersSound}
 use Rattle.lz_machine.specs.LedgerSound.{LedgerSound, HasTail, TailsSound}
 use Rattle.lz_machine.specs.Sound.{Sound, IsAfter, UpSound, PointSound, IsSound}
 use Rattle.lz_machine.proofs.Frames.ActorTable.{by_actor}
 use Rattle.lz_machine.proofs.Frames.Outside.{even_of}
-use Rattle.lz_machine.proofs.Frames.Refusal.{begun_outside, begun_relies, noted_refusal, invoked_up}
+use Rattle.lz_machine.proofs.Frames.Refusal.{begun_side, begun_relies, noted_refusal, invoked_up}
 use Rattle.lz_machine.proofs.Ledger.Fit.{each_has}
 use Rattle.lz_machine.proofs.Ledger.Answers.{each_weaker}
 use Rattle.lz_machine.proofs.Ledger.Order.{has_left}
@@ -187,12 +187,12 @@ tail_still M calls a c d first callers rows rows' same low high below h = record
   ];
 }
 
-module _ (n calls a : ℕ) (c : Command) (y : Yard) (callers : List (Option Caller)) (disk : Medium) (P : Trace) (M : History) (notes : Notes) (low : 1 ≤ a) (high : a ≤ length callers) (none : caller_at callers a ≡ None) (even : pin_in y.words.pins a % 2 ≡ 0) (first : Progress) (outside : is_before_pin first ≡ true)
+module _ (n calls a : ℕ) (c : Command) (y : Yard) (callers : List (Option Caller)) (disk : Medium) (P : Trace) (M : History) (notes : Notes) (low : 1 ≤ a) (high : a ≤ length callers) (none : caller_at callers a ≡ None) (even : pin_in y.words.pins a % 2 ≡ 0) (first : Progress) (side : IsSide (pin_in y.words.pins a) first)
     (relies : IsEmptyHanded (actor_in y.actors a) P → notes.changed a ≡ None → Relies (view_of y.shape y.vault y.actors a) c first (notes.begun a) P (notes.changed a)) where
   new_caller : CallersSound y.shape y.vault y.words.pins y.actors callers P notes → CallerSound (view_of y.shape y.vault y.actors a) (pin_in y.words.pins a) (Some (started (suc calls) c first)) (notes.begun a) P (notes.changed a)
   new_caller h =
       let old = subst (λ (q : Option Caller). CallerSound (view_of y.shape y.vault y.actors a) (pin_in y.words.pins a) q (notes.begun a) P (notes.changed a)) none (h.each a) in
-      record { quiet = old.quiet; begins = old.begins; stands = (even ∙ ap side_of (sym outside), λ inside. absurd (omega (arith, inside, even)), relies old.stands.0 old.stands.1) }
+      record { quiet = old.quiet; begins = old.begins; stands = (side, λ inside. absurd (omega (arith, inside, even)), relies old.stands.0 old.stands.1) }
 
   calling_callers : CallersSound y.shape y.vault y.words.pins y.actors callers P notes → CallersSound y.shape y.vault y.words.pins y.actors (calling callers a (suc calls) c first) P notes
   calling_callers h = record {
@@ -265,7 +265,7 @@ module _ (n calls : ℕ) (service : Service) (disk : Medium) (life : Life) (P : 
 
   pub call_up : UpSound n (suc calls) (record { yard = invoked service.yard a c; callers = calling service.callers a (suc calls) c (begun service.yard.vault.format c) }) disk
       (record { start = life.start; history = Call (suc calls) a c ∷ life.history }) P notes
-  call_up = calling_up n calls a c (invoked service.yard a c) service.callers disk P life.history notes may.0.0 in_callers none (even_of (pin_of service.yard a) may.2) (begun service.yard.vault.format c) (begun_outside (is_old_file service.yard.vault.format c))
+  call_up = calling_up n calls a c (invoked service.yard a c) service.callers disk P life.history notes may.0.0 in_callers none (even_of (pin_of service.yard a) may.2) (begun service.yard.vault.format c) (begun_side (pin_of service.yard a) (is_old_file service.yard.vault.format c) (even_of (pin_of service.yard a) may.2))
       (λ idle unchanged. begun_relies (view_of service.yard.shape service.yard.vault (invoked service.yard a c).actors a) c (notes.begun a) P (notes.changed a)
       (noted_refusal n calls service.yard service.callers disk life.history P notes a c may.0.0 in_actors none up.sound) idle unchanged)
       life.start (invoked_up n calls service.yard service.callers disk life P notes a c may.0.0 in_actors none up)

@@ -211,8 +211,8 @@ module _ (n calls : ℕ) (y : Yard) (callers : List (Option Caller)) (disk : Med
       }
 
 -- a pass that is worn isn't pinned, and its call is about to be refused
-pub worn_keeps : (n calls : ℕ) (y : Yard) (callers : List (Option Caller)) (disk : Medium) (M : History) (P : Trace) (notes : Notes) (a i : ℕ) (c : Command) (is : caller_at callers a ≡ Some (call_at i c (Playing Pinning 0))) → Sound n calls y callers disk M P notes
+pub worn_keeps : (n calls : ℕ) (y : Yard) (callers : List (Option Caller)) (disk : Medium) (M : History) (P : Trace) (notes : Notes) (a i : ℕ) (c : Command) (is : caller_at callers a ≡ Some (call_at i c (Playing Pinning 0))) → pin_in y.words.pins a ≡ last_pin → Sound n calls y callers disk M P notes
     → Sound n calls y (moving callers a (call_at i c (Playing Pinning 0)) (progress_after y.shape c (Playing Pinning 0) Worn)) disk M P notes
-worn_keeps n calls y callers disk M P notes a i c is sound =
+worn_keeps n calls y callers disk M P notes a i c is last sound =
     let me = own n calls y callers disk M P notes a i c (Playing Pinning 0) is sound in
-    going_keeps n calls y callers disk M P notes a (call_at i c (Playing Pinning 0)) is (Answering SaysWorn) (λ none is. absurd (false≢true is)) (record { quiet = me.quiet; begins = me.begins; stands = (me.stands.0, me.stands.1, me.stands.2) }) sound
+    going_keeps n calls y callers disk M P notes a (call_at i c (Playing Pinning 0)) is (Answering SaysWorn) (λ none is. absurd (false≢true is)) (record { quiet = me.quiet; begins = me.begins; stands = (last, me.stands.1, me.stands.2) }) sound

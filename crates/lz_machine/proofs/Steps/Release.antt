@@ -18,23 +18,24 @@ use Rattle.lz_machine.specs.declared.actor.Hold.TheVariants.{Nothing, Locks, Lin
 use Rattle.lz_machine.specs.declared.caller.Sequence.TheVariants.{Releasing, Adding, Removing}
 use Rattle.lz_machine.specs.declared.caller.Progress.{Progress}
 use Rattle.lz_machine.specs.declared.caller.Progress.TheVariants.{Playing, Walking}
-use Rattle.lz_machine.specs.Yards.{Yard, actor_at}
+use Rattle.lz_machine.specs.Yards.{Yard, actor_at, pin_in}
 use Rattle.lz_machine.specs.Table.{with_hold, released, yard_done}
 use Rattle.lz_machine.specs.Calls.{progress_after}
 use Rattle.lz_machine.specs.Runs.{Caller, caller_at}
 use Rattle.lz_machine.specs.Notes.{Notes}
 use Rattle.lz_machine.specs.SlotsSound.{closes, opens, has_removed_node}
 use Rattle.lz_machine.specs.LocksSound.{has_locks, RestsOn}
-use Rattle.lz_machine.specs.CallersSound.{is_before_pin, side_of}
+use Rattle.lz_machine.specs.CallersSound.{is_before_pin}
 use Rattle.lz_machine.specs.Sound.{Sound}
 use Rattle.lz_machine.proofs.Frames.OneActor.{moving}
 use Rattle.lz_machine.proofs.Frames.Grip.{KeepsGrips, fresh_grip}
 use Rattle.lz_machine.proofs.Frames.NodeLocks.{released_locks}
 use Rattle.lz_machine.proofs.Steps.Walk.{GoesOn}
-use Rattle.lz_machine.proofs.Steps.Hop.{call_at, own}
+use Rattle.lz_machine.proofs.Steps.Hop.{call_at, own, own_inside}
 use Rattle.lz_machine.proofs.Frames.Hand.{in_hands, same_hand, other_hand, hands_keep}
 use Rattle.lz_machine.proofs.Steps.Claim.{aimed_same}
 use Rattle.lz_machine.proofs.Frames.SameYard.{KeepsTail}
+use Rattle.lz_machine.proofs.Frames.Outside.{inside_side}
 
 -- an actor that has unlinked its node has it out still
 out_grip : (dead : Bool) (old : Actor) → old.hold ≡ Unlinked → KeepsGrips dead dead old (with_hold old Released)
@@ -58,7 +59,7 @@ module _ (n calls : ℕ) (y : Yard) (callers : List (Option Caller)) (disk : Med
       (ap (λ (q : Actor). has_locks q.hold) hand ∙ free)
       (subst (λ (q : Actor). RestsOn y.shape.buckets q.hold q P) (sym hand) rests))
       grips
-      (record { quiet = me.quiet; begins = me.begins; stands = (me.stands.0 ∙ ap side_of inside ∙ ap side_of (sym goes.inside), me.stands.1, goes.relies) })
+      (record { quiet = me.quiet; begins = me.begins; stands = (inside_side (pin_in y.words.pins a) next goes.inside (own_inside n calls y callers disk M P notes a i c at is sound inside), me.stands.1, goes.relies) })
       in
       subst (λ (q : Hold). Sound n calls (in_hands y (pair_owned y.locks actor.pred actor.curr 0) a (with_hold actor q)) (moving callers a (call_at i c at) next) disk M P notes) (sym to ∙ sym (ap released hold)) done
 

@@ -31,13 +31,13 @@ use Rattle.lz_slot.specs.Sets.{key_of}
 use Rattle.lz_machine.specs.Notes.{Notes}
 use Rattle.lz_machine.specs.SlotsSound.{closes, opens, shuts, unlocks, has_removed_node, is_held, SlotsSound, IsGateOpened}
 use Rattle.lz_machine.specs.LocksSound.{HasLock, RestsOn}
-use Rattle.lz_machine.specs.CallersSound.{IsAdder, MayAnswer, CallerSound, is_before_pin, side_of, WasAbsent}
+use Rattle.lz_machine.specs.CallersSound.{IsAdder, MayAnswer, CallerSound, is_before_pin, WasAbsent}
 use Rattle.lz_machine.specs.Sound.{ReuseSound, Sound}
 use Rattle.lz_machine.proofs.Frames.OneActor.{moving, callers_turn, ledger_turn}
 use Rattle.lz_machine.proofs.Frames.SameYard.{KeepsTail, in_passes, tail_turn}
 use Rattle.lz_machine.proofs.Frames.NodeLocks.{held_locks}
 use Rattle.lz_machine.proofs.Steps.Walk.{GoesOn}
-use Rattle.lz_machine.proofs.Steps.Hop.{call_at, own, goes_on_keeps}
+use Rattle.lz_machine.proofs.Steps.Hop.{call_at, own, goes_on_keeps, own_inside}
 use Rattle.lz_machine.proofs.Frames.Hand.{range, same_hand, other_hand, hands_keep}
 use Rattle.lz_machine.proofs.Frames.Grip.{fresh_grip}
 use Rattle.std.proofs.lemmas.List.Quantifiers.{position-Some}
@@ -47,6 +47,7 @@ use Rattle.lz_machine.proofs.Frames.ChainSlots.{free_taken, free_stands}
 use Rattle.lz_machine.proofs.Frames.OneSlot.{slot_grips, same_nodes, slot_turn}
 use Rattle.lz_machine.proofs.Frames.KeptSlots.{slots_uses}
 use Rattle.lz_machine.proofs.Frames.Uses.{KeepsUses, seen_keeps, seen_reuse, collect_keeps, collect_reuse}
+use Rattle.lz_machine.proofs.Frames.Outside.{inside_side}
 
 -- the yard with other uses
 abbrev pub with_uses : Yard → List Use → Yard
@@ -175,7 +176,7 @@ module _ (n calls : ℕ) (y : Yard) (callers : List (Option Caller)) (disk : Med
             (λ place lock. let mine = subst (λ (q : Actor). HasLock q place) hand_a lock in record { locks = mine.locks; among = mine.among })
             (subst (λ (q : Actor). RestsOn y.shape.buckets q.hold q P) (sym hand_a) (subst (λ (q : Hold). RestsOn y.shape.buckets q x P) (sym nothing) tt));
         callers = callers_turn callers a (call_at i c at) is next y.shape y.vault y.words.pins y.actors actors' P notes (length-set_of_pass y.actors a x) hand_b
-            (subst (λ (q : Actor). CallerSound (record { buckets = y.shape.buckets; passes = y.shape.passes; format = y.vault.format; cells = y.vault.cells; dead = y.vault.dead; actor = q }) (pin_in y.words.pins a) (Some (call_at i c next)) (notes.begun a) P (notes.changed a)) (sym hand_a) (record { quiet = me.quiet; begins = me.begins; stands = (me.stands.0 ∙ ap side_of inside ∙ ap side_of (sym goes.inside), me.stands.1, goes.relies) }))
+            (subst (λ (q : Actor). CallerSound (record { buckets = y.shape.buckets; passes = y.shape.passes; format = y.vault.format; cells = y.vault.cells; dead = y.vault.dead; actor = q }) (pin_in y.words.pins a) (Some (call_at i c next)) (notes.begun a) P (notes.changed a)) (sym hand_a) (record { quiet = me.quiet; begins = me.begins; stands = (inside_side (pin_in y.words.pins a) next goes.inside (own_inside n calls y callers disk M P notes a i c at is sound inside), me.stands.1, goes.relies) }))
             sound.callers;
         reuse = take_reuse;
         ledger = ledger_turn callers a (call_at i c at) is next n calls y.shape.passes P M notes sound.ledger;
@@ -226,7 +227,7 @@ module _ (n calls : ℕ) (y : Yard) (callers : List (Option Caller)) (disk : Med
       (λ place lock. let mine = subst (λ (q : Actor). HasLock q place) hand lock in record { locks = mine.locks; among = mine.among })
       (subst (λ (q : Actor). RestsOn y.shape.buckets q.hold q P) (sym hand) (subst (λ (q : Hold). RestsOn y.shape.buckets q x P) (sym h.0.hold) tt)))
       (fresh_grip y.vault.dead (actor_at y a) x (ap (closes y.vault.dead) h.0.hold) (ap (opens y.vault.dead) h.0.hold) (ap has_removed_node h.0.hold) (ap has_removed_node h.0.hold) (ap shuts h.0.hold) (ap unlocks h.0.hold) (sym h.1))
-      (record { quiet = me.quiet; begins = me.begins; stands = (me.stands.0 ∙ ap side_of (sym goes.inside), me.stands.1, goes.relies) })
+      (record { quiet = me.quiet; begins = me.begins; stands = (inside_side (pin_in y.words.pins a) (next None) goes.inside me.stands.0, me.stands.1, goes.relies) })
 
   -- the lowest free slot
   some_keeps : (s : ℕ) → lowest_free uses ≡ Some s → Sound n calls (then (Some s)) (moving callers a (call_at i c (Reserving again)) (next (Some s))) disk M P notes

@@ -76,7 +76,7 @@ module _ (n calls : ℕ) (y : Yard) (callers : List (Option Caller)) (disk : Med
   pin_turn c is now = by_course_too n calls y callers disk M P start notes up a i c (Playing Pinning 0) is refl Pin refl now (elim (eqb_tells (pin_of y a) last_pin) [
     | inl last ↦ subst (Goes n calls y callers disk M P start notes a (call_at i c (Playing Pinning 0)) Pin) (sym (worn last.0)) (
       notes,
-      turned_same n calls y callers disk M P start notes up a i c (Playing Pinning 0) is refl y Worn disk [] refl refl (worn_keeps n calls y callers disk M P notes a i c is up.sound),
+      turned_same n calls y callers disk M P start notes up a i c (Playing Pinning 0) is refl y Worn disk [] refl refl (worn_keeps n calls y callers disk M P notes a i c is last.1 up.sound),
       noted_same y.words.pins y.words.pins P notes.begun refl,
       told_same y.words.pins P notes.changed,
     )

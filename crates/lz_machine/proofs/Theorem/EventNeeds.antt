@@ -35,7 +35,7 @@ use Rattle.lz_machine.specs.Calls.{event_at, loaded}
 use Rattle.lz_machine.specs.Orders.{MayTake}
 use Rattle.lz_machine.specs.Runs.{Caller}
 use Rattle.lz_machine.specs.Notes.{Notes}
-use Rattle.lz_machine.specs.CallersSound.{View, view_of, Relies, is_before_pin, side_of, IsLooking}
+use Rattle.lz_machine.specs.CallersSound.{View, view_of, Relies, IsSide, is_before_pin, side_of, IsLooking}
 use Rattle.lz_machine.specs.LocksSound.{RestsOn, IsChecked}
 use Rattle.lz_machine.specs.Sound.{Sound}
 use Rattle.lz_machine.proofs.Frames.Ranges.{on_range, stood_range, head_range, few_slots}
@@ -54,10 +54,6 @@ timely y a e has =
 
 inside_odd : (pin : ℕ) → pin % 2 ≡ 1 → not (is_outside pin) ≡ true
 inside_odd pin odd = ap (λ (q : ℕ). not (q == 0)) odd
-
--- A call that is refused because its pass is worn has the last pin.
-abbrev pub IsWornAt : ℕ → Progress → Type 0
-IsWornAt pin at = at ≡ Answering SaysWorn → pin ≡ last_pin
 
 module _ (n calls : ℕ) (y : Yard) (callers : List (Option Caller)) (disk : Medium) (M : History) (P : Trace) (notes : Notes) (sound : Sound n calls y callers disk M P notes) (a : ℕ) where
   abbrev actor : Actor
@@ -135,21 +131,21 @@ module _ (n calls : ℕ) (y : Yard) (callers : List (Option Caller)) (disk : Med
   answers_worn : pin_of y a ≡ last_pin → needs y a Answer ≡ true
   answers_worn last = out_needs actor (pin_of y a) (worn_out actor (pin_of y a) last)
 
-  answer_has : (c : Command) (reply : Reply) → IsWornAt (pin_of y a) (Answering reply) → pin_of y a % 2 ≡ side_of (is_before_pin (Answering reply)) → Relies v c (Answering reply) (notes.begun a) P (notes.changed a) → needs y a Answer ≡ true
-  answer_has c SaysWorn worn pin h = answers_worn (worn refl)
-  answer_has c SaysOldFile worn pin h = out_needs actor (pin_of y a) (refused_out actor (pin_of y a) pin h.3)
-  answer_has c _ worn pin h = answers_inside pin
+  answer_has : (c : Command) (reply : Reply) → IsSide (pin_of y a) (Answering reply) → Relies v c (Answering reply) (notes.begun a) P (notes.changed a) → needs y a Answer ≡ true
+  answer_has c SaysWorn pin h = answers_worn pin
+  answer_has c SaysOldFile pin h = out_needs actor (pin_of y a) (refused_out actor (pin_of y a) pin h.3)
+  answer_has c _ pin h = answers_inside pin
 
   -- a call's next event has what it needs
-  pub has_needs : (c : Command) (at : Progress) → IsWornAt (pin_of y a) at → pin_of y a % 2 ≡ side_of (is_before_pin at) → Relies v c at (notes.begun a) P (notes.changed a)
+  pub has_needs : (c : Command) (at : Progress) → IsSide (pin_of y a) at → Relies v c at (notes.begun a) P (notes.changed a)
       → needs y a (loaded y.words (event_at y.shape c at)) ≡ true
-  has_needs c (Playing sequence i) worn pin h = sequence_has c sequence i pin h
-  has_needs c (Reserving again) worn pin h = ap (λ (q : Option ℕ). not (is_some q)) h.1
-  has_needs c (SeeingPins p) worn pin h = refl
-  has_needs c (Claiming aim pred curr) worn pin h = ap may_claim h.0.hold
-  has_needs c (Checking aim curr) worn pin h = ap may_check h.1
-  has_needs c (Answering reply) worn pin h = answer_has c reply worn pin h
-  has_needs c _ worn pin h = inside_odd (pin_of y a) pin
+  has_needs c (Playing sequence i) pin h = sequence_has c sequence i pin h
+  has_needs c (Reserving again) pin h = ap (λ (q : Option ℕ). not (is_some q)) h.1
+  has_needs c (SeeingPins p) pin h = refl
+  has_needs c (Claiming aim pred curr) pin h = ap may_claim h.0.hold
+  has_needs c (Checking aim curr) pin h = ap may_check h.1
+  has_needs c (Answering reply) pin h = answer_has c reply pin h
+  has_needs c _ pin h = inside_odd (pin_of y a) pin
 
 -- What a caller takes is in range.
 module _ (n calls : ℕ) (y : Yard) (callers : List (Option Caller)) (disk : Medium) (M : History) (P : Trace) (notes : Notes) (sound : Sound n calls y callers disk M P notes) (a : ℕ) (c : Command) where

@@ -29,7 +29,7 @@ use Rattle.lz_machine.specs.declared.event.Event.{Event}
 use Rattle.lz_machine.specs.declared.event.Event.TheVariants.{Invoke, Pin, WriteKey, Check, WriteOpen, Link, WriteClose, Mark, Release, Unlink, Retire, Answer}
 use Rattle.lz_slot.proofs.Files.ExactBytes.{key_of_format}
 use Rattle.lz_vault.specs.Members.{no_cell}
-use Rattle.lz_machine.specs.Yards.{Shape, Yard, actor_at, cell_at, actor_in, stage_in, cell_in}
+use Rattle.lz_machine.specs.Yards.{Shape, Yard, actor_at, cell_at, actor_in, stage_in, cell_in, pin_in}
 use Rattle.lz_machine.specs.Table.{needs, course, is_unused, has_stage, has_checked, has_opened, has_marked, is_old}
 use Rattle.lz_machine.specs.Calls.{event_at, loaded}
 use Rattle.lz_machine.specs.Runs.{Point, Service, Caller, caller_at, next_event, with_words, first_point, run, IsNext, MayPlay}
@@ -52,6 +52,7 @@ use Rattle.lz_machine.proofs.Crash.ImageSlots.{node_stands}
 use Rattle.lz_machine.proofs.Steps.WriteClose.{checked_node}
 use Rattle.lz_machine.proofs.Theorem.Needs.{Knows, check_locks, is_checked, is_closed, is_keyed, is_marking, is_opened, is_released, opens_alive, release_locks, some_of}
 use Rattle.lz_machine.proofs.Frames.Ranges.{few_slots}
+use Rattle.lz_machine.proofs.Frames.Outside.{side_even}
 
 -- the yard of a sound service, with words of which only pins differ, and not the actor's own
 module _ (n calls : ℕ) (y : Yard) (callers : List (Option Caller)) (disk : Medium) (M : History) (P : Trace) (notes : Notes) (sound : Sound n calls y callers disk M P notes)
@@ -270,7 +271,7 @@ module _ (y : Yard) (honest : Bool) (disk : Medium) (a : ℕ) (e : Event) (may :
         let caller = next_of may.service a e other may.next in
         let sound = sound_there.up.sound in
         let own = mine may.service.yard.shape may.service.yard.vault may.service.yard.words.pins may.service.yard.actors may.service.callers last.trace sound_there.notes a caller.0 caller.1 sound.callers in
-        caller_knows may.service.yard.words may.service.yard.shape (view_of may.service.yard.shape may.service.yard.vault may.service.yard.actors a) caller.0.command (sound_there.notes.begun a) last.trace (sound_there.notes.changed a) caller.0.progress (λ after. own.stands.1 (own.stands.0 ∙ ap side_of after)) own.stands.2 e caller.2
+        caller_knows may.service.yard.words may.service.yard.shape (view_of may.service.yard.shape may.service.yard.vault may.service.yard.actors a) caller.0.command (sound_there.notes.begun a) last.trace (sound_there.notes.changed a) caller.0.progress (λ after. own.stands.1 (side_even (pin_in may.service.yard.words.pins a) caller.0.progress own.stands.0 ∙ ap side_of after)) own.stands.2 e caller.2
   ]
     where
       begins_knowing : (e' : Event) → is_invoke e' ≡ true → Knows may.service.yard.vault.format (actor_in may.service.yard.actors a) e'

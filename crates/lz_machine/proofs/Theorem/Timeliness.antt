@@ -1,6 +1,5 @@
 -- A caller's next event comes in time: it is an event of its yard, it has what it needs, and its caller may take what it gives.
-use Rattle.std.proofs.Common.{◌≡◌, ◌≢◌, ℕ, List, Option, Some, refl, subst}
-use Rattle.std.specs.List.{list_any}
+use Rattle.std.proofs.Common.{◌≡◌, ◌≢◌, ℕ, List, Some, refl, subst}
 use Rattle.lz_disk.specs.Images.{Medium}
 use Rattle.lz_machine.specs.declared.event.Outcome.TheVariants.{NotNow}
 use Rattle.lz_machine.specs.declared.event.Reply.TheVariants.{Worn as SaysWorn}
@@ -9,14 +8,13 @@ use Rattle.lz_machine.specs.Table.{last_pin, pin_of, line}
 use Rattle.lz_machine.specs.Orders.{MayTake}
 use Rattle.lz_machine.specs.Runs.{Start, Up, Transition, Point, Service, Caller, caller_at, next_event, first_point, run, IsRun, IsStart}
 use Rattle.lz_machine.specs.InTime.{NeverLate}
-use Rattle.lz_machine.specs.CallersSound.{view_of, CallerSound}
+use Rattle.lz_machine.specs.CallersSound.{view_of, CallerSound, IsSide}
 use Rattle.lz_machine.specs.Sound.{IsSound}
 use Rattle.lz_machine.specs.Ready.{IsEventOf}
 use Rattle.lz_machine.proofs.Frames.OneActor.{mine}
 use Rattle.lz_machine.proofs.Runs.EventRange.{asks}
 use Rattle.lz_machine.proofs.Theorem.Reached.{reached_sound, IsUpAt, up_at}
-use Rattle.lz_machine.proofs.Theorem.EventNeeds.{IsWornAt, has_needs, takes, timely}
-use Rattle.lz_machine.proofs.Theorem.WornPass.{AllFit, Fits, is_look, run_fits}
+use Rattle.lz_machine.proofs.Theorem.EventNeeds.{has_needs, takes, timely}
 
 -- At a sound point: what a caller's next event is, has and gives.
 module _ (start : Start) (p : Point) (service : Service) (disk : Medium) (sound : IsSound start p) (is : p.state ≡ Up service disk) where
@@ -31,29 +29,23 @@ module _ (start : Start) (p : Point) (service : Service) (disk : Medium) (sound 
     pub is_event_there : IsEventOf service.yard (next_event service.yard caller)
     is_event_there = asks here.n p.calls service.yard service.callers disk here.life.history p.trace here.notes here.up.sound service.yard.words refl refl refl a caller.command caller.progress own.stands.2
 
-    -- It comes in time. Of a call that is refused because its pass is worn, the invariant doesn't say that the pin is the last.
-    in_time_there : IsWornAt (pin_of service.yard a) caller.progress → (line service.yard a (next_event service.yard caller)).1 ≢ NotNow
-    in_time_there worn =
-        timely service.yard a (next_event service.yard caller) (has_needs here.n p.calls service.yard service.callers disk here.life.history p.trace here.notes here.up.sound a caller.command caller.progress worn own.stands.0 own.stands.2)
+    -- it comes in time
+    pub in_time_there : (line service.yard a (next_event service.yard caller)).1 ≢ NotNow
+    in_time_there =
+        timely service.yard a (next_event service.yard caller) (has_needs here.n p.calls service.yard service.callers disk here.life.history p.trace here.notes here.up.sound a caller.command caller.progress own.stands.0 own.stands.2)
+
+    -- where its pass is worn, it has the last pin
+    pub worn_there : caller.progress ≡ Answering SaysWorn → pin_of service.yard a ≡ last_pin
+    worn_there is = subst (IsSide (pin_of service.yard a)) is own.stands.0
 
     -- its caller may take what it gives
     pub may_take_there : MayTake caller.progress (line service.yard a (next_event service.yard caller)).1
     may_take_there = takes here.n p.calls service.yard service.callers disk here.life.history p.trace here.notes here.up.sound a caller.command caller.progress own.stands.2
 
--- At a point that a run reaches.
-module _ (start : Start) (steps : List Transition) (is : IsStart start) (runs : IsRun (first_point start) steps) (service : Service) (disk : Medium) (state : (run (first_point start) steps).state ≡ Up service disk) (a : ℕ) where
-  fits_here : Fits (list_any is_look steps) (caller_at service.callers a) (pin_of service.yard a)
-  fits_here = all (subst (AllFit (list_any is_look steps)) state (run_fits start steps is runs))
-    where
-      all : AllFit (list_any is_look steps) (Up service disk) → Fits (list_any is_look steps) (caller_at service.callers a) (pin_of service.yard a)
-      all fits = fits a
-
-  -- a call whose pass is worn has the last pin
-  pub worn_there : (caller : Caller) → caller_at service.callers a ≡ Some caller → caller.progress ≡ Answering SaysWorn → pin_of service.yard a ≡ last_pin
-  worn_there caller at = subst (λ (q : Option Caller). Fits (list_any is_look steps) q (pin_of service.yard a)) at fits_here
-
-  pub in_time_reached : (caller : Caller) → caller_at service.callers a ≡ Some caller → (line service.yard a (next_event service.yard caller)).1 ≢ NotNow
-  in_time_reached caller at = in_time_there start (run (first_point start) steps) service disk (reached_sound start steps is runs) state a caller at (worn_there caller at)
+-- at a point that a run reaches
+pub in_time_reached : (start : Start) (steps : List Transition) → IsStart start → IsRun (first_point start) steps → (service : Service) (disk : Medium) → (run (first_point start) steps).state ≡ Up service disk
+    → (a : ℕ) (caller : Caller) → caller_at service.callers a ≡ Some caller → (line service.yard a (next_event service.yard caller)).1 ≢ NotNow
+in_time_reached start steps is runs service disk state a caller at = in_time_there start (run (first_point start) steps) service disk (reached_sound start steps is runs) state a caller at
 
 pub never_late : NeverLate
 never_late start service disk M P a caller reached at = in_time_reached start reached.steps reached.starts reached.runs service disk reached.state a caller at

@@ -22,6 +22,7 @@ use Rattle.lz_machine.proofs.Frames.OneLoad.{there_since, loaded, wanted}
 use Rattle.lz_machine.proofs.Frames.Ranges.{few_slots}
 use Rattle.lz_machine.proofs.Theorem.Reached.{reached_sound, up_at}
 use Rattle.lz_machine.proofs.Theorem.TraceOutside.{calls_stand}
+use Rattle.lz_machine.proofs.Frames.Outside.{side_even}
 
 module _ (shape : Shape) (words : Words) (P : Trace) (trace : TraceSound shape words P) (few : shape.slots ≤ most_slots) (P0 : Trace) (quiet : IsQuiet shape.buckets P0 P) (begins : Begins P0 P) (k : ℕ) where
   abbrev buckets : ℕ
@@ -63,7 +64,7 @@ walk_ends start steps service disk a caller aim look is runs state calls walking
     let v = view_of service.yard.shape service.yard.vault service.yard.actors a in
     let here = up_at start p service disk (reached_sound start steps is runs) state in
     let own = subst (λ (who : Option Caller). IsCaller v pin who (here.notes.begun a) p.trace (here.notes.changed a)) calls (here.up.sound.callers.each a).stands in
-    let inside : IsInside pin = own.0 ∙ ap (λ (at : Progress). side_of (is_before_pin at)) walking in
+    let inside : IsInside pin = side_even pin caller.progress own.0 ∙ ap (λ (at : Progress). side_of (is_before_pin at)) walking in
     let stands = calls_stand start steps service disk a is runs state inside in
     let me = subst (λ (who : Option Caller). IsCaller v pin who B p.trace (own_change a (length B) p.trace)) calls stands.stands in
     let h = subst (λ (at : Progress). Relies v caller.command at B p.trace (own_change a (length B) p.trace)) walking me.2 in
