@@ -14,8 +14,6 @@ use Rattle.lz_machine.specs.Runs.{Start, State, Up, Down, Point, MayLeave, mark_
 use Rattle.lz_machine.specs.CallersSound.{View, Relies}
 use Rattle.lz_machine.specs.Sound.{IsSound}
 use Rattle.lz_machine.specs.Alone.{has_cut, IsPlain, ArePlain}
-use Rattle.lz_machine.proofs.Steps.Point as at_point
-use Rattle.lz_machine.proofs.Steps.Answer.{answer_up}
 use Rattle.lz_machine.proofs.Crash.Leftovers.{IsLeft, may_leave_has}
 use Rattle.lz_machine.proofs.Alone.Service.{Ended, IsEnd, served, served_cut}
 use Rattle.lz_machine.proofs.Alone.Run.{IsHalting, AloneUp}
@@ -56,4 +54,4 @@ served_halting S i a c reply M T h7 cut h = grind arith
 
 -- the lists of a sound point
 pub left_at : (start : Start) (q : Point) (t : List ℕ) → IsSound start q → MayLeave q.state t → IsLeft q t (lives (start_keys start) q.marks)
-left_at start q t sound leaves = may_leave_has (at_point.turn_keeps answer_up) start q.state q.marks q.trace q.calls t sound leaves
+left_at start q t sound leaves = may_leave_has start q.state q.marks q.trace q.calls t sound leaves

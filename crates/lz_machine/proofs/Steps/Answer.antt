@@ -47,7 +47,6 @@ use Rattle.lz_machine.proofs.Ledger.Parts.{ending, ends_now, none_now, changed_s
 use Rattle.lz_machine.proofs.Ledger.End.{after_ended, tail_ended}
 use Rattle.lz_machine.proofs.Ledger.Reply.{EndsSo, ends}
 use Rattle.lz_machine.proofs.Steps.ReturnedSlot.{closed_unused, given_slots, given_locks, given_reuse, given_none, given_hold, held_then, hand_b}
-use Rattle.lz_machine.proofs.Steps.Point.{AnswerUp}
 use Rattle.lz_machine.proofs.Frames.PinNotes.{IsNoted, noted_same, noted_out}
 use Rattle.lz_machine.proofs.Frames.ChangeNotes.{IsTold, told_ended, told_out}
 use Rattle.lz_machine.proofs.Frames.PinOrder.{since_out}
@@ -291,12 +290,9 @@ module _ (n calls : ℕ) (y : Yard) (callers : List (Option Caller)) (disk : Med
       (record { start = start; history = mark_of i says ∷ M }) P noted × IsNoted y.words.pins (line_on taken y (actor_at y a) a Answer).0.words.pins P notes.begun noted.begun
       × IsTold (line_on taken y (actor_at y a) a Answer).0.words.pins P notes.changed P noted.changed
 
-  answered : (line y a Answer).1 ≢ NotNow → AnsweredOn (course y a Answer)
-  answered now = ⊎_elim
+  -- an answer keeps the invariant of an open service
+  pub answer_up : (line y a Answer).1 ≢ NotNow → AnsweredOn (course y a Answer)
+  answer_up now = ⊎_elim
       (λ plays. subst AnsweredOn (sym plays.1) (done plays.0))
       (λ not_yet. absurd (now (ap (λ (taken : Course). (line_on taken y (actor_at y a) a Answer).1) not_yet)))
       (answer_plays y a)
-
--- an answer keeps the invariant of an open service
-pub answer_up : AnswerUp
-answer_up n calls y callers disk M P start notes a i c says is up now = answered n calls y callers disk M P start notes a i c says is up now

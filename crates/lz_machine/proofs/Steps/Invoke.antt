@@ -10,7 +10,7 @@ use Rattle.lz_slot.specs.declared.command.Command.TheVariants.{Add, Remove}
 use Rattle.lz_slot.specs.declared.history.Mark.{Mark}
 use Rattle.lz_slot.specs.declared.history.Mark.TheVariants.{Call, Answer, Refused}
 use Rattle.lz_slot.specs.Counted.{set_of_pass}
-use Rattle.lz_slot.specs.Histories.{History, IsCalled, IsAnswered, IsUnderWay, Life, lives, with_mark}
+use Rattle.lz_slot.specs.Histories.{History, IsCalled, IsAnswered, IsUnderWay, Life}
 use Rattle.lz_slot.proofs.Counted.{of_pass_same, of_pass_other, length-set_of_pass}
 use Rattle.lz_disk.specs.Images.{Medium}
 use Rattle.lz_list.specs.Traces.{Trace}
@@ -19,20 +19,19 @@ use Rattle.lz_machine.specs.Calls.{begun}
 use Rattle.lz_machine.specs.Kept.{publishing}
 use Rattle.lz_machine.specs.Ledgers.{Row, HasRow, Each, change_at, times}
 use Rattle.lz_machine.specs.Entries.{IsRowIn, IsLedger, IsSettledEntry, IsChangeOf}
-use Rattle.lz_machine.specs.Runs.{Start, Service, Caller, Up, Calls, MayStep, invoked, point_after, caller_at, start_keys}
+use Rattle.lz_machine.specs.Runs.{Service, Caller, Up, Calls, MayStep, invoked, caller_at}
 use Rattle.lz_machine.specs.Yards.{Yard, pin_in, actor_in, cell_in, IsInside}
 use Rattle.lz_machine.specs.Table.{pin_of, is_old as is_old_file}
 use Rattle.lz_machine.specs.Notes.{Notes, pending_row, pending, entries}
 use Rattle.lz_machine.specs.CallersSound.{IsSide, IsEmptyHanded, Relies, view_of, CallerSound, CallersSound}
 use Rattle.lz_machine.specs.LedgerSound.{LedgerSound, HasTail, TailsSound}
-use Rattle.lz_machine.specs.Sound.{Sound, IsAfter, UpSound, PointSound, IsSound}
+use Rattle.lz_machine.specs.Sound.{Sound, IsAfter, UpSound}
 use Rattle.lz_machine.proofs.Frames.ActorTable.{by_actor}
 use Rattle.lz_machine.proofs.Frames.Outside.{even_of}
 use Rattle.lz_machine.proofs.Frames.Refusal.{begun_side, begun_relies, noted_refusal, invoked_up}
 use Rattle.lz_machine.proofs.Ledger.Fit.{each_has}
 use Rattle.lz_machine.proofs.Ledger.Answers.{each_weaker}
 use Rattle.lz_machine.proofs.Ledger.Order.{has_left}
-use Rattle.lz_machine.proofs.Steps.Trip.{point}
 use Rattle.lz_machine.proofs.Runs.CallerTable.{none_of}
 use Rattle.lz_machine.proofs.Ledger.CallMark.{number_of, is_call}
 
@@ -269,11 +268,3 @@ module _ (n calls : ℕ) (service : Service) (disk : Medium) (life : Life) (P : 
       (λ idle unchanged. begun_relies (view_of service.yard.shape service.yard.vault (invoked service.yard a c).actors a) c (notes.begun a) P (notes.changed a)
       (noted_refusal n calls service.yard service.callers disk life.history P notes a c may.0.0 in_actors none up.sound) idle unchanged)
       life.start (invoked_up n calls service.yard service.callers disk life P notes a c may.0.0 in_actors none up)
-
--- at a point: a call that may begin keeps the invariant
-pub call_keeps : (start : Start) (a : ℕ) (c : Command) (service : Service) (disk : Medium) (M : History) (P : Trace) (calls : ℕ) → IsSound start (point (Up service disk) M P calls) → MayStep (Up service disk) (Calls a c) → IsSound start (point_after (point (Up service disk) M P calls) (Calls a c))
-call_keeps start a c service disk M P calls sound may = go (lives (start_keys start) M) sound
-  where
-    go : (L : List Life) → PointSound start (point (Up service disk) M P calls) L → PointSound start (point_after (point (Up service disk) M P calls) (Calls a c)) (with_mark (Call (suc calls) a c) L)
-    go [] h = absurd h
-    go (life ∷ earlier) h = (h.0, h.1, (h.2.0, h.2.1, call_up h.2.0 calls service disk life P h.2.1 a c may h.2.2))

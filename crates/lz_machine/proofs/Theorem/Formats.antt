@@ -18,8 +18,7 @@ use Rattle.lz_machine.specs.Notes.{Notes}
 use Rattle.lz_machine.specs.Sound.{UpSound, IsSound}
 use Rattle.lz_machine.specs.Formats.{HasFormat, FormatsStay}
 use Rattle.lz_machine.proofs.Steps.Trip.{point}
-use Rattle.lz_machine.proofs.Steps.Point as at_point
-use Rattle.lz_machine.proofs.Steps.Answer.{answer_up}
+use Rattle.lz_machine.proofs.Steps.Point.{turn_keeps}
 use Rattle.lz_machine.proofs.Crash.Down.{rest_image}
 use Rattle.lz_machine.proofs.Open.FirstPoint.{down_seen}
 use Rattle.lz_machine.proofs.Theorem.Reached.{reached_sound, up_at}
@@ -59,7 +58,7 @@ module _ (start : Start) (service : Service) (disk : Medium) (M : History) (P : 
       let e = next_event service.yard caller in
       let after = point_after (point (Up service disk) M P calls) (Turn a) in
       let there = up_at start after (played service a caller (line service.yard a e)) (medium_after (line_call service.yard a e) disk)
-      (at_point.turn_keeps answer_up start a service disk M P calls sound (subst (HasTurn service a) (sym at) (timely a caller at))) (ap (after_turn service disk a) at) in
+      (turn_keeps start service disk M P calls sound a (subst (HasTurn service a) (sym at) (timely a caller at))) (ap (after_turn service disk a) at) in
       named there.n after.calls (played service a caller (line service.yard a e)) (medium_after (line_call service.yard a e) disk) there.life after.trace there.notes there.up t image
       ∙ line_format (course service.yard a e) service.yard a e
 

@@ -8,10 +8,7 @@ use Rattle.lz_machine.specs.Laws.{EveryHistory, WhatLasts, WalksMove}
 use Rattle.lz_machine.specs.Notes.{Notes}
 use Rattle.lz_machine.specs.Sound.{IsSound, UpSound, StateSound, PointSound}
 use Rattle.lz_machine.proofs.Steps.Trip.{point, trips_up, trips_down}
-use Rattle.lz_machine.proofs.Steps.Invoke.{call_keeps}
-use Rattle.lz_machine.proofs.Steps.Point as at_point
-use Rattle.lz_machine.proofs.Steps.Point.{fails_keeps, looks_keeps}
-use Rattle.lz_machine.proofs.Steps.Answer.{answer_up}
+use Rattle.lz_machine.proofs.Steps.Point.{call_keeps, turn_keeps, fails_keeps, looks_keeps}
 use Rattle.lz_machine.proofs.Crash.Down.{stops_keeps, crashes_keeps, open_fails_keeps}
 use Rattle.lz_machine.proofs.Crash.Leftovers as leaving
 use Rattle.lz_machine.proofs.Open.FirstPoint.{first_sound, opens_keeps, down_seen}
@@ -19,14 +16,14 @@ use Rattle.lz_machine.proofs.Theorem.MovedLoad as walks
 
 -- each step keeps the invariant
 step_keeps : (start : Start) → IsStart start → (w : State) (M : History) (P : Trace) (calls : ℕ) (step : Transition) → IsSound start (point w M P calls) → MayStep w step → IsSound start (point_after (point w M P calls) step)
-step_keeps start is (Up service disk) M P calls (Calls a c) sound may = call_keeps start a c service disk M P calls sound may
-step_keeps start is (Up service disk) M P calls (Turn a) sound may = at_point.turn_keeps answer_up start a service disk M P calls sound may
-step_keeps start is (Up service disk) M P calls (Fails a new) sound may = fails_keeps start a new service disk M P calls sound may
-step_keeps start is (Up service disk) M P calls (Looks a) sound may = looks_keeps start a service disk M P calls sound may
+step_keeps start is (Up service disk) M P calls (Calls a c) sound may = call_keeps start service disk M P calls sound a c may
+step_keeps start is (Up service disk) M P calls (Turn a) sound may = turn_keeps start service disk M P calls sound a may
+step_keeps start is (Up service disk) M P calls (Fails a new) sound may = fails_keeps start service disk M P calls sound a new may
+step_keeps start is (Up service disk) M P calls (Looks a) sound may = looks_keeps start service disk M P calls sound a may
 step_keeps start is (Up service disk) M P calls Trips sound may = trips_up start service disk M P calls sound
 step_keeps start is w M P calls Stops sound may = stops_keeps start w M P calls sound may
 step_keeps start is w M P calls (Crashes t) sound may = crashes_keeps start w M P calls t sound may
-step_keeps start is w M P calls (CrashesIn a t) sound may = leaving.crash_in_keeps (at_point.turn_keeps answer_up) start w M P calls a t sound may
+step_keeps start is w M P calls (CrashesIn a t) sound may = leaving.crash_in_keeps start w M P calls a t sound may
 step_keeps start is w M P calls (OpenFails why done) sound may = open_fails_keeps start w M P calls why done sound may
 step_keeps start is (Down shape disk) M P calls Trips sound may = trips_down start shape disk M P calls sound
 step_keeps start is (Down shape disk) M P calls Opens sound may = opens_keeps start shape disk M P calls is (down_seen start shape disk M P calls sound) sound may
@@ -56,10 +53,10 @@ up_at start p service disk sound is = go (lives (start_keys start) p.marks) soun
         record { n = there.0; life = life; notes = there.1; up = there.2 }
 
 pub every_history : EveryHistory
-every_history = leaving.every_history (at_point.turn_keeps answer_up) reached_sound
+every_history = leaving.every_history reached_sound
 
 pub what_lasts : WhatLasts
-what_lasts = leaving.what_lasts (at_point.turn_keeps answer_up) reached_sound
+what_lasts = leaving.what_lasts reached_sound
 
 pub walks_move : WalksMove
 walks_move = walks.walks_move reached_sound

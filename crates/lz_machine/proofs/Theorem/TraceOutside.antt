@@ -1,10 +1,8 @@
 -- The notes of a pass that is inside are those of the trace at which it went in.
-use Rattle.std.proofs.Common.{◌≡◌, ◌⊎◌, inl, inr, ℕ, suc, ◌≤◌, ◌%◌, if◌then◌else◌, Bool, true, false, List, [], ◌∷◌, ◌++◌, length, Option, Some, None, refl, sym, ap, ◌∙◌, subst, arith}
+use Rattle.std.proofs.Common.{◌≡◌, ◌⊎◌, inl, inr, ℕ, suc, ◌≤◌, ◌%◌, if◌then◌else◌, Bool, true, false, List, [], ◌∷◌, ◌++◌, length, Option, refl, sym, ap, ◌∙◌, subst, arith}
 use mathlib.Core.Bool.{false≢true}
 use Rattle.std.proofs.lemmas.Bool.{cases_eq}
 use Rattle.std.proofs.lemmas.Bool.Decides.{nat_tests}
-use Rattle.lz_slot.specs.declared.command.Command.{Command}
-use Rattle.lz_slot.specs.declared.history.Mark.TheVariants.{Call}
 use Rattle.lz_slot.specs.Histories.{Life}
 use Rattle.lz_disk.specs.Images.{Medium, at_rest, synced}
 use Rattle.lz_vault.specs.declared.vault.Stage.{Stage}
@@ -13,30 +11,20 @@ use Rattle.lz_vault.specs.Stages.{is_covered}
 use Rattle.lz_allot.specs.Uses.{is_outside}
 use Rattle.lz_list.specs.Pinned.{Stood}
 use Rattle.lz_list.specs.Traces.{Trace, is_marked}
-use Rattle.lz_machine.specs.declared.event.Reply.{Reply}
-use Rattle.lz_machine.specs.declared.caller.Progress.{Progress}
-use Rattle.lz_machine.specs.declared.caller.Progress.TheVariants.{Answering}
 use Rattle.lz_machine.specs.Yards.{Shape, IsInside, pin_in, stage_in}
 use Rattle.lz_machine.specs.CallsStand.{is_out, trace_outside, own_change, CallsStand, MarkedIsClosed}
-use Rattle.lz_machine.specs.Runs.{Start, IsStart, Caller, Service, State, Up, Down, Transition, Calls, Turn, Fails, Looks, Trips, Stops, Crashes, Opens, OpenFails, Point, MayStep, HasTurn, HasFault, IsRun, run, first_point, point_after, caller_at, state_after, trace_after, calls_made_after, after_turn, after_fault, turn_publishes, reply_at, opened_service, marks_of, mark_of}
+use Rattle.lz_machine.specs.Runs.{Start, IsStart, Service, State, Up, Down, Transition, Trips, Stops, Crashes, Opens, OpenFails, Point, MayStep, IsRun, run, first_point, point_after, caller_at, state_after, trace_after, calls_made_after, opened_service, marks_of}
 use Rattle.lz_machine.specs.Notes.{Notes}
 use Rattle.lz_machine.specs.CallersSound.{CallerSound, view_of}
 use Rattle.lz_machine.specs.SlotsSound.{SlotStands, is_node, is_held, is_out as is_gone, is_free, is_limbo, IsNodeStage}
 use Rattle.lz_machine.specs.Sound.{UpSound, IsSound}
 use Rattle.lz_machine.specs.Limbo.{IsAway}
 use Rattle.lz_machine.proofs.Steps.Trip.{point}
-use Rattle.lz_machine.proofs.Steps.Hop.{call_at}
-use Rattle.lz_machine.proofs.Steps.Answer.{answer_up}
-use Rattle.lz_machine.proofs.Steps.Fault.{fault_up}
-use Rattle.lz_machine.proofs.Steps.Invoke.{call_up}
-use Rattle.lz_machine.proofs.Steps.Point.{look_up, answer_publishes}
-use Rattle.lz_machine.proofs.Steps.Turn.{turn_up}
-use Rattle.lz_machine.proofs.Frames.PinNotes.{IsNoted, noted_same}
-use Rattle.lz_machine.proofs.Frames.ChangeNotes.{IsTold, told_same, none_beyond, none_outside}
+use Rattle.lz_machine.proofs.Steps.Point.{NextAt, marked, up_next}
+use Rattle.lz_machine.proofs.Frames.ChangeNotes.{none_beyond, none_outside}
 use Rattle.lz_machine.proofs.Frames.Limbo.{shorter}
 use Rattle.lz_machine.proofs.Frames.Ranges.{stood_range}
 use Rattle.lz_machine.proofs.Open.FoundSlots.{pass_of}
-use Rattle.lz_machine.proofs.Runs.CallerTable.{none_of}
 use Rattle.lz_machine.proofs.Theorem.Reached.{reached_sound, up_at}
 
 -- an open service is sound, with notes that are tied to these traces
@@ -51,83 +39,6 @@ pub record IsTied (calls : ℕ) (service : Service) (disk : Medium) (P : Trace) 
 abbrev TiedAt : ℕ → Trace → State → (ℕ → Trace) → Type 0
 TiedAt calls P (Up service disk) B = IsTied calls service disk P B
 TiedAt calls P (Down shape disk) B = Unit {0}
-
--- the service after a step is sound, with notes that go on from those before
-record GoesOn (calls : ℕ) (pins : List ℕ) (P : Trace) (before : Notes) (service : Service) (disk : Medium) (Q : Trace) : Type 0 where
-  n : ℕ
-  life : Life
-  notes : Notes
-  up : UpSound n calls service disk life Q notes
-  noted : IsNoted pins service.yard.words.pins P before.begun notes.begun
-  told : IsTold service.yard.words.pins P before.changed Q notes.changed
-
-abbrev NextAt : ℕ → List ℕ → Trace → Notes → State → Trace → Type 0
-NextAt calls pins P before (Up service disk) Q = GoesOn calls pins P before service disk Q
-NextAt calls pins P before (Down shape disk) Q = Unit {0}
-
-module _ (calls : ℕ) (service : Service) (disk : Medium) (P : Trace) (B : ℕ → Trace) (h : IsTied calls service disk P B) (a : ℕ) where
-  abbrev pins : List ℕ
-  pins = service.yard.words.pins
-
-  call_next : (c : Command) → MayStep (Up service disk) (Calls a c) → NextAt (suc calls) pins P h.notes (state_after (suc calls) (Up service disk) (Calls a c)) P
-  call_next c may = record {
-    n = h.n;
-    life = record { start = h.life.start; history = Call (suc calls) a c ∷ h.life.history };
-    notes = h.notes;
-    up = call_up h.n calls service disk h.life P h.notes a c may h.up;
-    noted = noted_same pins pins P h.notes.begun refl;
-    told = told_same pins P h.notes.changed;
-  }
-
-  abbrev TurnNext : Option Caller → Type 0
-  TurnNext who = NextAt calls pins P h.notes (after_turn service disk a who) (turn_publishes service a who ++ P)
-
-  going_next : (i : ℕ) (c : Command) (at : Progress) → caller_at service.callers a ≡ Some (call_at i c at) → reply_at at ≡ None → HasTurn service a (Some (call_at i c at)) → TurnNext (Some (call_at i c at))
-  going_next i c at is goes_on may =
-      let done = turn_up h.n calls service.yard service.callers disk h.life.history P h.life.start h.notes h.up a i c at is goes_on may in
-      record { n = h.n; life = h.life; notes = done.0; up = done.1; noted = done.2; told = done.3 }
-
-  answer_next : (i : ℕ) (c : Command) (reply : Reply) → caller_at service.callers a ≡ Some (call_at i c (Answering reply)) → HasTurn service a (Some (call_at i c (Answering reply))) → TurnNext (Some (call_at i c (Answering reply)))
-  answer_next i c reply is may =
-      let done = answer_up h.n calls service.yard service.callers disk h.life.history P h.life.start h.notes a i c reply is h.up may in
-      subst (λ (Q : Trace). NextAt calls pins P h.notes (after_turn service disk a (Some (call_at i c (Answering reply)))) Q) (ap (λ (q : Trace). q ++ P) (sym (answer_publishes service.yard a)))
-      (record { n = h.n; life = record { start = h.life.start; history = mark_of i reply ∷ h.life.history }; notes = done.0; up = done.1; noted = done.2; told = done.3 })
-
-  caller_next : (i : ℕ) (c : Command) (at : Progress) → caller_at service.callers a ≡ Some (call_at i c at) → HasTurn service a (Some (call_at i c at)) → TurnNext (Some (call_at i c at))
-  caller_next i c (Answering reply) is may = answer_next i c reply is may
-  caller_next i c at is may = going_next i c at is refl may
-
-  turn_next : (who : Option Caller) → caller_at service.callers a ≡ who → HasTurn service a who → TurnNext who
-  turn_next None is may = absurd may
-  turn_next (Some caller) is may = caller_next caller.number caller.command caller.progress is may
-
-  fault_next : (new : Medium) (who : Option Caller) → caller_at service.callers a ≡ who → HasFault service disk a who new → NextAt calls pins P h.notes (after_fault service new a who) P
-  fault_next new None is may = absurd may
-  fault_next new (Some caller) is may = record {
-    n = h.n;
-    life = h.life;
-    notes = h.notes;
-    up = fault_up h.n calls service.yard service.callers disk h.life.history P h.life.start h.notes h.up a caller.number caller.command caller.progress is new may;
-    noted = noted_same pins pins P h.notes.begun refl;
-    told = told_same pins P h.notes.changed;
-  }
-
-  look_next : MayStep (Up service disk) (Looks a) → NextAt calls pins P h.notes (state_after (suc calls) (Up service disk) (Looks a)) P
-  look_next may =
-      let done = look_up h.n calls service.yard service.callers disk h.life.history P h.life.start h.notes a may.0.0 may.0.1 (none_of (caller_at service.callers a) may.1) may.2 h.up in
-      record { n = h.n; life = h.life; notes = done.0; up = done.1; noted = done.2; told = done.3 }
-
--- a step of an open service
-up_next : (calls : ℕ) (service : Service) (disk : Medium) (P : Trace) (B : ℕ → Trace) (h : IsTied calls service disk P B) (step : Transition) → MayStep (Up service disk) step
-    → NextAt (calls_made_after calls step) service.yard.words.pins P h.notes (state_after (suc calls) (Up service disk) step) (trace_after (Up service disk) P step)
-up_next calls service disk P B h (Calls a c) may = call_next calls service disk P B h a c may
-up_next calls service disk P B h (Turn a) may = turn_next calls service disk P B h a (caller_at service.callers a) refl may
-up_next calls service disk P B h (Fails a new) may = fault_next calls service disk P B h a new (caller_at service.callers a) refl may
-up_next calls service disk P B h (Looks a) may = look_next calls service disk P B h a may
-up_next calls service disk P B h Trips may = record { n = h.n; life = h.life; notes = h.notes; up = h.up; noted = noted_same service.yard.words.pins service.yard.words.pins P h.notes.begun refl; told = told_same service.yard.words.pins P h.notes.changed }
-up_next calls service disk P B h Opens may = absurd may
-up_next calls service disk P B h (OpenFails why done) may = absurd may
-up_next calls service disk P B h _ may = tt
 
 module _ (calls : ℕ) (service : Service) (disk : Medium) (P Q : Trace) (B : ℕ → Trace) (h : IsTied calls service disk P B) (out : (b : ℕ) → is_outside (pin_in service.yard.words.pins b) ≡ true → B b ≡ P) where
   went_in : (b : ℕ) → pin_in service.yard.words.pins b % 2 ≡ 0 → B b ≡ P
@@ -152,9 +63,9 @@ module _ (calls : ℕ) (service : Service) (disk : Medium) (P Q : Trace) (B : �
   ]
 
   -- notes that go on from tied ones are tied to the trace at which each pass went in, and to its own change since
-  tie : (later : ℕ) (w : State) → NextAt later service.yard.words.pins P h.notes w Q → TiedAt later Q w (λ b. if is_out w b then Q else B b)
-  tie later (Down shape left) next = tt
-  tie later (Up after left) next = record { n = next.n; life = next.life; notes = next.notes; up = next.up; tied = tied; told = told }
+  tie : (later : ℕ) (life : Life) (w : State) → NextAt h.n later life service.yard.words.pins P h.notes w Q → TiedAt later Q w (λ b. if is_out w b then Q else B b)
+  tie later life (Down shape left) next = tt
+  tie later life (Up after left) next = record { n = h.n; life = life; notes = next.notes; up = next.up; tied = tied; told = told }
     where
       same : (b : ℕ) → IsInside (pin_in after.yard.words.pins b) → (if is_outside (pin_in after.yard.words.pins b) then Q else B b) ≡ B b
       same b inside =
@@ -183,8 +94,8 @@ step_tied : (start : Start) (w : State) (p : Point) (step : Transition) (B : ℕ
     → IsSound start (point_after p step)
     → TiedAt (calls_made_after p.calls step) (trace_after w p.trace step) (state_after (suc p.calls) w step) (λ b. if is_out (state_after (suc p.calls) w step) b then trace_after w p.trace step else B b)
 step_tied start (Up service disk) p step B at may out h sound =
-    tie p.calls service disk p.trace (trace_after (Up service disk) p.trace step) B h out (calls_made_after p.calls step) (state_after (suc p.calls) (Up service disk) step)
-    (up_next p.calls service disk p.trace B h step may)
+    tie p.calls service disk p.trace (trace_after (Up service disk) p.trace step) B h out (calls_made_after p.calls step) (marked h.life (marks_of (suc p.calls) (Up service disk) step)) (state_after (suc p.calls) (Up service disk) step)
+    (up_next h.n p.calls service disk h.life p.trace h.notes h.up step may)
 step_tied start (Down shape disk) p Opens B at may out h sound =
     opened_here (subst (λ (w : State). IsSound start (point (state_after (suc p.calls) w Opens) (marks_of (suc p.calls) w Opens ++ p.marks) (trace_after w p.trace Opens) p.calls)) at sound)
   where
