@@ -20,6 +20,7 @@ use Rattle.lz_machine.specs.declared.actor.Actor.{Actor}
 use Rattle.lz_machine.specs.Yards.{Shape, Yard, actor_in, pin_in, IsInside}
 use Rattle.lz_machine.specs.Table.{last_pin}
 use Rattle.lz_machine.specs.Runs.{Caller, Service, State, Up, Down, Start, Point, caller_at, shape_of, start_keys}
+use Rattle.lz_machine.specs.Formats.{HasFormat}
 use Rattle.lz_machine.specs.Ledgers.{Row, HasRow}
 use Rattle.lz_machine.specs.Kept.{upto}
 use Rattle.lz_machine.specs.Limbo.{IsAway, IsRightSight}
@@ -105,10 +106,11 @@ abbrev pub StateSound : Point → State → Life → Type 0
 StateSound p (Up service disk) life = (n : ℕ) × (notes : Notes) × UpSound n p.calls service disk life p.trace notes
 StateSound p (Down shape disk) life = DownSound shape disk life p.trace
 
--- the lives before the last are a chain to the set with which it began
+-- the lives before the last are a chain to the set with which it began, and the file is of the format with which the run began
 abbrev pub PointSound : Start → Point → List Life → Type 0
 PointSound start p [] = ⊥
-PointSound start p (life ∷ earlier) = (shape_of p.state ≡ start.shape) × ChainTo earlier life.start × StateSound p p.state life
+PointSound start p (life ∷ earlier) =
+    (shape_of p.state ≡ start.shape) × ChainTo earlier life.start × StateSound p p.state life × HasFormat (format_of start.text) p.state
 
 abbrev pub IsSound : Start → Point → Type 0
 IsSound start p = PointSound start p (lives (start_keys start) p.marks)

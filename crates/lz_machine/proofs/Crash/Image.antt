@@ -38,11 +38,13 @@ use Rattle.lz_machine.proofs.Crash.Tail.{is_opening, asks, asks_adding, asks_rem
 use Rattle.lz_machine.proofs.Crash.TailRows.{names, names_of, HasRows, rows_to, rows_lead, rows_ledger}
 use Rattle.lz_slot.proofs.Sets.{after_same}
 
--- an image's format suits the disk, as the vault's does
+-- an image's format is the vault's
+pub image_names : (shape : Shape) (vault : Vaulted) (disk : Medium) (images : DiskSound shape vault disk) (t : List ℕ) → IsImage disk t → format_of t ≡ vault.format
+image_names shape vault disk images t image = image_format vault.format vault.cells disk images.keeps.vouches t (omega (arith, images.count, images.slots.0)) (omega (arith, images.count, images.slots.1)) image
+
+-- it suits the disk
 pub image_suits : (shape : Shape) (vault : Vaulted) (disk : Medium) (images : DiskSound shape vault disk) (t : List ℕ) → IsImage disk t → Suits (format_of t) disk
-image_suits shape vault disk images t image =
-    let names : format_of t ≡ vault.format = image_format vault.format vault.cells disk images.keeps.vouches t (omega (arith, images.count, images.slots.0)) (omega (arith, images.count, images.slots.1)) image in
-    (λ four. images.keeps.suits (sym names ∙ four))
+image_suits shape vault disk images t image = λ four. images.keeps.suits (sym (image_names shape vault disk images t image) ∙ four)
 
 -- a key that was never linked is no member
 never_linked : (k : ℕ) (P : Trace) → linking k P ≡ 0 → member k P ≡ false
@@ -232,9 +234,7 @@ module _ (n calls : ℕ) (service : Service) (disk : Medium) (life : Life) (P : 
   image_holds =
       let vouches = up.sound.images.keeps.vouches in
       let count = up.sound.images.count in
-      let names : service.yard.vault.format ≡ format_of t =
-      sym (image_format service.yard.vault.format service.yard.vault.cells disk vouches t (omega (arith, count, up.sound.images.slots.0)) (omega (arith, count, up.sound.images.slots.1)) image)
-      in
+      let names = sym (image_names service.yard.shape service.yard.vault disk up.sound.images t image) in
       record {
         count = subst (λ (F : Format). (1 ≤ N) × (N ≤ most_slots_of F)) names up.sound.images.slots;
         size = vouches.size t image ∙ ap (λ (q : ℕ). 16 + 16 * q) count;

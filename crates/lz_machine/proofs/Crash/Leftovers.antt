@@ -3,6 +3,7 @@ use Rattle.std.proofs.Common.{◌≡◌, ◌≢◌, inl, inr, ℕ, Bool, true, f
 use mathlib.Core.Bool.{false≢true}
 use Rattle.lz_slot.specs.Sets.{Keys}
 use Rattle.lz_slot.specs.Bytes.{Holds, format_of}
+use Rattle.lz_slot.specs.declared.format.Format.{Format}
 use Rattle.lz_slot.specs.declared.format.Format.TheVariants.{Four}
 use Rattle.lz_slot.specs.declared.command.Command.{Command}
 use Rattle.lz_slot.specs.Histories.{History, Life, ChainTo, lives, last_history}
@@ -24,27 +25,31 @@ use Rattle.lz_machine.specs.Yards.{Shape, Yard, actor_at}
 use Rattle.lz_machine.specs.Table.{course, line, line_on, call_on, call_of, published_on, publishes, vault_after, yard_done, outcome_of}
 use Rattle.lz_machine.specs.Calls.{event_at, loaded}
 use Rattle.lz_machine.specs.Runs.{Start, Service, Caller, State, Up, Down, CrashesIn, Point, Reached, IsStart, IsRun, Transition, MayStep, MayLeave, LeftInside, HasTurn, point_after, run, first_point, disk_of, shape_of, start_keys, caller_at, next_event, reply_at, played, after_turn, marks_of_turn, mark_of_turn, turn_publishes}
+use Rattle.lz_machine.specs.Formats.{HasFormat}
 use Rattle.lz_machine.specs.Lasts.{Lasts}
 use Rattle.lz_machine.specs.Laws.{EveryHistory, WhatLasts}
 use Rattle.lz_machine.specs.Sound.{HasList, PointSound, IsSound}
 use Rattle.lz_machine.proofs.Steps.Trip.{point}
-use Rattle.lz_machine.proofs.Crash.Image.{image_suits, images_fit}
-use Rattle.lz_machine.proofs.Crash.Down.{at_rest_sound}
+use Rattle.lz_machine.proofs.Crash.Image.{image_names, image_suits, images_fit}
+use Rattle.lz_machine.proofs.Crash.Down.{at_rest_sound, rest_format}
 use Rattle.lz_machine.proofs.Steps.Point.{turn_keeps}
 
--- the text holds a set to which the lives lead, the newest by a list of its own, and its format suits the disk
+-- the text holds a set to which the lives lead, the newest by a list of its own, and its format suits the disk, and is the state's
 abbrev pub IsLeft : Point → List ℕ → List Life → Type 0
 IsLeft p t [] = ⊥
-IsLeft p t (life ∷ earlier) = ChainTo earlier life.start × HasList (shape_of p.state).slots life p.trace t × Suits (format_of t) (disk_of p.state)
+IsLeft p t (life ∷ earlier) =
+    ChainTo earlier life.start × HasList (shape_of p.state).slots life p.trace t × Suits (format_of t) (disk_of p.state) × ((F : Format) → HasFormat F p.state → format_of t ≡ F)
 
 -- of an image of the disk
 image_of_up : (start : Start) (service : Service) (M : History) (P : Trace) (calls : ℕ) (disk : Medium) (t : List ℕ) (L : List Life) → IsImage disk t → PointSound start (point (Up service disk) M P calls) L → IsLeft (point (Up service disk) M P calls) t L
 image_of_up start service M P calls disk t [] image h = absurd h
-image_of_up start service M P calls disk t (life ∷ earlier) image h = (h.1, images_fit h.2.0 calls service disk life P h.2.1 h.2.2 t image, image_suits service.yard.shape service.yard.vault disk h.2.2.sound.images t image)
+image_of_up start service M P calls disk t (life ∷ earlier) image h =
+    let images = h.2.2.sound.images in
+    (h.1, images_fit h.2.0 calls service disk life P h.2.1 h.2.2 t image, image_suits service.yard.shape service.yard.vault disk images t image, λ F is. image_names service.yard.shape service.yard.vault disk images t image ∙ is)
 
 image_of_down : (start : Start) (shape : Shape) (M : History) (P : Trace) (calls : ℕ) (disk : Medium) (t : List ℕ) (L : List Life) → IsImage disk t → PointSound start (point (Down shape disk) M P calls) L → IsLeft (point (Down shape disk) M P calls) t L
 image_of_down start shape M P calls disk t [] image h = absurd h
-image_of_down start shape M P calls disk t (life ∷ earlier) image h = (h.1, h.2.each t image, h.2.suits t image)
+image_of_down start shape M P calls disk t (life ∷ earlier) image h = (h.1, h.2.each t image, h.2.suits t image, λ F is. is t image)
 
 -- A preparing settles nothing.
 lasts_before_key : (s v : ℕ) (P : Trace) (M : History) (S : Keys) → Lasts (key_prepared s v ∷ P) M S → Lasts P M S
@@ -127,6 +132,7 @@ module _ (start : Start) (a : ℕ) (service : Service) (disk : Medium) (M : Hist
         has_list_before service.yard.shape.slots life P (publishes y actor a e ++ P) t (before life.history)
             (images_fit h.2.0 calls (played service a caller (yard_done y actor a e, outcome_of y actor e)) (medium_after (call_of y actor e) disk) life (publishes y actor a e ++ P) h.2.1 h.2.2 t image),
         subst (λ (b : Bool). format_of t ≡ Four → b ≡ true) (same_kind (call_of y actor e) disk) (image_suits service.yard.shape (vault_after y actor e) (medium_after (call_of y actor e) disk) h.2.2.sound.images t image),
+        λ F is. image_names service.yard.shape (vault_after y actor e) (medium_after (call_of y actor e) disk) h.2.2.sound.images t image ∙ is,
       )
 
   itself : (t : List ℕ) → IsImage disk t → IsLeft (point (Up service disk) M P calls) t (lives (start_keys start) M)
@@ -164,7 +170,12 @@ crash_in_keeps start (Up service disk) M P calls a t sound may = go (lives (star
   where
     go : (L : List Life) → PointSound start (point (Up service disk) M P calls) L → IsLeft (point (Up service disk) M P calls) t L → PointSound start (point_after (point (Up service disk) M P calls) (CrashesIn a t)) L
     go [] h left = absurd h
-    go (life ∷ earlier) h left = (h.0, h.1, at_rest_sound disk.bytewise service.yard.shape life P t (inside_bytes a service disk (caller_at service.callers a) t may) left.2 left.1)
+    go (life ∷ earlier) h left = (
+      h.0,
+      h.1,
+      at_rest_sound disk.bytewise service.yard.shape life P t (inside_bytes a service disk (caller_at service.callers a) t may) left.2 left.1,
+      rest_format (format_of start.text) disk.bytewise service.yard.shape t (left.3 (format_of start.text) h.3),
+    )
 
 -- a text that a crash may leave has a list
 pub may_leave_has : (start : Start) (w : State) (M : History) (P : Trace) (calls : ℕ) (t : List ℕ) → IsSound start (point w M P calls) → MayLeave w t → IsLeft (point w M P calls) t (lives (start_keys start) M)

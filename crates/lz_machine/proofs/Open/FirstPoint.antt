@@ -15,7 +15,7 @@ use Rattle.lz_machine.proofs.Open.FirstState.{opened_up}
 
 -- the first open
 pub first_sound : (start : Start) → IsStart start → AreBytes start.text → IsSound start (first_point start)
-first_sound start is bytes = (refl, tt, (length (first_trace start.shape start.text), first_notes start.shape start.text, opened_up start.shape start.text (start_keys start) is.buckets.0 is.text bytes start.bytewise 0 is.suits))
+first_sound start is bytes = (refl, tt, (length (first_trace start.shape start.text), first_notes start.shape start.text, opened_up start.shape start.text (start_keys start) is.buckets.0 is.text bytes start.bytewise 0 is.suits), refl)
 
 -- a text holds one set
 pub one_set : (t : List ℕ) (N : ℕ) (S T : Keys) → Holds t N S → Holds t N T → Same S T
@@ -49,6 +49,7 @@ opens_keeps start shape disk M P calls is image sound may = go (lives (start_key
             first_notes shape disk.seen,
             opened_up shape disk.seen found (some h.0) may image.bytes disk.bytewise calls (h.2.suits disk.seen image),
           ),
+          h.3 disk.seen image,
         )
       where
         some : shape ≡ start.shape → 1 ≤ shape.buckets

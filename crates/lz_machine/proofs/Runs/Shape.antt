@@ -14,6 +14,11 @@ pub line_keeps_shape : (c : Course) (y : Yard) (actor : Actor) (a : ℕ) (e : Ev
 line_keeps_shape (Refused outcome) y actor a e = refl
 line_keeps_shape _ y actor a e = refl
 
+-- and no event the format
+pub line_keeps_format : (c : Course) (y : Yard) (actor : Actor) (a : ℕ) (e : Event) → (line_on c y actor a e).0.vault.format ≡ y.vault.format
+line_keeps_format (Refused outcome) y actor a e = refl
+line_keeps_format _ y actor a e = refl
+
 turn_keeps_shape : (s : Service) (disk : Medium) (a : ℕ) (caller : Option Caller) → shape_of (after_turn s disk a caller) ≡ s.yard.shape
 turn_keeps_shape s disk a None = refl
 turn_keeps_shape s disk a (Some caller) =

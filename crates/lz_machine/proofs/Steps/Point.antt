@@ -27,7 +27,7 @@ use Rattle.lz_machine.proofs.Steps.Turn.{turn_up}
 use Rattle.lz_machine.proofs.Steps.Fault.{fault_up}
 use Rattle.lz_machine.proofs.Steps.Trip.{point}
 use Rattle.lz_machine.proofs.Runs.CallerTable.{none_of}
-use Rattle.lz_machine.proofs.Runs.Shape.{line_keeps_shape}
+use Rattle.lz_machine.proofs.Runs.Shape.{line_keeps_shape, line_keeps_format}
 use Rattle.lz_slot.specs.declared.history.Mark.TheVariants.{Call}
 use Rattle.lz_machine.specs.Calls.{begun}
 use Rattle.lz_machine.proofs.Steps.Answer.{answer_up}
@@ -159,13 +159,13 @@ turn_lives S i (Some reply) M = reply_lives S i reply M ∙ one_marked (mark_of 
 
 module _ (start : Start) (service : Service) (disk : Medium) (M : History) (P : Trace) (calls : ℕ) (sound : IsSound start (point (Up service disk) M P calls)) where
   -- the point after a step that leaves the service open
-  point_sound : (m : ℕ) (after : Service) (new : Medium) (marks : List Mark) (Q : Trace) → after.yard.shape ≡ service.yard.shape → lives (start_keys start) (marks ++ M) ≡ with_marks marks (lives (start_keys start) M)
+  point_sound : (m : ℕ) (after : Service) (new : Medium) (marks : List Mark) (Q : Trace) → after.yard.shape ≡ service.yard.shape → after.yard.vault.format ≡ service.yard.vault.format → lives (start_keys start) (marks ++ M) ≡ with_marks marks (lives (start_keys start) M)
       → ((n : ℕ) (life : Life) (notes : Notes) → UpSound n calls service disk life P notes → GoesOn n m (marked life marks) service.yard.words.pins P notes after new Q) → IsSound start (point (Up after new) (marks ++ M) Q m)
-  point_sound m after new marks Q shape are next = subst (PointSound start (point (Up after new) (marks ++ M) Q m)) (sym are) (go (lives (start_keys start) M) sound)
+  point_sound m after new marks Q shape format are next = subst (PointSound start (point (Up after new) (marks ++ M) Q m)) (sym are) (go (lives (start_keys start) M) sound)
     where
       go : (L : List Life) → PointSound start (point (Up service disk) M P calls) L → PointSound start (point (Up after new) (marks ++ M) Q m) (with_marks marks L)
       go [] h = absurd h
-      go (life ∷ earlier) h = let done = next h.2.0 life h.2.1 h.2.2 in (shape ∙ h.0, h.1, (h.2.0, done.notes, done.up))
+      go (life ∷ earlier) h = let done = next h.2.0 life h.2.1 h.2.2 in (shape ∙ h.0, h.1, (h.2.0, done.notes, done.up), format ∙ h.3)
 
   module _ (a : ℕ) where
     turn_of : (who : Option Caller) → caller_at service.callers a ≡ who → HasTurn service a who → IsSound start (point (after_turn service disk a who) (marks_of_turn who ++ M) (turn_publishes service a who ++ P) calls)
@@ -173,13 +173,13 @@ module _ (start : Start) (service : Service) (disk : Medium) (M : History) (P : 
     turn_of (Some caller) is may =
         let e = next_event service.yard caller in
         point_sound calls (played service a caller (line service.yard a e)) (medium_after (line_call service.yard a e) disk) (marks_of_turn (Some caller)) (turn_publishes service a (Some caller) ++ P)
-        (line_keeps_shape (course service.yard a e) service.yard (actor_at service.yard a) a e) (turn_lives (start_keys start) caller.number (reply_at caller.progress) M)
+        (line_keeps_shape (course service.yard a e) service.yard (actor_at service.yard a) a e) (line_keeps_format (course service.yard a e) service.yard (actor_at service.yard a) a e) (turn_lives (start_keys start) caller.number (reply_at caller.progress) M)
         (λ n life notes up. turn_next n calls service disk life P notes up a (Some caller) is may)
 
     fault_of : (new : Medium) (who : Option Caller) → caller_at service.callers a ≡ who → HasFault service disk a who new → IsSound start (point (after_fault service new a who) M P calls)
     fault_of new None is may = absurd may
     fault_of new (Some caller) is may =
-        point_sound calls (played service a caller (line_failed service.yard a (next_event service.yard caller))) new [] P refl (none_marked (lives (start_keys start) M)) (λ n life notes up. fault_next n calls service disk life P notes up a new (Some caller) is may)
+        point_sound calls (played service a caller (line_failed service.yard a (next_event service.yard caller))) new [] P refl refl (none_marked (lives (start_keys start) M)) (λ n life notes up. fault_next n calls service disk life P notes up a new (Some caller) is may)
 
     pub turn_keeps : MayStep (Up service disk) (Turn a) → IsSound start (point_after (point (Up service disk) M P calls) (Turn a))
     turn_keeps may = turn_of (caller_at service.callers a) refl may
@@ -188,9 +188,9 @@ module _ (start : Start) (service : Service) (disk : Medium) (M : History) (P : 
     fails_keeps new may = fault_of new (caller_at service.callers a) refl may
 
     pub looks_keeps : MayStep (Up service disk) (Looks a) → IsSound start (point_after (point (Up service disk) M P calls) (Looks a))
-    looks_keeps may = point_sound calls (record { yard = looked service.yard a; callers = service.callers }) disk [] P refl (none_marked (lives (start_keys start) M)) (λ n life notes up. look_next n calls service disk life P notes up a may)
+    looks_keeps may = point_sound calls (record { yard = looked service.yard a; callers = service.callers }) disk [] P refl refl (none_marked (lives (start_keys start) M)) (λ n life notes up. look_next n calls service disk life P notes up a may)
 
     pub call_keeps : (c : Command) → MayStep (Up service disk) (Calls a c) → IsSound start (point_after (point (Up service disk) M P calls) (Calls a c))
     call_keeps c may =
-        point_sound (suc calls) (record { yard = invoked service.yard a c; callers = calling service.callers a (suc calls) c (begun service.yard.vault.format c) }) disk (Call (suc calls) a c ∷ []) P refl (one_marked (Call (suc calls) a c) (lives (start_keys start) M))
+        point_sound (suc calls) (record { yard = invoked service.yard a c; callers = calling service.callers a (suc calls) c (begun service.yard.vault.format c) }) disk (Call (suc calls) a c ∷ []) P refl refl (one_marked (Call (suc calls) a c) (lives (start_keys start) M))
         (λ n life notes up. call_next n calls service disk life P notes up a c may)
