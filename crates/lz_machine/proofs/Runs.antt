@@ -10,3 +10,4 @@ pub mod EventOrder
 pub mod ReachedPoint
 pub mod CallerEvent
 pub mod FlowChart
+pub mod PointParts

@@ -22,4 +22,3 @@ pub mod Death
 pub mod Turn
 pub mod Fault
 pub mod Point
-pub mod Trip

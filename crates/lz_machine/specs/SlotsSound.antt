@@ -5,7 +5,7 @@ use Rattle.lz_vault.specs.declared.vault.Stage.TheVariants.{Closed, Opening, Ope
 use Rattle.lz_vault.specs.Stages.{Cell, IsFree}
 use Rattle.lz_allot.specs.declared.sight.Sight.{Sight}
 use Rattle.lz_allot.specs.Uses.{Use, Free, Taken, Limbo, use_of}
-use Rattle.lz_list.specs.Traces.{Trace, IsLoose, on, chain_of, key_word, linking, is_settled, is_removed, is_marked}
+use Rattle.lz_list.specs.Traces.{Trace, IsLoose, halt_word, on, chain_of, key_word, linking, is_settled, is_removed, is_marked}
 use Rattle.lz_machine.specs.declared.actor.Actor.{Actor}
 use Rattle.lz_machine.specs.declared.actor.Hold.{Hold}
 use Rattle.lz_machine.specs.declared.actor.Hold.TheVariants.{Checked, GateOpened, GateClosed, Marked, Unlinked, Released}
@@ -113,3 +113,5 @@ pub record SlotsSound (shape : Shape) (cells : List Cell) (dead : Bool) (uses : 
   pub removed : (k s : ℕ)
       → key_word s P ≡ k → on 0 (chain_of shape.buckets k P) (suc s) ≡ true → is_removed (linking k P) P ≡ true
       → stage_in cells s ≡ Closed
+  -- the halt word is set only where the vault is dead
+  pub halted : halt_word P ≡ 1 → dead ≡ true

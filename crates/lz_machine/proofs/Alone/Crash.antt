@@ -27,7 +27,7 @@ use Rattle.lz_machine.specs.Runs.{Start, IsStart, Caller, Service, State, Up, Do
 use Rattle.lz_machine.specs.CallersSound.{Relies, IsCaller, view_of}
 use Rattle.lz_machine.specs.Sound.{StateSound, HasList, PointSound, IsSound}
 use Rattle.lz_machine.specs.Alone.{IsOwn, IsAlone, has_cut, IsPlain, ArePlain, AloneIsPlain}
-use Rattle.lz_machine.proofs.Steps.Trip.{point}
+use Rattle.lz_machine.proofs.Runs.PointParts.{point}
 use Rattle.lz_machine.proofs.Crash.Leftovers.{IsLeft}
 use Rattle.lz_machine.proofs.Crash.Down.{rest_image}
 use Rattle.lz_machine.proofs.Open.FirstPoint.{one_set, down_seen}

@@ -26,7 +26,7 @@ use Rattle.lz_machine.specs.Notes.{Notes}
 use Rattle.lz_machine.specs.CallersSound.{IsAdder, view_of, Relies}
 use Rattle.lz_machine.specs.Sound.{Sound, PointSound}
 use Rattle.lz_machine.proofs.Frames.ActorTable.{by_actor}
-use Rattle.lz_machine.proofs.Steps.Trip.{point}
+use Rattle.lz_machine.proofs.Runs.PointParts.{point}
 use Rattle.lz_machine.proofs.Frames.OneActor.{caller_range, mine}
 use Rattle.lz_machine.proofs.Crash.ImageSlots.{member_node, one_node_slot}
 use Rattle.lz_machine.proofs.Theorem.Reached.{reached_sound, up_at}

@@ -12,7 +12,7 @@ use Rattle.lz_machine.specs.Runs.{Start, Service, State, Up, Down, Stops, Crashe
 use Rattle.lz_machine.specs.Formats.{HasFormat}
 use Rattle.lz_machine.specs.Notes.{Notes}
 use Rattle.lz_machine.specs.Sound.{UpSound, HasList, DownSound, StateSound, PointSound, IsSound}
-use Rattle.lz_machine.proofs.Steps.Trip.{point}
+use Rattle.lz_machine.proofs.Runs.PointParts.{point}
 use Rattle.lz_machine.proofs.Crash.Image.{image_names, image_suits, images_fit}
 
 -- a disk of which nothing is loose has one image

@@ -29,7 +29,7 @@ use Rattle.lz_machine.specs.Formats.{HasFormat}
 use Rattle.lz_machine.specs.Lasts.{Lasts}
 use Rattle.lz_machine.specs.Laws.{EveryHistory, WhatLasts}
 use Rattle.lz_machine.specs.Sound.{HasList, PointSound, IsSound}
-use Rattle.lz_machine.proofs.Steps.Trip.{point}
+use Rattle.lz_machine.proofs.Runs.PointParts.{point}
 use Rattle.lz_machine.proofs.Crash.Image.{image_names, image_suits, images_fit}
 use Rattle.lz_machine.proofs.Crash.Down.{at_rest_sound, rest_format}
 use Rattle.lz_machine.proofs.Steps.Point.{turn_keeps}

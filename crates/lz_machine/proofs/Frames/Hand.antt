@@ -47,7 +47,7 @@ module _ (n calls : ℕ) (y : Yard) (callers : List (Option Caller)) (disk : Med
   hands_keep locks next keeps held grips mine = record {
     trace = sound.trace;
     images = sound.images;
-    slots = slots_turn y.shape y.vault.cells y.vault.dead y.vault.dead y.uses y.actors (set_of_pass y.actors a x) P every_grip sound.slots;
+    slots = slots_turn y.shape y.vault.cells y.vault.dead y.vault.dead y.uses y.actors (set_of_pass y.actors a x) P every_grip (λ e. e) sound.slots;
     locks = held;
     callers = callers_turn callers a caller at next y.shape y.vault y.words.pins y.actors (set_of_pass y.actors a x) P notes (length-set_of_pass y.actors a x) other_hand
         (subst (λ (q : Actor). CallerSound (record { buckets = y.shape.buckets; passes = y.shape.passes; format = y.vault.format; cells = y.vault.cells; dead = y.vault.dead; actor = q }) (pin_in y.words.pins a) (Some (moved caller next)) (notes.begun a) P (notes.changed a)) (sym same_hand) mine)

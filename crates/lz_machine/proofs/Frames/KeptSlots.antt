@@ -5,7 +5,7 @@ use Rattle.lz_vault.specs.Stages.{Cell, IsFree}
 use Rattle.lz_allot.specs.declared.sight.Sight.{Sight}
 use Rattle.lz_allot.specs.Uses.{Use, Free, Limbo, use_of}
 use Rattle.lz_list.specs.declared.publishing.Publishing.{Publishing}
-use Rattle.lz_list.specs.Traces.{Trace, IsLoose, on, chain_of, key_word, linking, is_settled, is_removed, is_marked}
+use Rattle.lz_list.specs.Traces.{Trace, IsLoose, on, chain_of, key_word, linking, is_settled, is_removed, is_marked, halt_word}
 use Rattle.lz_machine.specs.declared.actor.Actor.{Actor}
 use Rattle.lz_machine.specs.Yards.{Shape, actor_in, cell_in, stage_in}
 use Rattle.lz_machine.specs.SlotsSound.{IsGateOpened, IsGateWritten, IsNodeStage, IsHandStage, SlotStands, is_node, is_held, is_out, is_free, is_limbo, SlotsSound}
@@ -64,12 +64,12 @@ module _ (shape : Shape) (cells cells' : List Cell) (dead dead' : Bool) (uses us
   stands s (is_free loose free stage) = is_free (nodes.loose s loose) (used.free s free) ((gates s).shut stage)
   stands s (is_limbo sights loose limbo stage) = in_limbo s (nodes.loose s loose) (used.limbo s sights limbo) ((gates s).closed stage)
 
-  -- but for the flags
-  pub slots_kept : SlotsSound shape cells dead uses actors P
+  -- but for the flags and the halt word
+  pub slots_kept : SlotsSound shape cells dead uses actors P → (halt_word P' ≡ 1 → dead' ≡ true)
       → ((k s : ℕ) → key_word s P' ≡ k → on 0 (chain_of shape.buckets k P') (suc s) ≡ true → is_settled (linking k P') P' ≡ true → stage_in cells' s ≢ Opening)
       → ((k s : ℕ) → key_word s P' ≡ k → on 0 (chain_of shape.buckets k P') (suc s) ≡ true → is_removed (linking k P') P' ≡ true → stage_in cells' s ≡ Closed)
       → SlotsSound shape cells' dead' uses' actors' P'
-  slots_kept h added removed = record {
+  slots_kept h halted added removed = record {
     count = used.count ∙ h.count;
     each = λ s lt. stands s (h.each s lt);
     hand = λ b s slot. let was = h.hand b s (sym (grips b).slot ∙ slot) in record { in_range = was.in_range; loose = nodes.loose s was.loose; taken = used.taken s was.taken; stage = hand_stage b s was.stage };
@@ -81,12 +81,13 @@ module _ (shape : Shape) (cells cells' : List Cell) (dead dead' : Bool) (uses us
     closed = λ b s at is. let old = (grips b).shut s at is in (gates s).written (h.closed b s old.0 old.1);
     added = added;
     removed = removed;
+    halted = halted;
   }
 
 -- where holds alone change, and the vault may die
-pub slots_turn : (shape : Shape) (cells : List Cell) (dead dead' : Bool) (uses : List Use) (actors actors' : List Actor) (P : Trace) → ((b : ℕ) → KeepsGrips dead dead' (actor_in actors b) (actor_in actors' b))
+pub slots_turn : (shape : Shape) (cells : List Cell) (dead dead' : Bool) (uses : List Use) (actors actors' : List Actor) (P : Trace) → ((b : ℕ) → KeepsGrips dead dead' (actor_in actors b) (actor_in actors' b)) → (dead ≡ true → dead' ≡ true)
     → SlotsSound shape cells dead uses actors P → SlotsSound shape cells dead' uses actors' P
-slots_turn shape cells dead dead' uses actors actors' P grips h = slots_kept shape cells cells dead dead' uses uses actors actors' P P grips (same_uses uses) (λ s. same_gate (cell_in cells s)) (same_trace shape.buckets P) h h.added h.removed
+slots_turn shape cells dead dead' uses actors actors' P grips dies h = slots_kept shape cells cells dead dead' uses uses actors actors' P P grips (same_uses uses) (λ s. same_gate (cell_in cells s)) (same_trace shape.buckets P) h (λ is. dies (h.halted is)) h.added h.removed
 
 -- where no hold does
 module _ (shape : Shape) (cells : List Cell) (dead : Bool) (actors : List Actor) where
@@ -94,13 +95,13 @@ module _ (shape : Shape) (cells : List Cell) (dead : Bool) (actors : List Actor)
   same_grips b = keeps_itself dead dead (actor_in actors b) (actor_in actors b) (λ is. is) refl
 
   pub slots_uses : (uses uses' : List Use) (P : Trace) → KeepsUses uses uses' → SlotsSound shape cells dead uses actors P → SlotsSound shape cells dead uses' actors P
-  slots_uses uses uses' P used h = slots_kept shape cells cells dead dead uses uses' actors actors P P same_grips used (λ s. same_gate (cell_in cells s)) (same_trace shape.buckets P) h h.added h.removed
+  slots_uses uses uses' P used h = slots_kept shape cells cells dead dead uses uses' actors actors P P same_grips used (λ s. same_gate (cell_in cells s)) (same_trace shape.buckets P) h h.halted h.added h.removed
 
-  pub slots_published : (uses : List Use) (e : Publishing) (P : Trace) → KeepsNodes shape.buckets P (e ∷ P) → SlotsSound shape cells dead uses actors P
+  pub slots_published : (uses : List Use) (e : Publishing) (P : Trace) → KeepsNodes shape.buckets P (e ∷ P) → SlotsSound shape cells dead uses actors P → (halt_word (e ∷ P) ≡ 1 → dead ≡ true)
       → ((k s : ℕ) → key_word s (e ∷ P) ≡ k → on 0 (chain_of shape.buckets k (e ∷ P)) (suc s) ≡ true → is_settled (linking k (e ∷ P)) (e ∷ P) ≡ true → stage_in cells s ≢ Opening)
       → ((k s : ℕ) → key_word s (e ∷ P) ≡ k → on 0 (chain_of shape.buckets k (e ∷ P)) (suc s) ≡ true → is_removed (linking k (e ∷ P)) (e ∷ P) ≡ true → stage_in cells s ≡ Closed)
       → SlotsSound shape cells dead uses actors (e ∷ P)
-  slots_published uses e P nodes h added removed = slots_kept shape cells cells dead dead uses uses actors actors P (e ∷ P) same_grips (same_uses uses) (λ s. same_gate (cell_in cells s)) nodes h added removed
+  slots_published uses e P nodes h halted added removed = slots_kept shape cells cells dead dead uses uses actors actors P (e ∷ P) same_grips (same_uses uses) (λ s. same_gate (cell_in cells s)) nodes h halted added removed
 
   pub slots_in : (cells' : List Cell) (uses : List Use) (P : Trace) → ((s : ℕ) → KeepsGate (cell_in cells s) (cell_in cells' s)) → ((s : ℕ) → stage_in cells' s ≢ Opening) → SlotsSound shape cells dead uses actors P → SlotsSound shape cells' dead uses actors P
-  slots_in cells' uses P gates none h = slots_kept shape cells cells' dead dead uses uses actors actors P P same_grips (same_uses uses) gates (same_trace shape.buckets P) h (λ k s key there is. none s) (λ k s key there is. (gates s).closed (h.removed k s key there is))
+  slots_in cells' uses P gates none h = slots_kept shape cells cells' dead dead uses uses actors actors P P same_grips (same_uses uses) gates (same_trace shape.buckets P) h h.halted (λ k s key there is. none s) (λ k s key there is. (gates s).closed (h.removed k s key there is))

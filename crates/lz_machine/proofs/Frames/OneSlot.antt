@@ -5,7 +5,7 @@ use Rattle.lz_vault.specs.declared.vault.Stage.{Stage}
 use Rattle.lz_vault.specs.declared.vault.Stage.TheVariants.{Closed, Opening}
 use Rattle.lz_vault.specs.Stages.{Cell, IsFree}
 use Rattle.lz_allot.specs.Uses.{Use, use_of}
-use Rattle.lz_list.specs.Traces.{Trace, IsLoose, on, chain_of, key_word, linking, is_settled, is_removed, is_marked}
+use Rattle.lz_list.specs.Traces.{Trace, IsLoose, on, chain_of, key_word, linking, is_settled, is_removed, is_marked, halt_word}
 use Rattle.lz_machine.specs.declared.actor.Actor.{Actor}
 use Rattle.lz_machine.specs.Yards.{Shape, actor_in, cell_in, stage_in}
 use Rattle.lz_machine.specs.SlotsSound.{IsGateOpened, IsGateWritten, IsOut, IsCloser, closes, opens, shuts, unlocks, has_removed_node, IsNodeStage, IsHandStage, IsInHand, IsGone, SlotStands, is_node, is_held, is_out, is_free, is_limbo, SlotsSound}
@@ -51,9 +51,10 @@ pub record KeepsOtherNodes (buckets s : ℕ) (P P' : Trace) : Type 0 where
   pub word : (t : ℕ) → t ≢ s → key_word t P' ≡ key_word t P
   pub mark : (t : ℕ) → t ≢ s → is_marked t P' ≡ is_marked t P
   pub chain : (t : ℕ) → t ≢ s → on 0 (chain_of buckets (key_word t P) P) (suc t) ≡ true → on 0 (chain_of buckets (key_word t P) P') (suc t) ≡ true
+  pub halt : halt_word P' ≡ halt_word P
 
 pub same_nodes : (buckets s : ℕ) (P : Trace) → KeepsOtherNodes buckets s P P
-same_nodes buckets s P = record { loose = λ t apart is. is; word = λ t apart. refl; mark = λ t apart. refl; chain = λ t apart is. is }
+same_nodes buckets s P = record { loose = λ t apart is. is; word = λ t apart. refl; mark = λ t apart. refl; chain = λ t apart is. is; halt = refl }
 
 -- How the slot stands after the turn: the actor has become x, and the others are as before.
 pub record OwnSlot (shape : Shape) (cells : List Cell) (dead : Bool) (uses : List Use) (actors actors' : List Actor) (P : Trace) (a s : ℕ) (x : Actor) : Type 0 where
@@ -164,6 +165,7 @@ module _ (shape : Shape) (cells cells' : List Cell) (dead dead' : Bool) (uses us
           (λ t apart slot is. stage_then IsGateOpened t apart (h.opened b t ((grips b).slot t apart slot) ((grips b).unlock t apart slot is)));
       added = added;
       removed = removed;
+      halted = λ is. dies (h.halted (sym nodes.halt ∙ is));
     }
 
 -- A slot in hand is prepared: its gate stays closed, and no hold changes.

@@ -106,7 +106,7 @@ module _ (n calls : ℕ) (y : Yard) (callers : List (Option Caller)) (disk : Med
     ]
 
     slots : SlotsSound y.shape y.vault.cells y.vault.dead y.uses y.actors (settled s c ∷ P)
-    slots = slots_published y.shape y.vault.cells y.vault.dead y.actors y.uses (settled s c) P (record { loose = λ t loose. loose; word = λ t. refl; mark = λ t. refl; chain = λ k t there. there }) sound.slots is_added is_removed_then
+    slots = slots_published y.shape y.vault.cells y.vault.dead y.actors y.uses (settled s c) P (record { loose = λ t loose. loose; word = λ t. refl; mark = λ t. refl; chain = λ k t there. there }) sound.slots sound.slots.halted is_added is_removed_then
 
     pub settled_keeps : Sound n calls (with_words y (stored y.shape y.words P sound.trace (few_slots sound.images) s lt c)) callers disk M (settled s c ∷ P) notes
     settled_keeps = record {

@@ -91,7 +91,7 @@ module _ (n calls : ℕ) (y : Yard) (callers : List (Option Caller)) (disk : Med
   invoked_sound = record {
     trace = sound.trace;
     images = sound.images;
-    slots = slots_turn y.shape y.vault.cells y.vault.dead y.vault.dead y.uses y.actors actors' P every_grip sound.slots;
+    slots = slots_turn y.shape y.vault.cells y.vault.dead y.vault.dead y.uses y.actors actors' P every_grip (λ e. e) sound.slots;
     locks = held_locks y.shape y.locks y.actors actors' P a other_hand sound.locks
         (λ place lock. let was = subst (λ (q : Actor). HasLock q place) same_hand lock in record { locks = was.locks; among = was.among })
         (subst (λ (q : Actor). RestsOn y.shape.buckets q.hold q P) (sym same_hand) (rests_noted y.shape.buckets (actor_in y.actors a) (is_old y.vault.format c) P (actor_in y.actors a).hold (sound.locks.rests a)));

@@ -9,7 +9,7 @@ use Rattle.lz_list.specs.Traces.{Trace}
 use Rattle.lz_machine.specs.Yards.{Shape, first_trace}
 use Rattle.lz_machine.specs.Runs.{Start, IsStart, start_keys, first_point, Down, Opens, MayStep, point_after, keys_found}
 use Rattle.lz_machine.specs.Sound.{PointSound, IsSound}
-use Rattle.lz_machine.proofs.Steps.Trip.{point}
+use Rattle.lz_machine.proofs.Runs.PointParts.{point}
 use Rattle.lz_machine.proofs.Open.FoundSlots.{first_notes}
 use Rattle.lz_machine.proofs.Open.FirstState.{opened_up}
 

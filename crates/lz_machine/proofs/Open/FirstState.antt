@@ -17,7 +17,7 @@ use Rattle.lz_disk.proofs.Writes.{synced_image, synced_sound}
 use Rattle.lz_vault.specs.declared.vault.Stage.TheVariants.{Closed, Open, Closing}
 use Rattle.lz_vault.specs.Stages.{Cell, Says, Reads, Suits, Keeps, IsFree, IsReadShut}
 use Rattle.lz_allot.specs.Uses.{Use, Taken, use_of}
-use Rattle.lz_list.specs.Traces.{Trace, Chain, has_key, on, chain_of, key_word, member, linking, is_settled, IsFound, IsLoose}
+use Rattle.lz_list.specs.Traces.{Trace, Chain, has_key, on, chain_of, key_word, member, linking, is_settled, IsFound, IsLoose, opening, halt_word}
 use Rattle.lz_list.proofs.Traces.OpeningTrace.{opening_lawful, opening_members, opening_settled}
 use Rattle.lz_machine.specs.declared.actor.Actor.{Actor}
 use Rattle.lz_vault.specs.Members.{no_cell}
@@ -180,6 +180,10 @@ module _ (shape : Shape) (t : List ℕ) (found : Keys) (some : 1 ≤ shape.bucke
     | inr shut ↦ is_free (loose s shut) (use_is s lt ∙ shut_use (slot_at t s) shut) (subst (λ (q : Cell). IsFree q.stage) (sym (cell_is s lt)) (shut_free (slot_at t s) shut))
   ]
 
+  no_halt : (buckets : ℕ) (found : Chain) → halt_word (opening buckets found) ≡ 0
+  no_halt buckets [] = refl
+  no_halt buckets (f ∷ found) = no_halt buckets found
+
   slots : SlotsSound shape cells false uses actors P
   slots = record {
     count = use_count;
@@ -193,6 +197,7 @@ module _ (shape : Shape) (t : List ℕ) (found : Keys) (some : 1 ≤ shape.bucke
     opened = λ a s is unlocks. absurd (no_slot a s is);
     added = λ k s key there settled. no_opening_read (slots_read t N) s;
     removed = λ k s key there is. absurd (false≢true (sym (none_removed shape.buckets (linking k P) all_found) ∙ is));
+    halted = λ is. absurd (omega (arith, is, no_halt shape.buckets all_found));
   }
 
   locks : LocksSound shape (opened_yard shape t).locks actors P

@@ -146,7 +146,7 @@ module _ (n calls : ℕ) (y : Yard) (callers : List (Option Caller)) (disk : Med
       kept_sound : IsEmptyHanded (actor_in y.actors a) P → Sound n calls (left_yard y.uses actors') (ending callers a) disk (m ∷ M) P notes'
       kept_sound idle = left_sound y.uses actors' (length-set_of_pass y.actors a x) (λ b other. all_same b) (λ b t slot. ap (λ (q : Actor). q.slot) (sym (all_same b)) ∙ slot)
           (subst (λ (q : Actor). IsEmptyHanded q P) (sym (all_same a)) idle)
-          (slots_turn y.shape y.vault.cells y.vault.dead y.vault.dead y.uses y.actors actors' P (λ b. keeps_itself y.vault.dead y.vault.dead (actor_in y.actors b) (actor_in actors' b) (λ e. e) (all_same b)) sound.slots)
+          (slots_turn y.shape y.vault.cells y.vault.dead y.vault.dead y.uses y.actors actors' P (λ b. keeps_itself y.vault.dead y.vault.dead (actor_in y.actors b) (actor_in actors' b) (λ e. e) (all_same b)) (λ e. e) sound.slots)
           (held_locks y.shape y.locks y.actors actors' P a (λ b other. all_same b) sound.locks
           (λ place lock. subst (λ (q : Actor). HasLock q place) (all_same a) lock)
           (subst (λ (q : Actor). RestsOn y.shape.buckets q.hold q P) (sym (all_same a)) (sound.locks.rests a)))

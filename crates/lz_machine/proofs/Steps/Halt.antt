@@ -34,19 +34,19 @@ pub trace_halted : (shape : Shape) (words : Words) (P : Trace) → TraceSound sh
 trace_halted shape words P h = record { lawful = (tt, h.lawful); some = h.some; small = h.small; heads = h.heads; links = h.links; keys = h.keys; halt = refl; pins = h.pins }
 
 module _ (n calls : ℕ) (y : Yard) (callers : List (Option Caller)) (disk : Medium) (M : History) (P : Trace) (notes : Notes) (sound : Sound n calls y callers disk M P notes) where
-  slots : SlotsSound y.shape y.vault.cells y.vault.dead y.uses y.actors (halted ∷ P)
-  slots = slots_published y.shape y.vault.cells y.vault.dead y.actors y.uses halted P (record { loose = λ s loose. loose; word = λ s. refl; mark = λ s. refl; chain = λ k s there. there }) sound.slots
+  slots : y.vault.dead ≡ true → SlotsSound y.shape y.vault.cells y.vault.dead y.uses y.actors (halted ∷ P)
+  slots dead = slots_published y.shape y.vault.cells y.vault.dead y.actors y.uses halted P (record { loose = λ s loose. loose; word = λ s. refl; mark = λ s. refl; chain = λ k s there. there }) sound.slots (λ is. dead)
       (λ k s key there flag. sound.slots.added k s key there flag) (λ k s key there flag. sound.slots.removed k s key there flag)
 
   -- the halt word is set
-  pub halted_keeps : (a : ℕ) → Sound n calls (yard_done y (actor_at y a) a Halt) callers disk M (halted ∷ P) notes
-  halted_keeps a = record {
+  pub halted_keeps : (a : ℕ) → y.vault.dead ≡ true → Sound n calls (yard_done y (actor_at y a) a Halt) callers disk M (halted ∷ P) notes
+  halted_keeps a dead = record {
     trace = trace_halted y.shape y.words P sound.trace;
     images = sound.images;
-    slots = slots;
+    slots = slots dead;
     locks = locks_published y.shape y.locks y.actors halted P (λ b. halted_leaves y.shape.buckets (actor_in y.actors b) P) sound.locks;
     callers = callers_stay y.shape y.vault y.words.pins y.locks y.actors callers halted P (tt, sound.trace.lawful) notes sound.locks sound.callers (λ b inside. tt) (λ b s slot. refl);
-    reuse = reuse_published y.shape y.vault.cells y.vault.dead y.uses y.actors y.actors halted P y.words.pins notes.begun slots (λ b s slot. slot) sound.reuse;
+    reuse = reuse_published y.shape y.vault.cells y.vault.dead y.uses y.actors y.actors halted P y.words.pins notes.begun (slots dead) (λ b s slot. slot) sound.reuse;
     ledger = ledger_published n calls y.shape.passes callers halted P M notes tt sound.ledger;
     tails = record { adding = sound.tails.adding; removing = sound.tails.removing };
   }
@@ -63,4 +63,4 @@ module _ (n calls : ℕ) (y : Yard) (callers : List (Option Caller)) (disk : Med
       → Sound n calls (yard_done y (actor_at y a) a Halt) (moving callers a (call_at i c (Playing (Halting reply) 0)) (progress_after y.shape c (Playing (Halting reply) 0) Done)) disk M (halted ∷ P) notes
   halt_keeps a i c reply is =
       let h = (own n calls y callers disk M P notes a i c (Playing (Halting reply) 0) is sound).stands.2 in
-      goes_on_keeps n calls (yard_done y (actor_at y a) a Halt) callers disk M (halted ∷ P) notes a i c (Playing (Halting reply) 0) is (halted_keeps a) (Answering reply) refl (λ none is. cut_tail reply h.0) (cut_answers c reply a h.0)
+      goes_on_keeps n calls (yard_done y (actor_at y a) a Halt) callers disk M (halted ∷ P) notes a i c (Playing (Halting reply) 0) is (halted_keeps a h.1) (Answering reply) refl (λ none is. cut_tail reply h.0) (cut_answers c reply a h.0)

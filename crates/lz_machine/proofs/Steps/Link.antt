@@ -161,7 +161,7 @@ module _ (n calls : ℕ) (y : Yard) (callers : List (Option Caller)) (disk : Med
       slot_turn y.shape y.vault.cells y.vault.cells y.vault.dead y.vault.dead y.uses y.uses y.actors actors' P P' a s x hand_a hand_b (λ e. e)
       (slot_grips y.vault.dead y.vault.dead s (actor_in y.actors a) x (λ t apart slot. apart (same_Some _ _ (sym slot ∙ h.1))) (λ t apart slot. none-some _ slot)
       (ap (closes y.vault.dead) h.0) (ap has_removed_node h.0) refl refl) (λ t apart. refl) (λ t apart. refl)
-      (record { loose = loose_then; word = λ t apart. refl; mark = λ t apart. refl; chain = λ t apart on_it. chain_then (key_word t P) t on_it })
+      (record { loose = loose_then; word = λ t apart. refl; mark = λ t apart. refl; chain = λ t apart on_it. chain_then (key_word t P) t on_it; halt = refl })
       (record {
         stands = stands_s;
         hand = λ slot. absurd (none-some _ slot);

@@ -135,7 +135,7 @@ module _ (n calls : ℕ) (y : Yard) (callers : List (Option Caller)) (disk : Med
       let chain = on_chain s (subst (λ (q : ℕ). on 0 (chain_of y.shape.buckets q P) (suc s) ≡ true) (sym h.2.1) there) in
       slot_turn y.shape y.vault.cells y.vault.cells y.vault.dead y.vault.dead y.uses y.uses y.actors actors' P P' a s x hand_a hand_b (λ e. e)
       (node_grips y.vault.dead y.vault.dead s (actor_in y.actors a) x h.0 h.0 refl (ap (opens y.vault.dead) h.2.0) refl) (λ t apart. refl) (λ t apart. refl)
-      (record { loose = λ t apart loose. loose; word = λ t apart. refl; mark = mark_other; chain = λ t apart on_it. on_it })
+      (record { loose = λ t apart loose. loose; word = λ t apart. refl; mark = mark_other; chain = λ t apart on_it. on_it; halt = refl })
       (record {
         stands = is_node (record { there = chain.there; taken = chain.taken; key = chain.key }) (inr (a, closer_s, written));
         hand = λ slot. absurd (off (sound.slots.hand a s slot).loose);

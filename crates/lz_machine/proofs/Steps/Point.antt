@@ -25,7 +25,7 @@ use Rattle.lz_machine.proofs.Frames.ChangeNotes.{IsTold, told_same}
 use Rattle.lz_machine.proofs.Frames.PinOrder.{pin_after, since_pin, since_out, out_after}
 use Rattle.lz_machine.proofs.Steps.Turn.{turn_up}
 use Rattle.lz_machine.proofs.Steps.Fault.{fault_up}
-use Rattle.lz_machine.proofs.Steps.Trip.{point}
+use Rattle.lz_machine.proofs.Runs.PointParts.{point}
 use Rattle.lz_machine.proofs.Runs.CallerTable.{none_of}
 use Rattle.lz_machine.proofs.Runs.Shape.{line_keeps_shape, line_keeps_format}
 use Rattle.lz_slot.specs.declared.history.Mark.TheVariants.{Call}

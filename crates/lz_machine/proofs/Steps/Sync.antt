@@ -203,7 +203,7 @@ module _ (n calls : ℕ) (y : Yard) (callers : List (Option Caller)) (disk : Med
       keys = sound.images.keys;
       keeps = record { suits = sound.images.keeps.suits; sound = sound.images.keeps.sound; vouches = sound.images.keeps.vouches; reads = λ alive. absurd (false≢true (sym alive)) };
     };
-    slots = slots_turn y.shape y.vault.cells y.vault.dead true y.uses y.actors y.actors P (λ b. keeps_itself y.vault.dead true (actor_in y.actors b) (actor_in y.actors b) (λ e. refl) refl) sound.slots;
+    slots = slots_turn y.shape y.vault.cells y.vault.dead true y.uses y.actors y.actors P (λ b. keeps_itself y.vault.dead true (actor_in y.actors b) (actor_in y.actors b) (λ e. refl) refl) (λ e. refl) sound.slots;
     locks = sound.locks;
     callers = record {
       count = sound.callers.count;

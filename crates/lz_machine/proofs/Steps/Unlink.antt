@@ -166,7 +166,7 @@ module _ (n calls : ℕ) (y : Yard) (callers : List (Option Caller)) (disk : Med
   unlinked_slots =
       slot_turn y.shape y.vault.cells y.vault.cells y.vault.dead y.vault.dead y.uses y.uses y.actors actors' P P' a s x hand_a hand_b (λ e. e)
       (node_grips y.vault.dead y.vault.dead s (actor_in y.actors a) x h.0 h.0 refl (ap (opens y.vault.dead) h.2.0) refl) (λ t apart. refl) (λ t apart. refl)
-      (record { loose = λ t apart loose. loose_then t loose; word = λ t apart. refl; mark = λ t apart. refl; chain = chain_then })
+      (record { loose = λ t apart loose. loose_then t loose; word = λ t apart. refl; mark = λ t apart. refl; chain = chain_then; halt = refl })
       (record {
         stands = is_out a out_s;
         hand = λ slot. absurd (off (sound.slots.hand a s slot).loose);

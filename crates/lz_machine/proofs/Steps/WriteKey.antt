@@ -108,7 +108,7 @@ module _ (n calls : ℕ) (y : Yard) (callers : List (Option Caller)) (disk : Med
   published_slots : SlotsSound y.shape y.vault.cells y.vault.dead y.uses y.actors P'
   published_slots =
       prepared_slots y.shape y.vault.cells y.vault.cells y.vault.dead y.vault.dead y.uses y.actors P P' a s (λ e. e) (λ t apart. refl)
-      (record { loose = λ t apart is. is; word = word_other; mark = λ t apart. refl; chain = λ t apart on_it. on_it }) sound.slots h.1 (ap unlocks h.0.hold) loose shut (λ b curr is. absurd (others_closed b curr is))
+      (record { loose = λ t apart is. is; word = word_other; mark = λ t apart. refl; chain = λ t apart on_it. on_it; halt = refl }) sound.slots h.1 (ap unlocks h.0.hold) loose shut (λ b curr is. absurd (others_closed b curr is))
       (λ j t key on_it flag. sound.slots.added j t (sym (word_other t (chain_apart j t on_it)) ∙ key) on_it flag)
       (λ j t key on_it flag. sound.slots.removed j t (sym (word_other t (chain_apart j t on_it)) ∙ key) on_it flag)
 

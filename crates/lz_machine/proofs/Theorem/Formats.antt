@@ -8,7 +8,7 @@ use Rattle.lz_list.specs.Traces.{Trace}
 use Rattle.lz_machine.specs.Runs.{Start, IsStart, State, Up, Down, Transition, MayLeave, Point, IsRun, disk_of, run, first_point, start_keys}
 use Rattle.lz_machine.specs.Sound.{PointSound}
 use Rattle.lz_machine.specs.Formats.{HasFormat, FormatsStay}
-use Rattle.lz_machine.proofs.Steps.Trip.{point}
+use Rattle.lz_machine.proofs.Runs.PointParts.{point}
 use Rattle.lz_machine.proofs.Crash.Leftovers.{IsLeft, may_leave_has}
 use Rattle.lz_machine.proofs.Theorem.Reached.{reached_sound}
 

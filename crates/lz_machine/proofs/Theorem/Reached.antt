@@ -7,7 +7,7 @@ use Rattle.lz_machine.specs.Runs.{Start, IsStart, Point, Service, start_keys, St
 use Rattle.lz_machine.specs.Laws.{EveryHistory, WhatLasts, WalksMove}
 use Rattle.lz_machine.specs.Notes.{Notes}
 use Rattle.lz_machine.specs.Sound.{IsSound, UpSound, StateSound, PointSound}
-use Rattle.lz_machine.proofs.Steps.Trip.{point, trips_up, trips_down}
+use Rattle.lz_machine.proofs.Runs.PointParts.{point}
 use Rattle.lz_machine.proofs.Steps.Point.{call_keeps, turn_keeps, fails_keeps, looks_keeps}
 use Rattle.lz_machine.proofs.Crash.Down.{stops_keeps, crashes_keeps, open_fails_keeps}
 use Rattle.lz_machine.proofs.Crash.Leftovers as leaving
@@ -20,12 +20,12 @@ step_keeps start is (Up service disk) M P calls (Calls a c) sound may = call_kee
 step_keeps start is (Up service disk) M P calls (Turn a) sound may = turn_keeps start service disk M P calls sound a may
 step_keeps start is (Up service disk) M P calls (Fails a new) sound may = fails_keeps start service disk M P calls sound a new may
 step_keeps start is (Up service disk) M P calls (Looks a) sound may = looks_keeps start service disk M P calls sound a may
-step_keeps start is (Up service disk) M P calls Trips sound may = trips_up start service disk M P calls sound
+step_keeps start is (Up service disk) M P calls Trips sound may = sound
 step_keeps start is w M P calls Stops sound may = stops_keeps start w M P calls sound may
 step_keeps start is w M P calls (Crashes t) sound may = crashes_keeps start w M P calls t sound may
 step_keeps start is w M P calls (CrashesIn a t) sound may = leaving.crash_in_keeps start w M P calls a t sound may
 step_keeps start is w M P calls (OpenFails why done) sound may = open_fails_keeps start w M P calls why done sound may
-step_keeps start is (Down shape disk) M P calls Trips sound may = trips_down start shape disk M P calls sound
+step_keeps start is (Down shape disk) M P calls Trips sound may = sound
 step_keeps start is (Down shape disk) M P calls Opens sound may = opens_keeps start shape disk M P calls is (down_seen start shape disk M P calls sound) sound may
 step_keeps start is _ _ _ calls _ sound may = absurd may
 

@@ -19,7 +19,7 @@ use Rattle.lz_machine.specs.CallersSound.{CallerSound, view_of}
 use Rattle.lz_machine.specs.SlotsSound.{SlotStands, is_node, is_held, is_out as is_gone, is_free, is_limbo, IsNodeStage}
 use Rattle.lz_machine.specs.Sound.{UpSound, IsSound}
 use Rattle.lz_machine.specs.Limbo.{IsAway}
-use Rattle.lz_machine.proofs.Steps.Trip.{point}
+use Rattle.lz_machine.proofs.Runs.PointParts.{point}
 use Rattle.lz_machine.proofs.Steps.Point.{NextAt, marked, up_next}
 use Rattle.lz_machine.proofs.Frames.ChangeNotes.{none_beyond, none_outside}
 use Rattle.lz_machine.proofs.Frames.Limbo.{shorter}

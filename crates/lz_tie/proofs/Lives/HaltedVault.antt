@@ -6,7 +6,6 @@ use Rattle.lz_vault.specs.Vaults.{Vaulted, last_sync}
 use Rattle.lz_list.specs.Traces.{halt_word}
 use Rattle.lz_machine.specs.Yards.{Yard}
 use Rattle.lz_machine.specs.Runs.{run, first_point}
-use Rattle.lz_machine.proofs.Alone.Halt.{halted_dead}
 use Rattle.lz_machine.proofs.Theorem.Reached.{reached_sound, up_at}
 use Rattle.lz_board.specs.declared.view.Note.{Note}
 use Rattle.lz_board.specs.Notes.{trace_of}
@@ -20,7 +19,7 @@ dead_halted b ns y dev locked halted =
     let tie = locked.tied in
     let there = up_at tie.start (run (first_point tie.start) tie.steps) tie.service tie.medium (reached_sound tie.start tie.steps tie.starts tie.runs) tie.state in
     let trace = trace_reads (first_point tie.start) ns tie.steps tie.reads ∙ ap (λ P. trace_of P ns) (sym tie.begins) in
-    ap (λ (v : Vaulted). v.dead) tie.yard.vault ∙ halted_dead tie.start tie.steps tie.service tie.medium tie.runs tie.state (there.up.sound.trace.halt ∙ ap halt_word trace ∙ halted)
+    ap (λ (v : Vaulted). v.dead) tie.yard.vault ∙ there.up.sound.slots.halted (ap halt_word trace ∙ halted)
 
 -- no sync was left, or the device has failed
 pub over_halted : (b : BoardId) (ns : List Note) (y : Yard) (dev first : Device) (F : Format) → IsLocked b ns y dev → LivesOn F first ns y dev → halt_word (trace_of b.opened ns) ≡ 1 → (last_sync ≤ y.vault.syncs) ⊎ (first.faults < dev.faults)
