@@ -34,7 +34,9 @@ abbrev pub IsReadyFor : Yard → Actor → ℕ → Event → Type 0
 IsReadyFor y actor a Pin = pin_of y a < last_pin
 IsReadyFor y actor a (WriteKey k) = HasSlot actor (λ s. (s < y.shape.slots) × (is_unused (cell_at y s).stage ≡ true) × KeepsList y.words (key_at s) k) × (k ≤ largest_of y.vault.format)
 IsReadyFor y actor a Check = IsPlace y.words actor.pred × IsCurr y.words actor.curr
-IsReadyFor y actor a WriteOpen = HasSlot actor (λ s. (s < y.shape.slots) × ((cell_at y s).stage ≡ Keyed) × KeepsList y.words (link_at s) (link_to actor.curr) × IsCurr y.words actor.curr)
+IsReadyFor y actor a WriteOpen =
+    HasSlot actor (λ s. (s < y.shape.slots) × ((cell_at y s).stage ≡ Keyed) × KeepsList y.words (link_at s) (link_to actor.curr) × IsCurr y.words actor.curr
+    × ((cell_at y s).key ≡ get y.words (key_at s)) × (get y.words (key_at s) ≤ largest_key))
 IsReadyFor y actor a Link = HasSlot actor (λ s. IsPlace y.words actor.pred × MayLinkAt y.words actor.pred s × (get y.words (key_at s) ≤ largest_key))
 IsReadyFor y actor a WriteClose = HasCurr actor (λ s. (s < y.shape.slots) × (((cell_at y s).stage ≡ Opening) ⊎ ((cell_at y s).stage ≡ Open)))
 IsReadyFor y actor a Mark = HasCurr actor (λ s. (s < y.shape.slots) × (get y.words (key_at s) ≤ largest_key))

@@ -2,47 +2,30 @@
 use Rattle.std.proofs.Common.{◌≡◌, ℕ, zero, suc, ◌+◌, ◌≤◌, ◌<◌, Bool, List, [], ◌∷◌, ◌++◌, length, get_or, take, refl, sym, ◌∙◌, ap, subst, arith, Option, Some, None, IsTrue}
 use Rattle.std.specs.Prelude.{slice_get, map, ◌&&◌, ◌||◌, ◌==◌}
 use Rattle.std.specs.List.{cons_option}
-use Rattle.std.proofs.lemmas.List.{append-nil, length-map, map-append, take_all, take_more}
-use Rattle.std.proofs.lemmas.List.Elements.{filter_map-append}
+use Rattle.std.proofs.lemmas.List.{map-append, take_all, take_more}
 use Rattle.std.proofs.lemmas.Option.{slice_get-get_or, same_Some}
+use Rattle.lz_slot.specs.Limits.{largest_key}
+use Rattle.lz_slot.specs.Nodes.{Nodes}
 use Rattle.lz_slot.specs.Rooms.{largest_of}
 use Rattle.lz_slot.specs.declared.format.Format.{Format}
 use Rattle.lz_slot.specs.declared.format.Format.TheVariants.{One, Two, Three, Four}
 use Rattle.lz_slot.specs.Sets.{Same, members}
-use Rattle.lz_slot.specs.Bytes.{Holds, held, held_key, slot_at}
+use Rattle.lz_slot.specs.Bytes.{held, held_key, slot_at}
 use Rattle.lz_slot.specs.declared.slot.SlotRead.{SlotRead}
 use Rattle.lz_slot.specs.declared.slot.SlotRead.TheVariants as read
+use Rattle.lz_slot.proofs.Files.ExactBytes.{key_of_format}
 use Rattle.lz_slot.proofs.Files.HeldSets.{holds_same_set}
 use Rattle.lz_disk.specs.Devices.{Device}
 use Rattle.lz_vault.specs.Stages.{Cell}
-use Rattle.lz_vault.specs.Vaults.{cell_after, cells_at}
-use Rattle.lz_vault.specs.Members.{AreDistinct, keys_in, member_at, member_in, no_cell}
+use Rattle.lz_vault.specs.Members.{AreDistinct, AreListed, keys_in, member_at, member_in, no_cell, node_at}
 use Rattle.lz_vault.specs.Makes.{MayBeMembers}
 use Rattle.lz_vault.specs.Opens.{IsCellOf, is_open, keys_of}
-use Rattle.lz_vault.specs.Scans.{Finds}
+use Rattle.lz_vault.specs.Scans.{AreFresh, Finds}
 use Rattle.lz_vault.specs.Renewals.{AreHeldBy}
-use Rattle.lz_vault.specs.declared.vault.Entry.{Entry}
 use Rattle.lz_vault.specs.declared.vault.Stage.{Stage}
 use Rattle.lz_vault.specs.declared.vault.Stage.TheVariants.{Closed, Torn, KeyLoose, Keyed, Opening, Open, Closing}
-use Rattle.lz_vault.proofs.Changes.{from_mapped}
 use Rattle.lz_vault.proofs.OpeningFinds.{counted, found}
-
--- one slot more
-module _ (entries : List Entry) (i : ℕ) (d : Entry) (low : i < length entries) where
-  more : keys_in (cells_at 0 (take (i + 1) entries)) ≡ keys_in (cells_at 0 (take i entries)) ++ cons_option (member_in (cell_after 0 (get_or entries i d))) []
-  more =
-      ap (λ (es : List Entry). keys_in (cells_at 0 es)) (take_more entries i d low)
-      ∙ ap keys_in (map-append (cell_after 0) (take i entries) (get_or entries i d ∷ []))
-      ∙ filter_map-append member_in (cells_at 0 (take i entries)) (cell_after 0 (get_or entries i d) ∷ [])
-
-  pub key_more : (k : ℕ) → member_in (cell_after 0 (get_or entries i d)) ≡ Some k → keys_in (cells_at 0 (take (i + 1) entries)) ≡ keys_in (cells_at 0 (take i entries)) ++ k ∷ []
-  key_more k is = more ∙ ap (λ (m : Option ℕ). keys_in (cells_at 0 (take i entries)) ++ cons_option m []) is
-
-  pub no_more : member_in (cell_after 0 (get_or entries i d)) ≡ None → keys_in (cells_at 0 (take (i + 1) entries)) ≡ keys_in (cells_at 0 (take i entries))
-  no_more is = more ∙ ap (λ (m : Option ℕ). keys_in (cells_at 0 (take i entries)) ++ cons_option m []) is ∙ append-nil _
-
-pub all_keys : (entries : List Entry) (n : ℕ) → length entries ≤ n → keys_in (cells_at 0 (take n entries)) ≡ keys_in (cells_at 0 entries)
-all_keys entries n le = ap (λ (es : List Entry). keys_in (cells_at 0 es)) (take_all n entries le)
+use Rattle.lz_vault.proofs.SlotOrder.{keys_more}
 
 -- a key's slot
 abbrev InSlot : List Cell → ℕ → Type 0
@@ -113,20 +96,26 @@ key_of_member Opening key k is = absurd cc
 key_of_member Open key k is = same_Some key k is
 key_of_member Closing key k is = absurd cc
 
-no_entry : Entry
-no_entry = record { stage = Closed; key = 0; written = 0 }
-
-module _ (t : List ℕ) (entries : List Entry) (each : (i : ℕ) (entry : Entry) → slice_get entries i ≡ Some entry → IsCellOf (slot_at t i) (cell_after 0 entry)) where
-  first_held : (n : ℕ) → n ≤ length entries → keys_in (cells_at 0 (take n entries)) ≡ map (λ (node : ℕ × ℕ). node.0) (held t n)
+module _ (t : List ℕ) (cells : List Cell) (each : (i : ℕ) (cell : Cell) → slice_get cells i ≡ Some cell → IsCellOf (slot_at t i) cell) where
+  first_held : (n : ℕ) → n ≤ length cells → keys_in (take n cells) ≡ map (λ (node : ℕ × ℕ). node.0) (held t n)
   first_held zero le = refl
   first_held (suc n) le =
-      let low : n < length entries = omega (arith, le) in
-      let cell = cell_after 0 (get_or entries n no_entry) in
+      let low : n < length cells = omega (arith, le) in
+      let cell = get_or cells n no_cell in
       let next : suc n ≡ n + 1 = omega arith in
-      ap (λ (m : ℕ). keys_in (cells_at 0 (take m entries))) next
-      ∙ more entries n no_entry low
-      ∙ (λ i. first_held n (omega (arith, le)) i ++ read_key (slot_at t n) cell.stage cell.key n (each n (get_or entries n no_entry) (slice_get-get_or entries n no_entry low)) i)
+      ap (λ (m : ℕ). keys_in (take m cells)) next
+      ∙ ap keys_in (take_more cells n no_cell low)
+      ∙ keys_more (take n cells) cell
+      ∙ (λ i. first_held n (omega (arith, le)) i ++ read_key (slot_at t n) cell.stage cell.key n (each n cell (slice_get-get_or cells n no_cell low)) i)
       ∙ sym (map-append (λ (node : ℕ × ℕ). node.0) (held t n) (held_key (slot_at t n) n))
+
+-- the members that a scan lists have keys
+pub listed_fits : (format : Format) (cells : List Cell) (ms : Nodes) → AreFresh format cells → AreListed cells (length cells) ms → (i : ℕ) → i < length ms → (node_at ms i).0 ≤ largest_key
+listed_fits format cells ms fresh listed i lt =
+    let at = listed.each i lt in
+    let cell = get_or cells (node_at ms i).1 no_cell in
+    let key : cell.key ≡ (node_at ms i).0 = key_of_member cell.stage cell.key (node_at ms i).0 at.1 in
+    subst (λ (k : ℕ). k ≤ largest_key) key (key_of_format format cell.key (fresh (node_at ms i).1 cell (slice_get-get_or cells (node_at ms i).1 no_cell at.0)).0)
 
 -- a key of any format is one of the widest
 fits_three : (format : Format) (k : ℕ) → k ≤ largest_of format → k ≤ largest_of Three
@@ -135,28 +124,25 @@ fits_three Two k fits = fits
 fits_three Three k fits = fits
 fits_three Four k fits = fits
 
-module _ (before after : Device) (format : Format) (entries : List Entry) (finds : Finds before after format entries) where
+module _ (before after : Device) (format : Format) (cells : List Cell) (finds : Finds before after format cells) where
   -- what is read holds these keys
-  pub are_held : IsTrue before.honest → AreHeldBy before.medium.seen (keys_in (cells_at 0 entries))
+  pub are_held : IsTrue before.honest → AreHeldBy before.medium.seen (keys_in cells)
   are_held honest =
       let t = before.medium.seen in
-      let whole = found t entries (finds.bytes honest) (finds.size honest) (counted before after format entries finds honest) (finds.head honest) (finds.read honest) in
-      let count : length (cells_at 0 entries) ≡ length entries = length-map entries (cell_after 0) in (
-        length entries,
-        holds_same_set t (length entries) (keys_of (cells_at 0 entries)) (members (keys_in (cells_at 0 entries))) (same_keys (cells_at 0 entries))
-            (subst (λ (n : ℕ). Holds t n (keys_of (cells_at 0 entries))) count whole.held),
-        sym (all_keys entries (length entries) (omega arith)) ∙ first_held t entries (finds.read honest).each (length entries) (omega arith),
+      let whole = found t cells (finds.bytes honest) (finds.size honest) (counted before after format cells finds honest) (finds.head honest) (finds.read honest) in (
+        length cells,
+        holds_same_set t (length cells) (keys_of cells) (members (keys_in cells)) (same_keys cells) whole.held,
+        ap keys_in (sym (take_all (length cells) cells (omega arith))) ∙ first_held t cells (finds.read honest).each (length cells) (omega arith),
       )
 
   -- and they can be the members of a file of format 3
-  pub are_members : MayBeMembers Three (length (keys_in (cells_at 0 entries))) (keys_in (cells_at 0 entries))
-  are_members = record { few = omega arith; fit = fit; apart = apart (cells_at 0 entries) finds.distinct }
+  pub are_members : MayBeMembers Three (length (keys_in cells)) (keys_in cells)
+  are_members = record { few = omega arith; fit = fit; apart = apart cells finds.distinct }
     where
-      fit : (i : ℕ) → i < length (keys_in (cells_at 0 entries)) → get_or (keys_in (cells_at 0 entries)) i 0 ≤ largest_of Three
+      fit : (i : ℕ) → i < length (keys_in cells) → get_or (keys_in cells) i 0 ≤ largest_of Three
       fit i lt =
-          let k = get_or (keys_in (cells_at 0 entries)) i 0 in
-          let at = slot_of (cells_at 0 entries) i lt in
-          let cell = get_or (cells_at 0 entries) at.0 no_cell in
-          let from = from_mapped (cell_after 0) entries at.0 cell (slice_get-get_or (cells_at 0 entries) at.0 no_cell at.1) in
+          let k = get_or (keys_in cells) i 0 in
+          let at = slot_of cells i lt in
+          let cell = get_or cells at.0 no_cell in
           let key : cell.key ≡ k = key_of_member cell.stage cell.key k at.2 in
-          subst (λ (q : ℕ). q ≤ largest_of Three) (sym (ap (λ (c : Cell). c.key) from.2) ∙ key) (fits_three format from.0.key (finds.fresh at.0 from.0 from.1).1)
+          subst (λ (q : ℕ). q ≤ largest_of Three) key (fits_three format cell.key (finds.fresh at.0 cell (slice_get-get_or cells at.0 no_cell at.1)).0)

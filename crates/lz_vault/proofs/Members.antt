@@ -6,14 +6,12 @@ use Rattle.std.specs.List.{swap}
 use Rattle.std.specs.List.Sorted.{IsPermutation, IsSorted}
 use Rattle.std.specs.Ordering.{is_lt, nat_cmp, ordering_then}
 use Rattle.std.proofs.lemmas.Option.{same_Some}
-use Rattle.std.proofs.lemmas.List.{get_or-map, get_or_append_left, get_or_default, get_or_push}
+use Rattle.std.proofs.lemmas.List.{get_or_append_left, get_or_default, get_or_push}
 use Rattle.std.proofs.lemmas.List.Edits.{length-swap, swapped_from_swap}
 use Rattle.std.proofs.lemmas.List.Sorted.{IsPermutation-keeps}
 use Rattle.std.proofs.lemmas.Bool.{cases_eq, cases_Bool, cases_lt}
 use Rattle.std.proofs.lemmas.Bool.Decides.{nat_tests}
 use Rattle.lz_vault.specs.Stages.{Cell}
-use Rattle.lz_vault.specs.Vaults.{cell_after, cells_at}
-use Rattle.lz_vault.specs.declared.vault.Entry.{Entry}
 use Rattle.lz_slot.specs.Nodes.{Nodes, has_node}
 use Rattle.lz_vault.specs.Members.{member_at, member_in, no_cell, node_at, Ascends, AreApart, AreDistinct, AreListed, AreMembers, AreNeighbours, AreTwins, IsLowest, lower_twins}
 
@@ -42,10 +40,6 @@ pub node_of : (es : Nodes) (i : ℕ) → i < length es → has_node (node_at es 
 node_of [] i lt = absurd (omega (arith, lt))
 node_of (f ∷ es) zero lt = node_first f es
 node_of (f ∷ es) (suc i) lt = node_later (node_at es i).0 (node_at es i).1 f es (node_of es i (omega (arith, lt)))
-
--- the member of an entry's cell
-pub entry_member : (entries : List Entry) (i : ℕ) (entry : Entry) → i < length entries → member_at (cells_at 0 entries) i ≡ member_in (cell_after 0 (get_or entries i entry))
-entry_member entries i entry low = ap member_in (get_or-map (cell_after 0) entries i entry no_cell low)
 
 -- the list of no slots, and of one slot more
 module _ (cells : List Cell) where
@@ -111,6 +105,25 @@ module _ (cells : List Cell) where
 
         slot_of : {f g : ℕ × ℕ} → f ≡ g → f.1 ≡ g.1
         slot_of is = ap (λ (f : ℕ × ℕ). f.1) is
+
+-- the cells of one slot more
+module _ (cells : List Cell) (cell : Cell) where
+  abbrev grown : List Cell
+  grown = cells ++ cell ∷ []
+
+  was_at : (s : ℕ) → s < length cells → member_at grown s ≡ member_at cells s
+  was_at s lt = ap member_in (get_or_append_left cells (cell ∷ []) no_cell s lt)
+
+  pub last_at : member_at grown (length cells) ≡ member_in cell
+  last_at = ap member_in (get_or_push cells cell no_cell (length cells) refl)
+
+  -- those of the first slots are the same
+  pub grown_listed : (ms : Nodes) → AreListed cells (length cells) ms → AreListed grown (length cells) ms
+  grown_listed ms are = record {
+    each = λ i lt. let at = are.each i lt in (at.0, was_at (node_at ms i).1 at.0 ∙ at.1);
+    all = λ k s lt is. are.all k s lt (sym (was_at s lt) ∙ is);
+    apart = are.apart;
+  }
 
 -- two nodes in each other's place
 module _ (ms : Nodes) (a b : ℕ) (lt_a : a < length ms) (lt_b : b < length ms) where

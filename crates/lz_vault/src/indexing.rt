@@ -1,50 +1,62 @@
 //! The members that a scan has met, by key.
-ghost use Rattle.std.specs.Prelude.{◌≡◌, ◌≤◌, length, IfErr, IfOk, OnOk};
-ghost use Rattle.lz_slot.specs.Limits.{most_slots};
-ghost use Rattle.lz_vault.specs.Members.{AreListed, IsLowest, TellsTwins, lower_twins};
-ghost use Rattle.lz_vault.specs.Scans.{AreFresh, IsIndexed, taken};
-ghost use Rattle.lz_vault.specs.Vaults.{cells_at};
+ghost use Rattle.std.specs.Prelude.{◌≡◌, length, IfErr, IfOk, OnOk};
+ghost use Rattle.lz_vault.specs.Members.{IsLowest, TellsTwins, keys_in, lower_twins};
+ghost use Rattle.lz_vault.specs.Scans.{IsFresh, IsIndexed, IsKeyed};
 
 use crate::opening::OpenFault;
 use crate::scan::Scan;
-use lz_slot::Slot;
+use lz_slot::{Key, Slot};
 use std::alloc::{AllocError, Global};
 
 impl Scan {
-    // The key and the slot of each member, in the order of the slots.
-    fn listed(&self, alloc: Global) -> Result<Vec<(u64, Slot)>, AllocError>
-        requires count { taken self.now ≤ most_slots }
-        requires fresh { AreFresh self.now.format self.now.entries.items }
-        ensures { IfOk result (λ members. AreListed (cells_at 0 self.now.entries.items) (taken self.now) members.items) }
+    // The keys of the members, in the order of the slots.
+    fn listed_keys(&self, alloc: Global) -> Result<Vec<Key>, AllocError>
+        requires { IsFresh self.now.format self.now }
+        ensures { IfOk result (λ keys. keys.items ≡ keys_in self.now.cells) }
     {
-        let mut members = Vec::new(alloc);
-        for index in 0..self.entries.len() {
-            if let Some(key) = self.entries[index].member() {
-                members.push((key.rank(), Slot::new(index as u32)))?;
+        let mut keys = Vec::new(alloc);
+        for index in 0..self.members.len() {
+            let (rank, _) = self.members[index];
+            if let Some(key) = Key::of_rank(rank) {
+                keys.push(key)?;
             }
         }
-        Ok(members)
+        Ok(keys)
     }
 
-    // Notes the slot of each member by its key. Where two slots hold one key, it tells the lowest that holds one again.
-    pub(crate) fn index(&mut self, alloc: Global) -> Result<(), OpenFault>
-        requires count { taken self.old ≤ most_slots }
-        requires fresh { AreFresh self.old.format self.old.entries.items }
-        ensures rest { (self.new.format ≡ self.old.format) × (self.new.entries ≡ self.old.entries) }
-        ensures indexed { OnOk result (IsIndexed self.new) }
-        ensures twins { IfErr result (TellsTwins (cells_at 0 self.old.entries.items)) }
+    // Lists the keys of the members, where they are wanted.
+    fn list_keys(&mut self, alloc: Global, keys: bool) -> Result<(), OpenFault>
+        requires { IsFresh self.old.format self.old }
+        ensures rest { (self.new.format ≡ self.old.format) × (self.new.cells ≡ self.old.cells) × (self.new.members ≡ self.old.members) }
+        ensures keyed { OnOk result (IsKeyed keys self.new) }
+        ensures cause { IfErr result (λ fault. fault ≡ OpenFault.Memory) }
     {
-        let Ok(listed) = self.listed(alloc) else {
-            return Err(OpenFault::Memory);
-        };
-        let mut members = listed;
-        members.sort_unstable();
-        match lowest_twins(&members) {
-            Some((first, second)) => Err(OpenFault::Twice(first, second)),
-            None => {
-                self.members = members;
+        if !keys {
+            return Ok(());
+        }
+        match self.listed_keys(alloc) {
+            Ok(listed) => {
+                self.keys = listed;
                 Ok(())
             }
+            Err(AllocError) => Err(OpenFault::Memory),
+        }
+    }
+
+    // Brings the members into the order of their keys, once these are listed where they are wanted. Where two slots hold one key, it tells
+    // the lowest that holds one again.
+    pub(crate) fn index(&mut self, alloc: Global, keys: bool) -> Result<(), OpenFault>
+        requires { IsFresh self.old.format self.old }
+        ensures rest { (self.new.format ≡ self.old.format) × (self.new.cells ≡ self.old.cells) }
+        ensures indexed { OnOk result (IsIndexed self.new) }
+        ensures keyed { OnOk result (IsKeyed keys self.new) }
+        ensures twins { IfErr result (TellsTwins self.old.cells) }
+    {
+        self.list_keys(alloc, keys)?;
+        self.members.sort_unstable();
+        match lowest_twins(&self.members) {
+            Some((first, second)) => Err(OpenFault::Twice(first, second)),
+            None => Ok(()),
         }
     }
 }

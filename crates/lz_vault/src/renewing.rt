@@ -15,7 +15,7 @@ use crate::making::{MakeFault, make_with};
 use crate::opening::{OpenFault, scan_file};
 use lz_disk::Disk;
 use lz_slot::{Format, Key};
-use std::alloc::{AllocError, Global};
+use std::alloc::Global;
 
 /// Why a file was not renewed.
 #[derive(Clone, Copy, Debug, PartialEq, Eq)]
@@ -103,9 +103,6 @@ pub fn read_members<D: Disk>(alloc: Global, disk: &mut D) -> Result<Vec<Key>, Op
     ensures err { IfErr result (IsRefusedFor (D.device disk.old) (D.device disk.new)) }
     ensures calls { IsTrue (D.device disk.old).honest → OnOk result ((D.device disk.new).calls ≡ (D.device disk.old).calls + calls_of_reading (D.device disk.old).medium.seen) }
 {
-    let scan = scan_file(alloc, disk)?;
-    match scan.keys(alloc) {
-        Ok(keys) => Ok(keys),
-        Err(AllocError) => Err(OpenFault::Memory),
-    }
+    let scan = scan_file(alloc, disk, true)?;
+    Ok(scan.keys)
 }

@@ -7,7 +7,7 @@ use crate::vault::{Stage, VaultFault};
 use lz_disk::DeviceFault;
 use lz_slot::{CLOSED_GATE, Format, Key, OPEN_GATE, Slot, slot_body, whole_slot};
 
-// Bytes of a slot: its gate, those behind it, or all.
+// Bytes of a slot: its gate, those after it, or all.
 #[derive(Clone, Copy)]
 pub(crate) enum SlotBytes {
     Gate([u8; 1]),

@@ -220,7 +220,10 @@ impl<D: Disk> Parts<D> {
         ensures { IsPlayed D.device self.old self.new actor Event.WriteOpen result }
     {
         let slot = self.slot(actor);
-        self.vault.open_gate(slot)?;
+        let Some(key) = self.key(slot) else {
+            return Ok(Outcome::NotNow);
+        };
+        self.vault.open_gate(slot, key)?;
         let hand = self.actor(actor);
         self.list.set(Word::Link(slot), next_to(hand.curr));
         self.set_hold(actor, Hold::GateOpened);

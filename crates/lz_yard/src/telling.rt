@@ -82,7 +82,7 @@ impl<D: Disk> Parts<D> {
     }
 
     // The key word of a slot, which is a key.
-    fn key(&self, slot: Slot) -> Option<Key>
+    pub(crate) fn key(&self, slot: Slot) -> Option<Key>
         requires slot { slot < length self.now.yard.words.keys }
         requires key { get self.now.yard.words (Word.Key slot) ≤ largest_key }
         ensures { result ≡ Some (get self.now.yard.words (Word.Key slot)) }

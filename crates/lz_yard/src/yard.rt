@@ -4,7 +4,7 @@ ghost use Rattle.lz_slot.specs.Limits.{most_buckets, most_passes};
 ghost use Rattle.lz_allot.specs.Uses.{counts};
 ghost use Rattle.lz_list.specs.Words.{set};
 ghost use Rattle.lz_list.specs.Lists.{IsWord};
-ghost use Rattle.lz_vault.specs.Opens.{IsRefusedFor, MayOpen};
+ghost use Rattle.lz_vault.specs.Opens.{IsRefusedFor, MayOpen, open_count};
 ghost use Rattle.lz_yard.specs.Filling.{OpensYard};
 ghost use Rattle.lz_machine.specs.Ready.{IsEventOf};
 ghost use Rattle.lz_machine.specs.Runs.{MayPlay, with_words};
@@ -129,6 +129,13 @@ impl<D: Disk> Yard<D> {
         ensures { result ≡ is_sure self.now.yard slot }
     {
         slot.index() as usize >= self.parts.slots || self.parts.is_sure(slot)
+    }
+
+    /// How many slots are surely open.
+    pub fn opened(&self) -> usize
+        ensures { result ≡ open_count self.now.yard.vault.cells }
+    {
+        self.parts.vault.opened()
     }
 
     /// How many slots are free, taken and in limbo.

@@ -4,7 +4,7 @@ ghost use Rattle.lz_disk.specs.Records.{device_of};
 ghost use Rattle.lz_vault.specs.Opens.{MayOpen};
 
 use lz_disk::MemoryDisk;
-use lz_slot::{Format, Slot};
+use lz_slot::{Format, Key};
 use lz_vault::{Vault, make, suit};
 use std::alloc::Global;
 
@@ -28,14 +28,13 @@ pub fn made(alloc: Global, slots: u64) -> Option<MemoryDisk>
 pub fn keys_in(alloc: Global, disk: MemoryDisk) -> Option<Vec<u64>> {
     let mut disk = disk;
     suit(&mut disk);
-    let Ok(vault) = Vault::open(alloc, disk) else {
+    let Ok(opened) = Vault::open_with_members(alloc, disk) else {
         return None;
     };
     let mut keys = Vec::new(alloc);
-    for index in 0..vault.slots() {
-        if let Some(key) = vault.key_at(Slot::new(index as u32)) {
-            keys.push(key.get()).ok()?;
-        }
+    for index in 0..opened.members.len() {
+        let (rank, _) = opened.members[index];
+        keys.push(Key::of_rank(rank)?.get()).ok()?;
     }
     keys.sort().ok()?;
     Some(keys)

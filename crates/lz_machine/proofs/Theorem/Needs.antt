@@ -1,24 +1,27 @@
 -- What the needs of an event say of what its actor has in hand.
 use Rattle.std.proofs.Common.{◌≡◌, ℕ, ◌≤◌, true, false, Option, Some, None, is_some, refl}
 use mathlib.Core.Bool.{false≢true}
-use Rattle.lz_slot.specs.declared.format.Format.{Format}
 use Rattle.lz_slot.specs.Rooms.{largest_of}
 use Rattle.lz_vault.specs.declared.vault.Stage.{Stage}
 use Rattle.lz_vault.specs.declared.vault.Stage.TheVariants.{Keyed}
-use Rattle.lz_machine.specs.declared.actor.Actor.{Actor}
+use Rattle.lz_list.specs.Traces.{Trace, key_word}
 use Rattle.lz_machine.specs.declared.actor.Hold.{Hold}
 use Rattle.lz_machine.specs.declared.actor.Hold.TheVariants.{Nothing, Checked, GateOpened, GateClosed, Marked, Released}
 use Rattle.lz_machine.specs.declared.event.Event.{Event}
-use Rattle.lz_machine.specs.declared.event.Event.TheVariants.{WriteKey, Retire}
+use Rattle.lz_machine.specs.declared.event.Event.TheVariants.{WriteKey, WriteOpen, Retire}
 use Rattle.lz_machine.specs.Table.{has_stage, may_check, has_checked, has_opened, has_closed, has_marked, may_release, may_retire}
+use Rattle.lz_machine.specs.Yards.{cell_in}
+use Rattle.lz_machine.specs.CallersSound.{View}
 use Rattle.lz_machine.specs.SlotsSound.{opens}
 use Rattle.lz_machine.specs.LocksSound.{has_locks}
 
--- what a call knows of its next event: the node that it retires, and that the file can hold the key that it writes
-abbrev pub Knows : Format → Actor → Event → Type 0
-Knows format actor Retire = (s : ℕ) × (actor.curr ≡ Some s)
-Knows format actor (WriteKey k) = k ≤ largest_of format
-Knows format actor _ = Unit {0}
+-- what a call knows of its next event: the node that it retires, that the file can hold the key that it writes, and that the slot that it
+-- opens has the key of its word
+abbrev pub Knows : View → Trace → Event → Type 0
+Knows v P Retire = (s : ℕ) × (v.actor.curr ≡ Some s)
+Knows v P (WriteKey k) = k ≤ largest_of v.format
+Knows v P WriteOpen = (s : ℕ) × (v.actor.slot ≡ Some s) × ((cell_in v.cells s).key ≡ key_word s P)
+Knows v P _ = Unit {0}
 
 -- what the needs say
 pub some_of : (slot : Option ℕ) → is_some slot ≡ true → (s : ℕ) × (slot ≡ Some s)

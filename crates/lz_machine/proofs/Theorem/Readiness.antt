@@ -4,7 +4,7 @@ use mathlib.Core.Bool.{false≢true}
 use Rattle.std.specs.Prelude.{unwrap_or, IsSomeAnd, IfSome}
 use Rattle.std.proofs.lemmas.Bool.{cases_Bool, not-true, and_parts}
 use Rattle.lz_slot.specs.Rooms.{largest_of}
-use Rattle.std.proofs.lemmas.Option.{slice_get-get_or}
+use Rattle.std.proofs.lemmas.Option.{slice_get-get_or, same_Some}
 use Rattle.lz_slot.specs.Limits.{largest_key}
 use Rattle.lz_slot.specs.declared.command.Command.{Command}
 use Rattle.lz_slot.specs.Histories.{History}
@@ -116,8 +116,8 @@ module _ (n calls : ℕ) (y : Yard) (callers : List (Option Caller)) (disk : Med
   ready_check : Follows Check
   ready_check has plays = let locks = check_locks actor.hold has in (pred_place locks, curr_there locks)
 
-  ready_open : Follows WriteOpen
-  ready_open has plays =
+  ready_open : Knows (view_of y.shape y.vault y.actors a) P WriteOpen → Follows WriteOpen
+  ready_open knows has plays =
       let two = and_parts (has_checked actor.hold && is_some actor.slot) (has_stage Keyed (cell_at z (unwrap_or actor.slot 0)).stage) has in
       let first = and_parts (has_checked actor.hold) (is_some actor.slot) two.0 in
       let slot = some_of actor.slot first.1 in
@@ -129,8 +129,16 @@ module _ (n calls : ℕ) (y : Yard) (callers : List (Option Caller)) (disk : Med
           is_keyed (stage_in y.vault.cells slot.0) (ap (λ (q : Option ℕ). has_stage Keyed (stage_in y.vault.cells (unwrap_or q 0))) (sym slot.1) ∙ two.1),
           keeps_link y.shape y.words P sound.trace (few_slots sound.images) w heads links keys slot.0 _ hand.loose,
           curr_there (ap has_locks (is_checked actor.hold first.0)),
+          key_same slot.0 slot.1 hand.in_range,
+          is_key slot.0 hand.in_range (cell_key slot.0 slot.1),
         ),
       )
+    where
+      cell_key : (s : ℕ) → actor.slot ≡ Some s → (cell_in y.vault.cells s).key ≡ key_word s P
+      cell_key s slot = subst (λ (q : ℕ). (cell_in y.vault.cells q).key ≡ key_word q P) (same_Some _ _ (sym knows.1 ∙ slot)) knows.2
+
+      key_same : (s : ℕ) → actor.slot ≡ Some s → s < y.shape.slots → (cell_in y.vault.cells s).key ≡ get w (key_at s)
+      key_same s slot lt = cell_key s slot ∙ sym (key_is y.shape y.words P sound.trace (few_slots sound.images) w heads links keys s lt)
 
   ready_link : Follows Link
   ready_link has plays =
@@ -186,11 +194,11 @@ module _ (n calls : ℕ) (y : Yard) (callers : List (Option Caller)) (disk : Med
           let hand = sound.slots.hand a s is in
           (hand.in_range, λ unused. (omega (arith, hand.in_range, sound.slots.count), hand.taken))
 
-  ready_for : (e : Event) → Knows y.vault.format actor e → Follows e
+  ready_for : (e : Event) → Knows (view_of y.shape y.vault y.actors a) P e → Follows e
   ready_for Pin knows has plays = ready_pin has plays
   ready_for (WriteKey k) knows has plays = ready_key k knows has plays
   ready_for Check knows has plays = ready_check has plays
-  ready_for WriteOpen knows has plays = ready_open has plays
+  ready_for WriteOpen knows has plays = ready_open knows has plays
   ready_for Link knows has plays = ready_link has plays
   ready_for WriteClose knows has plays = ready_close has plays
   ready_for Mark knows has plays = ready_mark has plays
@@ -199,6 +207,11 @@ module _ (n calls : ℕ) (y : Yard) (callers : List (Option Caller)) (disk : Med
   ready_for Retire knows has plays = ready_retire knows.0 knows.1 has plays
   ready_for Answer knows has plays = ready_answer has plays
   ready_for _ knows has plays = tt
+
+-- A call that opens a slot knows its key.
+abbrev is_write_open : Event → Bool
+is_write_open WriteOpen = true
+is_write_open _ = false
 
 -- A call that retires knows the node.
 abbrev is_retire : Event → Bool
@@ -216,7 +229,18 @@ module _ (words : Words) (shape : Shape) (v : View) (c : Command) (P0 P : Trace)
   retires_node (Playing sequence i) h is = retires_in sequence i h is
   retires_node _ h is = absurd (false≢true is)
 
-  caller_knows : (at : Progress) → (is_before_pin at ≡ false → is_old v.format c ≡ false) → Relies v c at P0 P changed → (e : Event) → loaded words (event_at shape c at) ≡ e → Knows v.format v.actor e
+  abbrev Opens : Progress → Type 0
+  Opens at = is_write_open (loaded words (event_at shape c at)) ≡ true
+
+  opens_in : (sequence : Sequence) (i : ℕ) → Relies v c (Playing sequence i) P0 P changed → Opens (Playing sequence i) → Knows v P WriteOpen
+  opens_in sequence i h is = grind arith
+
+  opens_slot : (at : Progress) → Relies v c at P0 P changed → Opens at → Knows v P WriteOpen
+  opens_slot (Playing sequence i) h is = opens_in sequence i h is
+  opens_slot _ h is = absurd (false≢true is)
+
+  caller_knows : (at : Progress) → (is_before_pin at ≡ false → is_old v.format c ≡ false) → Relies v c at P0 P changed → (e : Event) → loaded words (event_at shape c at) ≡ e → Knows v P e
+  caller_knows at fits h WriteOpen is = opens_slot at h (ap is_write_open is)
   caller_knows at fits h Retire is = retires_node at h (ap is_retire is)
   caller_knows at fits h (WriteKey k) is = writes_fitting words shape v c P0 P changed k at fits h (ap key_written is)
   caller_knows at fits h _ is = tt
@@ -264,7 +288,7 @@ module _ (y : Yard) (honest : Bool) (disk : Medium) (a : ℕ) (e : Event) (may :
       let range = caller_range may.service.callers a caller.0 caller.1 in
       (range.0, omega (arith, range.1, actors_are, sound_there.up.sound.callers.count))
 
-  knows : Knows may.service.yard.vault.format (actor_in may.service.yard.actors a) e
+  knows : Knows (view_of may.service.yard.shape may.service.yard.vault may.service.yard.actors a) last.trace e
   knows = elim (cases_Bool (is_invoke e)) [
     | inl invokes ↦ begins_knowing e invokes
     | inr other ↦
@@ -274,7 +298,7 @@ module _ (y : Yard) (honest : Bool) (disk : Medium) (a : ℕ) (e : Event) (may :
         caller_knows may.service.yard.words may.service.yard.shape (view_of may.service.yard.shape may.service.yard.vault may.service.yard.actors a) caller.0.command (sound_there.notes.begun a) last.trace (sound_there.notes.changed a) caller.0.progress (λ after. own.stands.1 (side_even (pin_in may.service.yard.words.pins a) caller.0.progress own.stands.0 ∙ ap side_of after)) own.stands.2 e caller.2
   ]
     where
-      begins_knowing : (e' : Event) → is_invoke e' ≡ true → Knows may.service.yard.vault.format (actor_in may.service.yard.actors a) e'
+      begins_knowing : (e' : Event) → is_invoke e' ≡ true → Knows (view_of may.service.yard.shape may.service.yard.vault may.service.yard.actors a) last.trace e'
       begins_knowing (Invoke c) is = tt
       begins_knowing _ is = absurd (false≢true is)
 

@@ -1,0 +1,30 @@
+use Rattle.std.proofs.Common.{◌≡◌, ◌≢◌, None, refl}
+use Rattle.lz_slot.proofs.Files.ExactBytes.{zero_fits}
+use Rattle.lz_vault.specs.Members.{member_in}
+use Rattle.lz_vault.specs.Stages.{Cell, IsSteady}
+use Rattle.lz_vault.specs.declared.vault.Stage.{Stage}
+use Rattle.lz_vault.specs.declared.vault.Stage.TheVariants.{Closed, Torn, KeyLoose, Keyed, Opening, Open, Closing}
+use Rattle.lz_vault.proofs.Scanning.{fresh_pushed, note_more}
+use Rattle.lz_vault.proofs.SlotOrder.{next_none}
+use Rattle.lz_vault.proofs.scan.Scan.note_shut.Goals as goal
+
+no_member : (stage : Stage) → IsSteady stage → stage ≢ Open → member_in (record { stage = stage; key = 0 }) ≡ None
+no_member Closed steady shut = refl
+no_member Torn steady shut = refl
+no_member KeyLoose steady shut = absurd steady
+no_member Keyed steady shut = absurd steady
+no_member Opening steady shut = absurd steady
+no_member Open steady shut = absurd (shut refl)
+no_member Closing steady shut = absurd steady
+
+pub returns-in-Ok-clause-fresh : goal.returns-in-Ok-clause-fresh
+returns-in-Ok-clause-fresh c = λ before.
+    let was = c.args.self.now in
+    let cell : Cell = record { stage = c.args.stage; key = 0 } in
+    rw c.in-Ok.ensures.ok (
+      fresh_pushed was.format was.cells cell before.0 (zero_fits was.format) c.requires.shut.0 (λ shut. refl) c.requires.shut.2,
+      next_none was.cells cell was.members.items before.1 (no_member c.args.stage c.requires.shut.0 c.requires.shut.1),
+    )
+
+pub returns-in-Ok-clause-scan : goal.returns-in-Ok-clause-scan
+returns-in-Ok-clause-scan c = λ says is before. (rw c.in-Ok.ensures.ok (note_more says c.args.self.now.cells (record { stage = c.args.stage; key = 0 }) before is), tt)

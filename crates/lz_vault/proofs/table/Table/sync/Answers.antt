@@ -1,0 +1,24 @@
+use Rattle.std.proofs.Common.{◌≡◌, ◌+◌, ◌∙◌, List, ℕ, ap, arith, subst}
+use Rattle.std.specs.Prelude.{map, vec_capacity}
+use Rattle.lz_vault.specs.Opens.{open_count}
+use Rattle.lz_vault.specs.Stages.{cell_synced}
+use Rattle.lz_vault.specs.Tables.{AreMoved}
+use Rattle.lz_vault.proofs.Tables.{moved_all, table_synced}
+use Rattle.lz_vault.proofs.table.Table.sync.Goals.{After-clear}
+use Rattle.lz_vault.proofs.table.Table.sync.Goals as goal
+
+all_moved : (c : After-clear) → c.move_on.new.cells ≡ map cell_synced c.self.inside.cells
+all_moved c =
+    let slots = c.self.inside.unsynced.items in
+    moved_all c.self.inside.cells c.move_on.new.cells slots c.self.invariant.listed
+    (subst (λ (ss : List ℕ). AreMoved c.self.inside.cells c.move_on.new.cells ss) c.deref.ensures.value c.move_on.ensures.moved)
+
+pub invariant_of-self : goal.invariant_of-self
+invariant_of-self c =
+    let opened = c.self.inside.opened in
+    let all : opened + c.move_on.result ≡ open_count c.move_on.new.cells = omega (arith, c.self.invariant.opened, c.move_on.ensures.count) in
+    rw (c.clear.ensures.items, c.clear.ensures.capacity, all_moved c)
+    (table_synced c.self.inside.cells c.self.inside.unsynced.items (vec_capacity c.self.inside.unsynced) opened (opened + c.move_on.result) c.self.invariant (all ∙ ap open_count (all_moved c)))
+
+pub returns : goal.returns
+returns c = rw (← c.self.view_is) (all_moved c)
