@@ -15,6 +15,7 @@ ghost use Rattle.lz_tie.specs.OneCaller.{IsPlainAnswer, keys_in};
 ghost use Rattle.lz_tie.specs.RunningSets.{members_of};
 ghost use Rattle.lz_yard.specs.Filling.{OpensYard};
 ghost use Rattle.lz_set.specs.Answers.{reply_of};
+ghost use Rattle.lz_set.specs.Counts.{CountsOpen};
 ghost use Rattle.lz_set.specs.Blanks.{IsSized, MayBeNamed};
 ghost use Rattle.lz_set.specs.Names.{MayCall};
 
@@ -170,6 +171,19 @@ impl<D: Disk, G: StepGate, N: Named> Set<D, G, N> {
         ensures call { KeepsCall (part pass.old) (part pass.new) }
     {
         self.board.list(alloc, pass, from, most)
+    }
+
+    /// How many members are durable just now, and which the pass has then seen: those are none whose addition or removal is under way. It may
+    /// wait for the set.
+    pub fn count<R: Wait>(&self, rt: &R, pass: &mut Pass) -> usize
+        requires pass { MayCall N.board pass.old }
+        ensures pass { MayCall N.board pass.new }
+        ensures counts { CountsOpen N.board (part pass.old) (part pass.new) result }
+    {
+        let mut locked = self.locked.lock(rt);
+        locked.welcome(&self.board, pass);
+        locked.holds();
+        locked.opened()
     }
 
     /// Lets two passes see what either has seen. It waits for nobody.

@@ -1,5 +1,6 @@
 //! What lies under the lock.
 ghost use Rattle.std.specs.Prelude.{◌≡◌, ◌⊎◌, ◌≤◌, ◌<◌};
+ghost use Rattle.lz_vault.specs.Opens.{open_count};
 ghost use Rattle.lz_vault.specs.Vaults.{last_sync};
 ghost use Rattle.lz_list.specs.Traces.{halt_word};
 ghost use Rattle.lz_machine.specs.Table.{is_sure};
@@ -61,6 +62,13 @@ impl<N: Named, D: Disk> Locked<N, D> {
         ensures { result ≡ is_sure self.now.yard slot }
     {
         self.yard.is_covered(slot)
+    }
+
+    /// How many slots are open for sure.
+    pub fn opened(&self) -> usize
+        ensures { result ≡ open_count self.now.yard.vault.cells }
+    {
+        self.yard.opened()
     }
 
     /// What a crash at any moment of the life might have left: each such text is one that may be left in the state to which

@@ -6,6 +6,8 @@ mod beside;
 #[cfg(test)]
 mod boards;
 #[cfg(test)]
+mod counting;
+#[cfg(test)]
 mod drills;
 #[cfg(test)]
 mod gates;

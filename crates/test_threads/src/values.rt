@@ -15,11 +15,11 @@ use std::sync::Wait;
 use std::test::Fail;
 use test_support::{keys_in, made};
 
-type Shared<N> = Set<MemoryDisk, NoGate, N>;
+pub type Shared<N> = Set<MemoryDisk, NoGate, N>;
 
-type Lock<'a, N> = Kept<'a, MemoryDisk, N>;
+pub type Lock<'a, N> = Kept<'a, MemoryDisk, N>;
 
-type Answer = Result<bool, Fault>;
+pub type Answer = Result<bool, Fault>;
 
 /// A pass with its call.
 #[derive(Drop)]
@@ -28,7 +28,8 @@ pub struct Play {
     call: Underway,
 }
 
-fn begin<'a, N: Named, R: Wait>(
+/// Begins a call.
+pub fn begin<'a, N: Named, R: Wait>(
     rt: &R,
     set: &'a Shared<N>,
     kept: &mut Lock<'a, N>,
@@ -43,8 +44,8 @@ fn begin<'a, N: Named, R: Wait>(
     Play { pass, call }
 }
 
-// Whether the call comes to a stop at this stage.
-fn comes_to<'a, N: Named, R: Wait>(
+/// Whether the call comes to a stop at this stage.
+pub fn comes_to<'a, N: Named, R: Wait>(
     rt: &R,
     set: &'a Shared<N>,
     kept: &mut Lock<'a, N>,
@@ -57,8 +58,8 @@ fn comes_to<'a, N: Named, R: Wait>(
     set.go_on(rt, kept, &mut play.pass, &mut play.call) == stage
 }
 
-// Whether the call comes to a Sync, which it plays then.
-fn syncs<'a, N: Named, R: Wait>(
+/// Whether the call comes to a Sync, which it plays then.
+pub fn syncs<'a, N: Named, R: Wait>(
     rt: &R,
     set: &'a Shared<N>,
     kept: &mut Lock<'a, N>,
@@ -76,8 +77,8 @@ fn syncs<'a, N: Named, R: Wait>(
     }
 }
 
-// The answer of a call that comes to it.
-fn answer<'a, N: Named, R: Wait>(
+/// The answer of a call that comes to it.
+pub fn answer<'a, N: Named, R: Wait>(
     rt: &R,
     set: &'a Shared<N>,
     kept: &mut Lock<'a, N>,
