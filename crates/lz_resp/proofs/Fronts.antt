@@ -58,7 +58,7 @@ front_more front word (Ok None) = refl
 front_more front word (Ok (Some p)) = ap (λ (x : List (List ℕ)). Ok (Some (x, p.1))) (sym (append_assoc front (word ∷ []) p.0))
 front_more front word (Err f) = refl
 
-one_less : (n k : ℕ) → k < n → n - k ≡ suc (n - (k + 1))
+pub one_less : (n k : ℕ) → k < n → n - k ≡ suc (n - (k + 1))
 one_less n k h = omega (arith, h)
 
 pub words_next : (n k : ℕ) (front : List (List ℕ)) (word text rest : List ℕ) → k < n → word_at text ≡ Ok (Some (word, rest))

@@ -3,6 +3,10 @@ pub mod Hashed
 pub mod Joined
 pub mod KeyRows
 pub mod LongerTexts
+pub mod PageFronts
+pub mod PageRows
+pub mod PageTexts
+pub mod ToldPages
 pub mod QueryRows
 pub mod Rows
 pub mod ScanRows

@@ -29,7 +29,7 @@ ended_line : (line tail more : List ℕ) → ((line ++ line_end) ++ tail) ++ mor
 ended_line line tail more = append_assoc (line ++ line_end) tail more ∙ append_assoc line line_end (tail ++ more)
 
 -- a word's text is read as the word
-word_read : (word more : List ℕ) → length word ≤ most_word → word_at (bulk word ++ more) ≡ given word more
+pub word_read : (word more : List ℕ) → length word ≤ most_word → word_at (bulk word ++ more) ≡ given word more
 word_read word more short =
     let digits = decimal (length word) in
     let lacks : Lacks 13 digits = decimal_lacks 13 (length word) refl (omega (arith, short)) in
@@ -132,7 +132,7 @@ line_parts fault text line rest (Some p) is h =
     let same = same_read p.0 line t.rest rest t.second in
     is ∙ ap (λ (t : List ℕ). p.0 ++ t) ended ∙ cc (same.0, same.1)
 
-line_spelled : (fault : Fault) (text line rest : List ℕ) → line_at fault text ≡ Ok (Some (line, rest)) → text ≡ line ++ 13 ∷ 10 ∷ rest
+pub line_spelled : (fault : Fault) (text line rest : List ℕ) → line_at fault text ≡ Ok (Some (line, rest)) → text ≡ line ++ 13 ∷ 10 ∷ rest
 line_spelled fault text line rest h = line_parts fault text line rest (parted 13 text) (parted_whole 13 text) h
 
 pub record CutOff (n : ℕ) (text word rest : List ℕ) : Type 0 where
@@ -171,7 +171,7 @@ bulk_by digits text mid word rest (Some n) is spelled h =
       short = omega (arith, number.1, cut.long);
     }
 
-word_spelled : (text word rest : List ℕ) → word_at text ≡ Ok (Some (word, rest)) → IsBulk text word rest
+pub word_spelled : (text word rest : List ℕ) → word_at text ≡ Ok (Some (word, rest)) → IsBulk text word rest
 word_spelled [] word rest h = absurd (cc)
 word_spelled (b ∷ text) word rest h =
     cond_both (b == dollar) (bulk_at text) (Err (NoBulk b)) (λ r. r ≡ Ok (Some (word, rest)) → IsBulk (b ∷ text) word rest)

@@ -4,6 +4,7 @@ pub mod Frames
 pub mod Keys
 pub mod Limits
 pub mod Names
+pub mod Pages
 pub mod Pieces
 pub mod Queries
 pub mod Reading

@@ -23,7 +23,7 @@ pub enum Fault {
 
 /// Why nothing was read.
 #[derive(Clone, Copy, Debug)]
-pub(crate) enum Stop {
+pub enum Stop {
     Memory,
     Faulty(Fault),
 }

@@ -1,5 +1,6 @@
 //! Laws of frames. Each function is one law.
 ghost use Rattle.lz_resp.specs.Keys.{HashedOnce};
+ghost use Rattle.lz_resp.specs.Pages.{FaultsHaveNoPage, PagesAreRead, PagesAreSpelled, PagesAreToldAndRead};
 ghost use Rattle.lz_resp.specs.Pieces.{AnyPieces, FaultsHaveNoFrame, FramesAreRead, FramesAreSpelled, OneListOfItems};
 
 /// Each text has exactly one list of items.
@@ -30,4 +31,24 @@ pub fn faults_have_no_frame()
 /// What is hashed for a key of texts is of one name and one member.
 pub fn hashed_once()
     ensures { HashedOnce }
+{}
+
+/// A page is read wherever one stands, whatever follows it.
+pub fn pages_are_read()
+    ensures { PagesAreRead }
+{}
+
+/// What is read as a page is one, each byte of it.
+pub fn pages_are_spelled()
+    ensures { PagesAreSpelled }
+{}
+
+/// Where a fault is told no page stands, however the text goes on.
+pub fn faults_have_no_page()
+    ensures { FaultsHaveNoPage }
+{}
+
+/// What the service tells of a page is read as its cursor and the room's members.
+pub fn pages_are_told_and_read()
+    ensures { PagesAreToldAndRead }
 {}

@@ -2,7 +2,7 @@
 //!
 //! `Frames` cuts a text that comes in pieces into frames, and gives what each asks for; `push_reply` tells the reply to it, by
 //! the replies to its requests, `Scan::text` that to a page that was asked for, and `Query::text` that to what is asked of the service
-//! itself. Each is exact: it gives what the definitions under `specs/` say.
+//! itself. `read_page` reads such a page, for a client. Each is exact: it gives what the definitions under `specs/` say.
 #![tactic(auto)]
 
 mod asking;
@@ -19,6 +19,7 @@ mod item;
 pub mod laws;
 mod limits;
 mod naming;
+mod page;
 mod query;
 mod reading;
 mod reply;
@@ -30,13 +31,14 @@ mod text;
 mod three;
 mod words;
 
-pub use fault::Fault;
+pub use fault::{Fault, Stop};
 pub use figures::Figures;
 pub use form::Form;
 pub use frames::Frames;
 pub use item::{Item, Requests};
 pub use limits::{MOST_FRAME, MOST_LISTED, MOST_VALUE, MOST_WORD, MOST_WORDS};
 pub use naming::Naming;
+pub use page::{Page, page_request, read_page};
 pub use query::{Query, Sections};
 pub use reply::{has_halted, push_reply};
 pub use scan::Scan;

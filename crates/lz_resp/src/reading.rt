@@ -142,8 +142,8 @@ fn count_of(digits: &[u8]) -> Option<usize>
     Some(count as usize)
 }
 
-// A bulk string's bytes, and what follows it.
-fn read_word(text: &[u8]) -> Result<Option<(&[u8], &[u8])>, Fault>
+/// A bulk string's bytes, and what follows it.
+pub(crate) fn read_word(text: &[u8]) -> Result<Option<(&[u8], &[u8])>, Fault>
     ensures gives { seen (λ p. (p.0.now, p.1.now)) result ≡ word_at text.now }
     ensures inside { IfOk result (λ found. IfSome found (λ p. length p.1.now ≤ length text.now)) }
 {
@@ -183,8 +183,8 @@ fn cut_word(count: usize, text: &[u8]) -> Result<Option<(&[u8], &[u8])>, Fault>
     }
 }
 
-// A line less its end, and what follows it.
-fn read_line(fault: Fault, text: &[u8]) -> Result<Option<(&[u8], &[u8])>, Fault>
+/// A line less its end, and what follows it.
+pub(crate) fn read_line(fault: Fault, text: &[u8]) -> Result<Option<(&[u8], &[u8])>, Fault>
     ensures gives { seen (λ p. (p.0.now, p.1.now)) result ≡ line_at fault text.now }
     ensures inside { IfOk result (λ found. IfSome found (λ p. length p.1.now ≤ length text.now)) }
 {

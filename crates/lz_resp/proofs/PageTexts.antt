@@ -1,0 +1,226 @@
+-- What is read is a page, and each page is read.
+use Rattle.std.proofs.Common.{◌≡◌, ℕ, zero, suc, ◌≤◌, List, [], ◌∷◌, ◌++◌, length, Bool, true, false, nat_le, decimal, Option, Some, None, Ok, Err, refl, sym, ap, subst, ◌∙◌, arith, append_assoc}
+use Rattle.std.specs.Prelude.{◌==◌, if◌then◌else◌}
+use Rattle.std.specs.Fmt.{digits}
+use Rattle.std.specs.List.{flat_map, list_all}
+use Rattle.std.proofs.lemmas.Bool.{cond_both}
+use Rattle.std.proofs.lemmas.Bool.Decides.{nat_tests}
+use Rattle.std.proofs.lemmas.Fmt.{length-decimal-le}
+use Rattle.lz_slot.specs.Limits.{largest_number, most_slots}
+use Rattle.lz_slot.specs.Numerals.{number_in}
+use Rattle.lz_slot.proofs.Texts.Cuts.{Lacks}
+use Rattle.lz_slot.proofs.Texts.Numerals.{decimal_read, number_told_of}
+use Rattle.lz_slot.proofs.Texts.Spellings.{decimal_lacks}
+use Rattle.lz_resp.specs.Frames.{bulk, star}
+use Rattle.lz_resp.specs.Limits.{most_word, most_words}
+use Rattle.lz_resp.specs.Pages.{FaultsHaveNoPage, IsPage, PagesAreRead, PagesAreSpelled, counted, count_at, heading_at, members_at, number_at, number_text, numbers_at, page_at, page_of, parts_at, told_text}
+use Rattle.lz_resp.specs.Reading.{Front, and_then, line_at, word_at}
+use Rattle.lz_resp.specs.declared.fault.Fault.{Fault}
+use Rattle.lz_resp.specs.declared.fault.Fault.TheVariants.{Count}
+use Rattle.lz_resp.proofs.LongerTexts.{Stays, given, same_read, stays_given, stays_line, stays_then, stays_word, stays_wrong, then_value}
+use Rattle.lz_resp.proofs.Spellings.{line_read, line_spelled, word_read, word_spelled}
+
+heading_read : (n : ℕ) (more : List ℕ) → n ≤ most_words → heading_at (42 ∷ (decimal n ++ 13 ∷ 10 ∷ more)) ≡ given n more
+heading_read n more few =
+    let lacks : Lacks 13 (decimal n) = decimal_lacks 13 n refl (omega (arith, few)) in
+    ap (λ (r : Front (List ℕ)). and_then r (λ digits rest. counted (number_in 0 most_words digits) rest)) (line_read Count (decimal n) more lacks)
+    ∙ ap (λ (m : Option ℕ). counted m more) (decimal_read 0 most_words n (omega arith) (omega arith) few)
+
+-- a number that a page may have is short
+number_short : (n : ℕ) → n ≤ largest_number → length (decimal n) ≤ most_word
+number_short n small = let short : length (decimal n) ≤ 18 = length-decimal-le 18 n (omega arith) (omega arith) (omega arith) in omega (arith, short)
+
+number_read : (high n : ℕ) (more : List ℕ) → high ≤ largest_number → n ≤ high → number_at high (number_text n ++ more) ≡ given n more
+number_read high n more within small =
+    ap (λ (r : Front (List ℕ)). and_then r (λ word rest. counted (number_in 0 high word) rest)) (word_read (decimal n) more (number_short n (omega arith)))
+    ∙ ap (λ (m : Option ℕ). counted m more) (decimal_read 0 high n (omega arith) (omega arith) small)
+
+small_first : (n : ℕ) (numbers : List ℕ) → list_all (λ number. nat_le number largest_number) (n ∷ numbers) ≡ true
+    → (n ≤ largest_number) × (list_all (λ number. nat_le number largest_number) numbers ≡ true)
+small_first n numbers h = (grind (arith, nat_tests), grind (arith, nat_tests))
+
+numbers_read : (numbers more : List ℕ) → list_all (λ number. nat_le number largest_number) numbers ≡ true → numbers_at (length numbers) (flat_map number_text numbers ++ more) ≡ given numbers more
+numbers_read [] more small = refl
+numbers_read (n ∷ numbers) more small =
+    let both = small_first n numbers small in
+    let rest = flat_map number_text numbers ++ more in
+    ap (numbers_at (suc (length numbers))) (append_assoc (number_text n) (flat_map number_text numbers) more)
+    ∙ ap (λ (r : Front ℕ). and_then r (λ number rest. and_then (numbers_at (length numbers) rest) (λ numbers after. Ok (Some (number ∷ numbers, after))))) (number_read largest_number n rest (omega arith) both.0)
+    ∙ ap (λ (r : Front (List ℕ)). and_then r (λ numbers after. Ok (Some (n ∷ numbers, after)))) (numbers_read numbers more both.1)
+
+-- the parts of a page's text
+regroup : (a b c rest : List ℕ)
+    → ((((((42 ∷ 50 ∷ 13 ∷ 10 ∷ []) ++ a) ++ (42 ∷ [])) ++ b) ++ (13 ∷ 10 ∷ [])) ++ c) ++ rest ≡ 42 ∷ 50 ∷ 13 ∷ 10 ∷ (a ++ 42 ∷ (b ++ 13 ∷ 10 ∷ (c ++ rest)))
+regroup a b c rest = simp append_assoc
+
+two : decimal 2 ≡ 50 ∷ []
+unfolding digits
+two = refl
+
+pub pages_are_read : PagesAreRead
+pages_are_read next numbers rest page =
+    let count = decimal (length numbers) in
+    let members = 42 ∷ (count ++ 13 ∷ 10 ∷ (flat_map number_text numbers ++ rest)) in
+    let parts = number_text next ++ members in
+    let first : heading_at (42 ∷ 50 ∷ 13 ∷ 10 ∷ parts) ≡ given 2 parts =
+    ap (λ (d : List ℕ). heading_at (42 ∷ (d ++ 13 ∷ 10 ∷ parts))) (sym two) ∙ heading_read 2 parts (omega arith) in
+    let cursor : number_at most_slots parts ≡ given next members = number_read most_slots next members (omega arith) page.cursor in
+    let told : members_at members ≡ given numbers rest =
+    ap (λ (r : Front ℕ). and_then r numbers_at) (heading_read (length numbers) (flat_map number_text numbers ++ rest) page.few) ∙ numbers_read numbers rest page.small in
+    ap page_at (regroup (number_text next) count (flat_map number_text numbers) rest) ∙ ap (λ (r : Front ℕ). and_then r page_of) first
+    ∙ ap (λ (r : Front ℕ). and_then r (λ next rest. and_then (members_at rest) (λ numbers after. Ok (Some ((next, numbers), after))))) cursor
+    ∙ ap (λ (r : Front (List ℕ)). and_then r (λ numbers after. Ok (Some ((next, numbers), after)))) told
+
+-- a number that was told is the one that its digits spell
+counted_told : (high : ℕ) (digits rest : List ℕ) (n : ℕ) (after : List ℕ) (m : Option ℕ) → number_in 0 high digits ≡ m → counted m rest ≡ given n after
+    → (n ≤ high) × (digits ≡ decimal n) × (rest ≡ after)
+counted_told high digits rest n after None is h = absurd (cc)
+counted_told high digits rest n after (Some m) is h =
+    let number = number_told_of 0 high m digits is in
+    let same = same_read m n rest after h in (omega (arith, number.1, same.0), number.2 ∙ ap decimal same.0, same.1)
+
+count_spelled : (text : List ℕ) (n : ℕ) (rest : List ℕ) → count_at text ≡ given n rest → (n ≤ most_words) × (text ≡ decimal n ++ 13 ∷ 10 ∷ rest)
+count_spelled text n rest h =
+    let t = then_value (line_at Count text) (λ digits rest. counted (number_in 0 most_words digits) rest) n rest h in
+    let told = counted_told most_words t.x t.rest n rest (number_in 0 most_words t.x) refl t.second in
+    (told.0, line_spelled Count text t.x t.rest t.first ∙ ap (λ (d : List ℕ). d ++ 13 ∷ 10 ∷ t.rest) told.1 ∙ ap (λ (r : List ℕ). decimal n ++ 13 ∷ 10 ∷ r) told.2)
+
+heading_spelled : (text : List ℕ) (n : ℕ) (rest : List ℕ) → heading_at text ≡ given n rest → (n ≤ most_words) × (text ≡ 42 ∷ (decimal n ++ 13 ∷ 10 ∷ rest))
+heading_spelled [] n rest h = absurd (cc)
+heading_spelled (b ∷ text) n rest h =
+    cond_both (b == star) (count_at text) (Err Count) (λ r. r ≡ given n rest → (n ≤ most_words) × (b ∷ text ≡ 42 ∷ (decimal n ++ 13 ∷ 10 ∷ rest)))
+    (λ yes h.
+    let first : b ≡ 42 = grind (arith, nat_tests) in
+    let told = count_spelled text n rest h in (told.0, cc (first, told.1)))
+    (λ _ h. absurd (cc)) h
+
+number_spelled : (high : ℕ) (text : List ℕ) (n : ℕ) (rest : List ℕ) → number_at high text ≡ given n rest → (n ≤ high) × (text ≡ number_text n ++ rest)
+number_spelled high text n rest h =
+    let t = then_value (word_at text) (λ word rest. counted (number_in 0 high word) rest) n rest h in
+    let told = counted_told high t.x t.rest n rest (number_in 0 high t.x) refl t.second in
+    let word = word_spelled text t.x t.rest t.first in
+    (told.0, word.whole ∙ ap (λ (w : List ℕ). bulk w ++ t.rest) told.1 ∙ ap (λ (r : List ℕ). number_text n ++ r) told.2)
+
+record AreNumbers (n : ℕ) (text numbers rest : List ℕ) : Type 0 where
+  pub whole : text ≡ flat_map number_text numbers ++ rest
+  pub count : length numbers ≡ n
+  pub small : list_all (λ number. nat_le number largest_number) numbers ≡ true
+
+numbers_spelled : (n : ℕ) (text numbers rest : List ℕ) → numbers_at n text ≡ given numbers rest → AreNumbers n text numbers rest
+numbers_spelled zero text numbers rest h =
+    let same = same_read [] numbers text rest h in
+    subst (λ (x : List ℕ). AreNumbers zero text x rest) same.0 (record { whole = same.1; count = refl; small = refl })
+numbers_spelled (suc n) text numbers rest h =
+    let t = then_value (number_at largest_number text) (λ number rest. and_then (numbers_at n rest) (λ numbers after. Ok (Some (number ∷ numbers, after)))) numbers rest h in
+    let u = then_value (numbers_at n t.rest) (λ numbers after. Ok (Some (t.x ∷ numbers, after))) numbers rest t.second in
+    let first = number_spelled largest_number text t.x t.rest t.first in
+    let others = numbers_spelled n t.rest u.x u.rest u.first in
+    let same = same_read (t.x ∷ u.x) numbers u.rest rest u.second in
+    let small : nat_le t.x largest_number ≡ true = grind (arith, nat_tests, first.0) in
+    subst (λ (x : List ℕ). AreNumbers (suc n) text x rest) same.0
+    (record {
+      whole = first.1 ∙ ap (λ (x : List ℕ). number_text t.x ++ x) (others.whole ∙ ap (λ (x : List ℕ). flat_map number_text u.x ++ x) same.1) ∙ sym (append_assoc (number_text t.x) (flat_map number_text u.x) rest);
+      count = omega (arith, others.count);
+      small = rw small others.small;
+    })
+
+-- the cursor and the members of a page, and what follows them
+record AreParts (text : List ℕ) (next : ℕ) (numbers rest : List ℕ) : Type 0 where
+  pub whole : text ≡ number_text next ++ 42 ∷ (decimal (length numbers) ++ 13 ∷ 10 ∷ (flat_map number_text numbers ++ rest))
+  pub page : IsPage next numbers
+
+members_spelled : (text numbers rest : List ℕ) → members_at text ≡ given numbers rest
+    → (length numbers ≤ most_words) × (list_all (λ number. nat_le number largest_number) numbers ≡ true) × (text ≡ 42 ∷ (decimal (length numbers) ++ 13 ∷ 10 ∷ (flat_map number_text numbers ++ rest)))
+members_spelled text numbers rest h =
+    let t = then_value (heading_at text) numbers_at numbers rest h in
+    let first = heading_spelled text t.x t.rest t.first in
+    let told = numbers_spelled t.x t.rest numbers rest t.second in (
+      omega (arith, first.0, told.count),
+      told.small,
+      first.1 ∙ ap (λ (k : ℕ). 42 ∷ (decimal k ++ 13 ∷ 10 ∷ t.rest)) (sym told.count) ∙ ap (λ (r : List ℕ). 42 ∷ (decimal (length numbers) ++ 13 ∷ 10 ∷ r)) told.whole,
+    )
+
+parts_spelled : (text : List ℕ) (next : ℕ) (numbers rest : List ℕ) → parts_at text ≡ Ok (Some ((next, numbers), rest)) → AreParts text next numbers rest
+parts_spelled text next numbers rest h =
+    let t = then_value (number_at most_slots text) (λ next rest. and_then (members_at rest) (λ numbers after. Ok (Some ((next, numbers), after)))) (next, numbers) rest h in
+    let u = then_value (members_at t.rest) (λ numbers after. Ok (Some ((t.x, numbers), after))) (next, numbers) rest t.second in
+    let same = same_read (t.x, u.x) (next, numbers) u.rest rest u.second in
+    let cursor : t.x ≡ next = ap (λ (p : ℕ × List ℕ). p.0) same.0 in
+    let its : u.x ≡ numbers = ap (λ (p : ℕ × List ℕ). p.1) same.0 in
+    let first = number_spelled most_slots text t.x t.rest t.first in
+    let told = members_spelled t.rest numbers rest (u.first ∙ cc (its, same.1)) in
+    record {
+      whole = first.1 ∙ ap (λ (n : ℕ). number_text n ++ t.rest) cursor ∙ ap (λ (r : List ℕ). number_text next ++ r) told.2;
+      page = record { cursor = omega (arith, first.0, cursor); few = told.0; small = told.1 };
+    }
+
+pub pages_are_spelled : PagesAreSpelled
+pages_are_spelled text rest numbers next h =
+    let t = then_value (heading_at text) page_of (next, numbers) rest h in
+    let first = heading_spelled text t.x t.rest t.first in
+    cond_both (t.x == 2) (parts_at t.rest) (Err Count) (λ r. r ≡ Ok (Some ((next, numbers), rest)) → (text ≡ told_text next numbers ++ rest) × IsPage next numbers)
+    (λ yes h.
+    let is : t.x ≡ 2 = grind (arith, nat_tests) in
+    let parts = parts_spelled t.rest next numbers rest h in (
+      first.1 ∙ ap (λ (k : ℕ). 42 ∷ (decimal k ++ 13 ∷ 10 ∷ t.rest)) is ∙ ap (λ (d : List ℕ). 42 ∷ (d ++ 13 ∷ 10 ∷ t.rest)) two
+          ∙ ap (λ (r : List ℕ). 42 ∷ 50 ∷ 13 ∷ 10 ∷ r) parts.whole ∙ sym (regroup (number_text next) (decimal (length numbers)) (flat_map number_text numbers) rest),
+      parts.page,
+    ))
+    (λ _ h. absurd (cc)) t.second
+
+-- What was read of a text is read of it with more after it.
+stays_counted : (n : Option ℕ) → Stays (counted n)
+stays_counted None = stays_wrong Count
+stays_counted (Some n) = stays_given n
+
+stays_count : Stays count_at
+stays_count = stays_then (line_at Count) (λ digits rest. counted (number_in 0 most_words digits) rest) (stays_line Count) (λ digits. stays_counted (number_in 0 most_words digits))
+
+heading_value : (text more : List ℕ) (x : ℕ) (rest : List ℕ) → heading_at text ≡ Ok (Some (x, rest)) → (heading_at (text ++ more) ≡ Ok (Some (x, rest ++ more))) × (length rest ≤ length text)
+heading_value [] more x rest h = absurd (cc)
+heading_value (b ∷ t) more x rest h =
+    cond_both (b == star) (count_at t) (Err Count) (λ r. r ≡ Ok (Some (x, rest)) → (heading_at (b ∷ (t ++ more)) ≡ Ok (Some (x, rest ++ more))) × (length rest ≤ length (b ∷ t)))
+    (λ yes h. let so = stays_count.value t more x rest h in (rw yes so.0, omega (arith, so.1))) (λ _ h. absurd (cc)) h
+
+heading_fault : (text more : List ℕ) (f : Fault) → heading_at text ≡ Err f → heading_at (text ++ more) ≡ Err f
+heading_fault [] more f h = absurd (cc)
+heading_fault (b ∷ t) more f h =
+    cond_both (b == star) (count_at t) (Err Count) (λ r. r ≡ Err f → heading_at (b ∷ (t ++ more)) ≡ Err f)
+    (λ yes h. rw yes (stays_count.fault t more f h)) (λ other h. rw other h) h
+
+stays_heading : Stays heading_at
+stays_heading = record { value = heading_value; fault = heading_fault }
+
+stays_number : (high : ℕ) → Stays (number_at high)
+stays_number high = stays_then word_at (λ word rest. counted (number_in 0 high word) rest) stays_word (λ word. stays_counted (number_in 0 high word))
+
+stays_numbers : (n : ℕ) → Stays (numbers_at n)
+stays_numbers zero = stays_given []
+stays_numbers (suc n) =
+    stays_then (number_at largest_number) (λ number rest. and_then (numbers_at n rest) (λ numbers after. Ok (Some (number ∷ numbers, after)))) (stays_number largest_number)
+    (λ number. stays_then (numbers_at n) (λ numbers after. Ok (Some (number ∷ numbers, after))) (stays_numbers n) (λ numbers. stays_given (number ∷ numbers)))
+
+stays_members : Stays members_at
+stays_members = stays_then heading_at numbers_at stays_heading stays_numbers
+
+stays_parts : Stays parts_at
+stays_parts =
+    stays_then (number_at most_slots) (λ next rest. and_then (members_at rest) (λ numbers after. Ok (Some ((next, numbers), after)))) (stays_number most_slots)
+    (λ next. stays_then members_at (λ numbers after. Ok (Some ((next, numbers), after))) stays_members (λ numbers. stays_given (next, numbers)))
+
+stays_either : (b : Bool) → Stays (λ text. if b then parts_at text else Err Count)
+stays_either true = stays_parts
+stays_either false = stays_wrong Count
+
+stays_page_of : (n : ℕ) → Stays (page_of n)
+stays_page_of n = stays_either (n == 2)
+
+stays_page : Stays page_at
+stays_page = stays_then heading_at page_of stays_heading stays_page_of
+
+pub faults_have_no_page : FaultsHaveNoPage
+faults_have_no_page text more rest numbers next fault h page same =
+    let wrong : page_at (text ++ more) ≡ Err fault = stays_page.fault text more fault h in
+    let right : page_at (text ++ more) ≡ Ok (Some ((next, numbers), rest)) = ap page_at same ∙ pages_are_read next numbers rest page in
+    let both : Ok (Some ((next, numbers), rest)) ≡ Err fault = sym right ∙ wrong in
+    absurd (cc)
