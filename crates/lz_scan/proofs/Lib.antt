@@ -1,0 +1,4 @@
+pub mod OneEach
+pub mod Reached
+pub mod ScanningRows
+pub mod Unread

@@ -1,0 +1,12 @@
+use Rattle.std.proofs.Common.{Some}
+use Rattle.std.specs.Prelude.{map}
+use Rattle.lz_judge.specs.Places.{IsTable}
+use Rattle.lz_scan.specs.Scanning.{IsAt, unread}
+use Rattle.lz_scan.proofs.scanning.scan_rooms.Given as goal
+
+abbrev pub invariant-rooms : goal.invariant-rooms
+invariant-rooms g l = record {
+  seen : IsTable (map Some l.progress.told.keys.items) l.progress.told.seen;
+  reached : IsAt l.room (Some 0) (g.R.Read.remaining l.initial.reader) (unread l.progress.replies (g.R.Read.remaining l.reader))
+      (g.W.Write.contents l.initial.writer) (g.W.Write.contents l.writer) l.progress.told.keys.items;
+}

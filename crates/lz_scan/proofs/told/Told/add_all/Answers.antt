@@ -1,0 +1,23 @@
+use Rattle.std.proofs.Common.{ℕ, List, ◌++◌, subst}
+use Rattle.std.specs.Prelude.{map}
+use Rattle.std.proofs.lemmas.List.{take_all}
+use Rattle.lz_slot.specs.Rooms.{rank}
+use Rattle.lz_scan.specs.Told.{AddsOnce, AreOnce}
+use Rattle.lz_scan.proofs.OneEach.{numbers_more}
+use Rattle.lz_scan.proofs.told.Told.add_all.Goals as goal
+
+pub loop-number-preserved : goal.loop-number-preserved
+loop-number-preserved c =
+    let old = c.loop-number.self.keys.items in
+    let new = c.add.new.self.keys.items in
+    record {
+      seen = c.in_default-add.ensures.seen;
+      once = λ told are.
+          numbers_more c.args.room 0 c.args.numbers.now told old new c.loop-number.number-index c.loop-number-test.true (c.loop-number.invariant.once told are)
+          (subst (λ (k : ℕ). AddsOnce k old new) c.in-Some.ensures.rank c.in_default-add.ensures.once);
+    }
+
+pub returns-clause-once : goal.returns-clause-once
+returns-clause-once c = λ told are.
+    subst (λ (ns : List ℕ). AreOnce (told ++ map (rank c.args.room) ns) c.loop-number.self.keys.items) (take_all c.loop-number.number-index c.args.numbers.now c.loop-number-test.false)
+    (c.loop-number.invariant.once told are)
