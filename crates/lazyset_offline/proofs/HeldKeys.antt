@@ -18,7 +18,7 @@ use Rattle.lz_slot.proofs.Files.ExactBytes.{read_fits}
 use Rattle.lz_slot.proofs.Files.HeldSets.{holds_same_set}
 use Rattle.lz_judge.specs.Surveys.{open_slot, open_slots}
 use Rattle.lz_vault.specs.Renewals.{AreHeldBy}
-use Rattle.lazyset_offline.proofs.Listed.{none_twice}
+use Rattle.lz_scan.proofs.OneEach.{none_twice}
 
 -- the keys that a file's slots hold, with their slots
 module _ (t : List ℕ) where

@@ -7,6 +7,7 @@ pub mod GrowthRows
 pub mod RehearsalEnds
 pub mod Verdicts
 pub mod CompareRows
+pub mod Copied
 pub mod Listed
 pub mod ListPieces
 pub mod OneList

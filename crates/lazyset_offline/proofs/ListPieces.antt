@@ -21,7 +21,8 @@ use Rattle.lazyset_offline.specs.ListParts.{BeginsList, EndsWith, FailsAtEnd, Fa
 use Rattle.lazyset_offline.specs.declared.list.KeyList.{KeyList}
 use Rattle.lazyset_offline.specs.declared.list.ListFault.{ListFault}
 use Rattle.lazyset_offline.specs.declared.list.ListFault.TheVariants.{Line, Twice}
-use Rattle.lazyset_offline.proofs.Listed.{none_twice, one_more}
+use Rattle.lz_scan.proofs.OneEach.{none_twice}
+use Rattle.lazyset_offline.proofs.Listed.{one_more}
 
 -- a line that goes on has no line feed where neither part has one
 pub clear_both : (line part : List ℕ) → has_line_feed line ≡ false → has_line_feed part ≡ false → has_line_feed (line ++ part) ≡ false

@@ -8,7 +8,8 @@ use Rattle.lz_slot.proofs.Texts.Cuts.{first_cut, stands}
 use Rattle.lz_proto.specs.Lines.{has_line_feed, line_feed}
 use Rattle.lazyset_offline.specs.Lists.{IsListFaultOf, Lists, nothing, more, SpellsKey}
 use Rattle.lazyset_offline.specs.declared.list.ListFault.TheVariants.{Line, Twice}
-use Rattle.lazyset_offline.proofs.Listed.{none_twice, spelled_by, spelled_not, spelled_other}
+use Rattle.lz_scan.proofs.OneEach.{none_twice}
+use Rattle.lazyset_offline.proofs.Listed.{spelled_by, spelled_not, spelled_other}
 use Rattle.lazyset_offline.proofs.OneList.{no_bad_line, no_key_again, not_empty}
 
 -- Keys of two spellings, and a carriage return; no line is a list of no keys.

@@ -1,12 +1,11 @@
 -- A list of keys that is read a line at a time.
-use Rattle.std.proofs.Common.{◌≡◌, ◌≢◌, ℕ, zero, suc, ◌<◌, ◌≤◌, List, [], ◌∷◌, ◌++◌, length, get_or, true, false, Option, Some, None, Ok, Err, refl, sym, ap, subst, ⊎_elim, arith, append_assoc}
-use Rattle.std.specs.Prelude.{map, nat_eq, is_some, MatchOption}
+use Rattle.std.proofs.Common.{◌≡◌, ℕ, zero, suc, ◌<◌, ◌≤◌, List, [], ◌∷◌, ◌++◌, length, get_or, false, Ok, Err, sym, subst, ⊎_elim, arith, append_assoc}
+use Rattle.std.specs.Prelude.{nat_eq}
 use Rattle.std.specs.Cmp.{nat_eq_equiv}
-use Rattle.std.specs.List.{IsDistinct, list_any}
-use Rattle.std.proofs.lemmas.Bool.{cases_lt, eq-eqb}
+use Rattle.std.specs.List.{IsDistinct}
+use Rattle.std.proofs.lemmas.Bool.{cases_lt}
 use Rattle.std.proofs.lemmas.Bool.Decides.{nat_tests}
 use Rattle.std.proofs.lemmas.Map.Keys.{IsDistinct-push, apart_from_distinct}
-use Rattle.std.proofs.lemmas.Grind.{common_steps, elements}
 use Rattle.lz_slot.specs.Rooms.{largest_of}
 use Rattle.lz_slot.specs.Sets.{members}
 use Rattle.lz_slot.specs.Texts.{key_read}
@@ -14,6 +13,7 @@ use Rattle.lz_slot.specs.declared.format.Format.{Format}
 use Rattle.lz_slot.specs.declared.spelling.KeyFault.{KeyFault}
 use Rattle.lz_slot.proofs.Files.ExactBytes.{key_of_format}
 use Rattle.lz_slot.proofs.Texts.Spellings.{read_spelled, spelled_read}
+use Rattle.lz_scan.proofs.OneEach.{unlike}
 use Rattle.lz_proto.specs.Lines.{has_line_feed, line_feed, without_return}
 use Rattle.lz_vault.specs.Makes.{MayBeMembers}
 use Rattle.lazyset_offline.specs.Lists.{AddsKey, Lists, Spelled, nothing, more, SpellsKey}
@@ -41,31 +41,6 @@ spelled_more format _ _ line k nothing clear spells = more line [] k [] clear sp
 spelled_more format _ _ line k (more first rest j js clear_first spells_first spelled) clear spells =
     subst (λ (x : List ℕ). Spelled format x (j ∷ js ++ k ∷ [])) (sym (append_assoc first (line_feed ∷ rest) (line ++ line_feed ∷ [])))
     (more first (rest ++ (line ++ line_feed ∷ [])) j (js ++ k ∷ []) clear_first spells_first (spelled_more format rest js line k spelled clear spells))
-
--- a key that isn't among some is another than each of them
-unlike : (ks : List ℕ) (k : ℕ) → members ks k ≡ false → list_any (nat_eq k) ks ≡ false
-unlike ks k none = grind (arith, common_steps, elements)
-
--- a key that stands somewhere among them is one of them, and one that stands nowhere isn't
-member_at : (ks : List ℕ) (i k : ℕ) → get_or (map Some ks) i None ≡ Some k → members ks k ≡ true
-member_at [] i k is = absurd cc
-member_at (q ∷ ks) i k is = grind (arith, nat_tests, member_at ks, eq-eqb)
-
-member_nowhere : (ks : List ℕ) (k : ℕ) → ((i : ℕ) → get_or (map Some ks) i None ≢ Some k) → members ks k ≡ false
-member_nowhere [] k none = refl
-member_nowhere (q ∷ ks) k none =
-    let other : q ≢ k = λ same. none 0 (ap Some same) in
-    let ih = member_nowhere ks k (λ i. none (suc i)) in
-    grind (arith, nat_tests, other, ih)
-
--- what was found in a table of them tells whether it is one of them
-pub member_found : (ks : List ℕ) (k rank : ℕ) (found : Option ℕ) → rank ≡ k
-    → MatchOption found ((i : ℕ) → get_or (map Some ks) i None ≢ Some rank) (λ i. get_or (map Some ks) i None ≡ Some rank) → members ks k ≡ is_some found
-member_found ks k rank found same none = grind (arith, nat_tests, member_nowhere, member_at)
-
-pub none_twice : IsDistinct nat_eq []
-unfolding IsDistinct
-none_twice = tt
 
 -- a text that is a line more of a list
 pub one_more : (format : Format) (text line : List ℕ) (old new : List ℕ) → Lists format text old → has_line_feed line ≡ false → AddsKey format line old new → Lists format (text ++ (line ++ line_feed ∷ [])) new

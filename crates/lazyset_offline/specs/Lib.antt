@@ -12,6 +12,7 @@ pub mod Growths
 pub mod Lists
 pub mod ListParts
 pub mod Listings
+pub mod Copies
 pub mod ShownLists
 pub mod ShownCounts
 pub mod Torn

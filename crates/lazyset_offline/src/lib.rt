@@ -4,6 +4,7 @@
 
 mod checking;
 mod comparing;
+mod copying;
 mod counting;
 mod growing;
 mod judging;
@@ -21,6 +22,7 @@ mod torn;
 
 pub use checking::survey_on;
 pub use comparing::check_of_on;
+pub use copying::copy_on;
 pub use growing::{Shelf, Standing, grow_on};
 pub use judging::{MOST_JUDGED, judge_on};
 pub use listing::make_keys_on;

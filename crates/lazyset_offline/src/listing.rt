@@ -115,7 +115,8 @@ fn tell_list_fault<W: Write + Drop>(writer: &mut W, fault: ListFault) -> Status
     }
 }
 
-fn tell_too_many<W: Write + Drop>(writer: &mut W, count: u64, room: u64) -> Status
+// Says that so many keys have no room in so many slots.
+pub(crate) fn tell_too_many<W: Write + Drop>(writer: &mut W, count: u64, room: u64) -> Status
     ensures { Tells (W.contents writer.old) (W.contents writer.new) (room_text count room) Status.Refused result }
 {
     status_sent(

@@ -1,5 +1,5 @@
 use Rattle.std.proofs.Common.{sym, ◌∙◌}
-use Rattle.lazyset_offline.proofs.Listed.{member_found}
+use Rattle.lz_scan.proofs.OneEach.{member_found}
 use Rattle.lazyset_offline.proofs.list.KeyList.add_line.Goals as goal
 
 pub returns-then-is_some-clause-err : goal.returns-then-is_some-clause-err
