@@ -6,6 +6,7 @@ ghost use Rattle.lz_vault.specs.Makes.{WritesNothing};
 ghost use Rattle.lazyset_command_line.specs.Requests.{IsWithin};
 
 use crate::control::ask_to_stop;
+use crate::copying::copy;
 use crate::counted::Counted;
 use crate::fault::Fault;
 use crate::files::{
@@ -108,6 +109,12 @@ where
             slots,
             format,
         } => grow(rt, writer, file, slots, format),
+        Request::Copy {
+            address,
+            file,
+            slots,
+            format,
+        } => copy(rt, writer, address, file, slots, format),
         Request::Run { file, buckets } => run_file(rt, writer, file, buckets),
         Request::Serve {
             file,
@@ -145,8 +152,8 @@ where
     }
 }
 
-// A making that wasn't done leaves no file where there was none, unless something was written into it.
-fn after_making<R>(rt: &R, path: &str, was_absent: bool, status: Status) -> Status
+/// A making that wasn't done leaves no file where there was none, unless something was written into it.
+pub(crate) fn after_making<R>(rt: &R, path: &str, was_absent: bool, status: Status) -> Status
 where
     R: Files<File = File> + AllocGlobal,
 {

@@ -5,6 +5,7 @@ mod at_path;
 mod backlog;
 mod commands;
 mod control;
+mod copying;
 mod counted;
 mod ending;
 mod fault;

@@ -9,6 +9,7 @@ ghost use Rattle.lz_disk.specs.Images.{IsImage};
 ghost use Rattle.lz_disk.specs.Devices.{LeavesOnly};
 ghost use Rattle.lz_vault.specs.Makes.{IsUnmadeOrHolds};
 ghost use Rattle.lz_vault.specs.Opens.{MayOpen};
+ghost use Rattle.lazyset_offline.specs.Copies.{LeavesCopy};
 ghost use Rattle.lazyset_offline.specs.Growths.{IsLeftOrHolds, MayBeLeft};
 ghost use Rattle.lazyset_offline.specs.Listings.{LeavesListed};
 ghost use Rattle.lazyset_offline.specs.Refusals.{FailedOpen};
@@ -16,7 +17,9 @@ ghost use Rattle.lazyset_commands.specs.PlainReplies.{PassMayAnswer};
 ghost use Rattle.lazyset_commands.specs.Runs.{SessionOfSet};
 
 use crate::files::{bytes_of, shown};
-use lazyset_commands::{Shelf, Standing, Status, grow_on, make_keys_on, make_on, renew_on, run_on};
+use lazyset_commands::{
+    Shelf, Standing, Status, copy_on, grow_on, make_keys_on, make_on, renew_on, run_on,
+};
 use lz_disk::Disk;
 use lz_slot::Format;
 use std::fs::File;
@@ -65,6 +68,32 @@ where
 {
     let mut disk = shown(rt, path, disk, bytes_of(slots));
     let status = make_keys_on(rt.alloc(), reader, writer, &mut disk, slots, format);
+    (status, disk.end())
+}
+
+/// Makes a file of the keys that a service tells on the disk of this path, and hands the disk back.
+pub fn copy_over<R, I, A, W, D>(
+    rt: &R,
+    reader: &mut I,
+    asker: &mut A,
+    writer: &mut W,
+    path: &str,
+    disk: D,
+    slots: u64,
+    format: Format,
+) -> (Status, D)
+where
+    R: Files<File = File> + Eprint + Clock + AllocGlobal,
+    I: Read,
+    A: Write,
+    W: Write + Drop,
+    D: Disk,
+    requires { last_room_of format ≡ last_room }
+    ensures { IsTrue (D.device disk).honest
+        → LeavesCopy format slots (record { input = I.remaining reader.old; before = A.contents asker.old; after = A.contents asker.new }) (D.device disk) (D.device result.1) }
+{
+    let mut disk = shown(rt, path, disk, bytes_of(slots));
+    let status = copy_on(rt.alloc(), reader, asker, writer, &mut disk, slots, format);
     (status, disk.end())
 }
 

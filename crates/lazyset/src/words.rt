@@ -27,7 +27,8 @@ fn made_format(request: Request<'_>) -> Option<Format> {
     match request {
         Request::Make { format, .. }
         | Request::MakeKeys { format, .. }
-        | Request::Renew { format, .. } => Some(format),
+        | Request::Renew { format, .. }
+        | Request::Copy { format, .. } => Some(format),
         Request::Grow { format, .. } => Some(format.unwrap_or(Format::Two)),
         _ => None,
     }
@@ -84,6 +85,9 @@ fn words_of_end(request: Request<'_>, line: &str) -> Option<&'static str> {
         "halted" => Some("the device failed: open the file again"),
         "nomemory" => Some("out of memory"),
         "noread" => words_of_read(request),
+        "noreply" => Some(
+            "a reply is no page of keys: the service has to be started with --resp, and without --text",
+        ),
         _ if line.starts_with("line ") => Some(words_of_line(request)),
         _ if line.starts_with("twice ") => Some("this line's key stands in a line above"),
         _ => None,
@@ -94,6 +98,7 @@ fn words_of_end(request: Request<'_>, line: &str) -> Option<&'static str> {
 fn words_of_read(request: Request<'_>) -> Option<&'static str> {
     match request {
         Request::MakeKeys { .. } | Request::Rehearse { .. } => Some("a read of the input failed"),
+        Request::Copy { .. } => Some("the connection failed, ended or was silent for a minute"),
         _ => None,
     }
 }

@@ -6,7 +6,7 @@ use Rattle.lz_serve.specs.declared.observer.Loops.{Loops}
 use Rattle.lz_serve.specs.declared.options.ServeOptions.{ServeOptions}
 use Rattle.lz_serve.specs.Options.{most_connections, most_threads}
 use Rattle.lazyset_command_line.specs.declared.request.Request.{Request}
-use Rattle.lazyset_command_line.specs.declared.request.Request.TheVariants.{Renew, Grow, Run, Serve, Rehearse}
+use Rattle.lazyset_command_line.specs.declared.request.Request.TheVariants.{Renew, Grow, Copy, Run, Serve, Rehearse}
 
 -- loops of so many passes, each of which has a thread, and a pass and a connection at least
 abbrev pub AreWithin : ℕ → Loops → Type 0
@@ -20,6 +20,7 @@ ArePasses options = ((1 ≤ options.passes) × (options.passes ≤ most_passes))
 abbrev pub IsWithin : Request → Type 0
 IsWithin (Renew old new slots format) = last_room_of format ≡ last_room
 IsWithin (Grow file slots format) = IfSome format (λ f. last_room_of f ≡ last_room)
+IsWithin (Copy address file slots format) = last_room_of format ≡ last_room
 IsWithin (Run file buckets) = (1 ≤ buckets) × (buckets ≤ most_buckets)
 IsWithin (Serve file options is_spread socket control until_eof) =
     ArePasses options × ((1 ≤ options.buckets) × (options.buckets ≤ most_buckets)) × IfSome options.loops (AreWithin options.passes)

@@ -41,6 +41,13 @@ pub enum Request<'a> {
         /// Where none is named, that of the file, or the next one that has all rooms.
         format: Option<Format>,
     },
+    /// A making of a file that holds the keys of a running service.
+    Copy {
+        address: &'a str,
+        file: &'a str,
+        slots: u64,
+        format: Format,
+    },
     Run {
         file: &'a str,
         buckets: usize,
@@ -90,6 +97,7 @@ impl fmt::Display for Request<'_> {
             Request::Make { file, .. } | Request::MakeKeys { file, .. } => write!(f, "make {file}"),
             Request::Renew { old, new, .. } => write!(f, "renew {old} {new}"),
             Request::Grow { file, .. } => write!(f, "grow {file}"),
+            Request::Copy { address, file, .. } => write!(f, "copy {address} {file}"),
             Request::Run { file, .. } => write!(f, "run {file}"),
             Request::Serve { file, .. } => write!(f, "serve {file}"),
             Request::Stop { path, .. } => write!(f, "stop {path}"),
@@ -159,6 +167,7 @@ fn request_of<'a>(matches: &ArgMatches<'a>) -> Option<Request<'a>>
         ("make", words) => make(words),
         ("renew", words) => renew(words),
         ("grow", words) => grow(words),
+        ("copy", words) => copy(words),
         ("stop", words) => stop(words),
         ("info", words) => info(words),
         ("check", words) => check(words),
@@ -210,6 +219,18 @@ fn grow<'a>(words: &ArgMatches<'a>) -> Option<Request<'a>>
     };
     Some(Request::Grow {
         file: text(words, "FILE")?,
+        slots: number(words, "SLOTS")?,
+        format,
+    })
+}
+
+fn copy<'a>(words: &ArgMatches<'a>) -> Option<Request<'a>>
+    ensures { IfSome result IsWithin }
+{
+    let format = format_with_rooms(words)?;
+    Some(Request::Copy {
+        address: text(words, "ADDRESS")?,
+        file: text(words, "NEW")?,
         slots: number(words, "SLOTS")?,
         format,
     })

@@ -57,7 +57,7 @@ pub const SOCKET_ID: &str = "socket";
 pub const NO_PORT: &[&str] = &["-"];
 
 /// The commands, as the help lists them.
-pub const SHEETS: [Sheet; 10] = [
+pub const SHEETS: [Sheet; 11] = [
     Sheet {
         name: "make",
         about: "Makes a file that holds the empty set, or the keys of standard input. It overwrites any file that isn't a set, unless that is longer",
@@ -75,6 +75,12 @@ pub const SHEETS: [Sheet; 10] = [
         about: "Moves the keys of a file into a new one, with room for more or fewer, which takes its place",
         notes: "Prints `grown M`, `refused old N` with what `run` would say of FILE, `refused new N` with what `make` would say of the new file, or `refused 9 M S` where M keys have no room in S slots. FILE is then as it was, but perhaps after `refused new 3`, where it may be the new file, whole.\n\nThe new file is made beside FILE, as FILE.grow, compared with it, and renamed; what stood there under that name is gone. A crash at any moment leaves FILE as it was or grown, and never less: run it again.\n\nExample: lazyset grow f 2000",
         words: &[FILE, SLOTS, GROWN_FORMAT],
+    },
+    Sheet {
+        name: "copy",
+        about: "Makes a file that holds the keys of a running service, which speaks Redis's protocol. It overwrites as make does",
+        notes: "ADDRESS is a port of this machine, HOST:PORT, or the path of a socket; the service was started with --resp, and without --text. Prints `copied M`, `noread` where the connection failed, ended, or was silent for a minute, `noreply` where a reply is no page of keys, `refused N` with what `make` would say of NEW, or `refused 9 M S` where M keys have no room in S slots. Nothing is made then. An address where nobody listens is `nofile`.\n\nEach key is in it that was a member all the while, and none that was no member at any moment of it.\n\nExample: lazyset copy 7000 g 2000",
+        words: &[ADDRESS, NEW, SLOTS, ROOMY_FORMAT],
     },
     Sheet {
         name: "run",
@@ -150,6 +156,15 @@ const OLD: Word = Word {
     default: None,
     beside: Beside::Anything,
     help: "The slot file whose keys are read; it is left as it is",
+};
+
+const ADDRESS: Word = Word {
+    id: "ADDRESS",
+    value_name: None,
+    form: Form::Text,
+    default: None,
+    beside: Beside::Anything,
+    help: "Where the service listens: PORT, HOST:PORT, or the path of its socket",
 };
 
 const NEW: Word = Word {
