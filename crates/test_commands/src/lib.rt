@@ -9,6 +9,8 @@ mod commands;
 #[cfg(test)]
 mod conversations;
 #[cfg(test)]
+mod copies;
+#[cfg(test)]
 mod crashes;
 #[cfg(test)]
 mod files;

@@ -1,0 +1,232 @@
+"""Copies of a set while it is served (`copy`): whole or not at all."""
+
+from __future__ import annotations
+
+import os
+import random
+import signal
+import socket
+import subprocess
+import threading
+import time
+from contextlib import contextmanager, suppress
+from typing import Iterator, List, Optional, Set
+
+from trials.at_path import socket_of
+from trials.frames import by_frames
+from trials.guests import connect
+from trials.plain_frames import array, bulk
+from trials.program import PATIENCE, Ended, Key, Program, Service
+from trials.report import expect
+from trials.scans import added, number
+
+# Keys that are members all the while, keys that come and go, and by how many clients.
+STAYING, CHANGING, CHANGERS = 4_000, 50, 64
+
+COPIES = 6
+
+# How long a copy may take beside them.
+MOST_SECONDS = 300
+
+# Slots of a service that is killed while it is copied, and how often.
+MANY, KILLS = 20_000, 12
+
+ROOMS = {0: [0, 17, 4, 10**18 - 1], 3: [17, 8], 15: list(range(1_500))}
+KEYS = {Key(room, number) for room, numbers in ROOMS.items() for number in numbers}
+
+NO_SERVICE = Ended("nofile\n", 3)
+NO_READ = Ended("noread\n", 1)
+NO_REPLY = Ended("noreply\n", 3)
+
+
+def copied(count: int) -> Ended:
+    return Ended(f"copied {count}\n", 0)
+
+
+def copy(program: Program, address: object, new: str, slots: int, *options: str) -> Ended:
+    return program.run("copy", str(address), new, str(slots), *options, patience=MOST_SECONDS)
+
+
+def try_copied(program: Program, folder: str) -> None:
+    """A copy has the keys of the set, by each kind of address, in each format with its rooms; it may be served in turn."""
+    file, path = os.path.join(folder, "f"), socket_of(os.path.join(folder, "f"))
+    program.make(file, 10_000)
+    with Service(program, file, 4, *by_frames(4)) as service:
+        for room, numbers in ROOMS.items():
+            for at in range(0, len(numbers), 500):
+                added(service.port, room, numbers[at : at + 500])
+        for form in (2, 3, 4):
+            for at, address in enumerate((service.port, f"127.0.0.1:{service.port}", f"localhost:{service.port}")):
+                new = os.path.join(folder, f"g{form}{at}")
+                expect(copy(program, address, new, 2_000, "--format", str(form)), copied(len(KEYS)), f"a copy from {address} into format {form}")
+                expect(program.members(new), sorted(KEYS), "what it holds")
+        expect(copy(program, service.port, new, 2_000), Ended("refused 1\n", 3), "a copy over a set")
+    for form in (2, 3, 4):
+        ended = program.run("check", os.path.join(folder, f"g{form}0"), "--of", file)
+        expect((ended.text.endswith("good\nsame\n"), ended.status), (True, 0), f"the copy of format {form} beside the set that was served")
+    with Service(program, os.path.join(folder, "g30"), 4, "--socket", path, *by_frames(4), port="-"):
+        expect(copy(program, path, os.path.join(folder, "h"), 1_600, "--format", "4"), copied(len(KEYS)), "a copy of a copy, from a path")
+    expect(program.members(os.path.join(folder, "h")), sorted(KEYS), "what that holds")
+
+
+def try_oldest(program: Program, folder: str) -> None:
+    """Of a file of format 1 the rooms above 0 are empty. An empty set is copied too."""
+    for name, keys in (("one", [5, 6]), ("none", [])):
+        file, new = os.path.join(folder, name), os.path.join(folder, f"{name}.new")
+        program.make(file, 10, 1)
+        with Service(program, file, 4, *by_frames(4)) as service:
+            if keys:
+                added(service.port, 0, keys)
+            expect(copy(program, service.port, new, 1), copied(0) if not keys else Ended("refused 9 2 1\n", 3), "a copy with room for one key")
+            expect(os.path.exists(new), not keys, "whether there is a file")
+            if keys:
+                expect(copy(program, service.port, new, 2), copied(2), "a copy with room for both")
+        expect(program.members(new), [Key(0, key) for key in keys], "what it holds")
+
+
+def try_meanwhile(program: Program, folder: str) -> None:
+    """While 64 clients add and remove keys, each copy holds those that stay, and none that was never there."""
+    file, ends, failures = os.path.join(folder, "f"), threading.Event(), []
+    stay = {Key(room, number) for room in (0, 7) for number in range(STAYING // 2)}
+    may = stay | {Key(at % 16, STAYING + at * CHANGING + number) for at in range(CHANGERS) for number in range(CHANGING)}
+    program.make(file, 3 * STAYING, 4)
+
+    def change(at: int) -> None:
+        draw = random.Random(at)
+        try:
+            with connect(service.port) as client, client.makefile("rb") as stream:
+                while not ends.is_set():
+                    some = [b"%d" % (STAYING + at * CHANGING + draw.randrange(CHANGING)) for _ in range(8)]
+                    client.sendall(b"".join(array(draw.choice((b"SADD", b"SREM")), b"%d" % (at % 16), key) for key in some))
+                    for _ in some:
+                        number(stream, b":")
+        except BaseException as error:
+            failures.append(error)
+
+    with Service(program, file, 64, "--loops", "2", *by_frames(100)) as service:
+        for room in (0, 7):
+            added(service.port, room, list(range(STAYING // 2)))
+        threads = [threading.Thread(target=change, args=(at,)) for at in range(CHANGERS)]
+        for thread in threads:
+            thread.start()
+        try:
+            for at in range(COPIES):
+                new = os.path.join(folder, f"g{at}")
+                ended = copy(program, service.port, new, 3 * STAYING, "--format", str(2 + at % 3))
+                held: Set[Key] = set(program.members(new))
+                expect(ended, copied(len(held)), "what the copy says")
+                expect(sorted(stay - held)[:5], [], "keys that stay, and aren't in the copy")
+                expect(sorted(held - may)[:5], [], "keys in it that never were there")
+        finally:
+            ends.set()
+            for thread in threads:
+                thread.join()
+    expect(failures, [], "what went wrong with those that change keys")
+
+
+@contextmanager
+def answering(text: bytes) -> Iterator[int]:
+    """A port where one client is told this, whatever it asks, and then the connection ends."""
+    with socket.create_server(("127.0.0.1", 0)) as listener:
+
+        def answer() -> None:
+            client, _ = listener.accept()
+            with client, suppress(OSError):
+                client.recv(1 << 16)
+                client.sendall(text)
+                client.shutdown(socket.SHUT_WR)
+                while client.recv(1 << 16):
+                    pass
+
+        thread = threading.Thread(target=answer)
+        thread.start()
+        yield listener.getsockname()[1]
+        thread.join(PATIENCE)
+
+
+def told(next_one: int, *keys: int) -> bytes:
+    """A page."""
+    return b"*2\r\n" + bulk(b"%d" % next_one) + b"*%d\r\n" % len(keys) + b"".join(bulk(b"%d" % key) for key in keys)
+
+
+def try_cut_off(program: Program, folder: str) -> None:
+    """Wherever replies end nothing is made, and what is no page is told."""
+    whole = told(4096, 17, 5) + told(0, 17) + told(0) * 15
+    with answering(whole) as port:
+        expect(copy(program, port, os.path.join(folder, "whole"), 2), copied(2), "a whole scan")
+    expect(program.members(os.path.join(folder, "whole")), [Key(0, 5), Key(0, 17)], "what it makes")
+    new = os.path.join(folder, "new")
+    for count in range(0, len(whole), 7):
+        with answering(whole[:count]) as port:
+            expect(copy(program, port, new, 2), NO_READ, f"a scan that ends after {count} bytes")
+        expect(os.path.exists(new), False, "whether there is a file")
+    for reply in (b"-ERR no\r\n", b"bad 2\n", b"+OK\r\n", b"*3\r\n", b"*2\r\n$2\r\n00\r\n", told(0, 10**18), b"*2\r\n$" + b"1" * 100_000):
+        with answering(told(1, 7) + reply) as port:
+            expect(copy(program, port, new, 2), NO_REPLY, f"a scan that is told {reply[:40]!r}")
+        expect(os.path.exists(new), False, "whether there is a file")
+
+
+def try_words(program: Program, folder: str) -> None:
+    """Standard error says in words why nothing was made."""
+    new = os.path.join(folder, "new")
+    kind = "a reply is no page of keys: the service has to be started with --resp, and without --text"
+    for reply, ended, why in ((b"+OK\r\n", NO_REPLY, kind), (b"", NO_READ, "the connection failed, ended or was silent for a minute")):
+        with answering(reply) as port:
+            line = ended.text.rstrip("\n")
+            expect(program.run_loud("copy", str(port), new, "2"), (ended, f"lazyset: copy {port} {new}: {line}: {why}\n"), f"a scan that is told {reply!r}")
+
+
+def try_refused(program: Program, folder: str) -> None:
+    """Where nobody listens, or one that lists no keys, nothing is made."""
+    file, new = os.path.join(folder, "f"), os.path.join(folder, "new")
+    program.make(file, 10)
+    with socket.create_server(("127.0.0.1", 0)) as listener:
+        free = listener.getsockname()[1]
+    for address in (free, f"127.0.0.1:{free}", os.path.join(folder, "absent"), "x", "0", "70000"):
+        expect(copy(program, address, new, 10), NO_SERVICE, f"a copy from {address}")
+    for options in (["--connections", "4"], [*by_frames(4), "--text"]):
+        with Service(program, file, 4, *options) as service:
+            expect(copy(program, service.port, new, 10), NO_REPLY, f"a copy of a service with {options}")
+            for slots in ("0", "65537"):
+                expect(copy(program, service.port, new, int(slots)), Ended("refused 2\n", 3), f"a copy with {slots} slots")
+    expect(sorted(os.listdir(folder)), ["f"], "what is left")
+
+
+def try_killed(program: Program, folder: str) -> None:
+    """A service that is killed while it is copied, and a copy that is killed: the new file is whole, or isn't made."""
+    file, new = os.path.join(folder, "f"), os.path.join(folder, "new")
+    keys = "".join(f"{number % 16}:{number}\n" for number in range(MANY))
+    expect(program.run("make", file, str(MANY), "--keys", "--format", "3", lines=keys), Ended(f"made {MANY}\n", 0), "a list")
+    all_keys = sorted(Key(number % 16, number) for number in range(MANY))
+    began = time.monotonic()
+    with Service(program, file, 4, *by_frames(4)) as service:
+        expect(copy(program, service.port, new, MANY, "--format", "3"), copied(MANY), "a copy")
+    long = time.monotonic() - began
+    os.remove(new)
+    for at in range(KILLS):
+        with Service(program, file, 4, *by_frames(4)) as service:
+            words = [program.path, "copy", str(service.port), new, str(MANY), "--format", "3"]
+            with subprocess.Popen(words, stdout=subprocess.PIPE, stderr=subprocess.DEVNULL) as copying:
+                time.sleep(long * (at // 2) / (KILLS // 2))
+                killed = copying if at % 2 else service.process
+                killed.send_signal(signal.SIGKILL)
+                text: Optional[bytes] = copying.communicate(timeout=PATIENCE)[0]
+        found: List[Key] = []
+        if program.run("info", new).text.startswith("format"):
+            found = program.members(new)
+            expect(found == all_keys, True, "that what is made is whole")
+        expect(text in ((b"copied %d\n" % MANY,) if found else (b"nofile\n", b"noread\n")) or at % 2 == 1, True, f"what the copy says: {text!r}")
+        if os.path.exists(new):
+            expect(at % 2 == 1 or bool(found), True, "that a copy of a killed service leaves no file but a whole one")
+            os.remove(new)
+
+
+TRIALS = (
+    ("copies of a served set", try_copied),
+    ("copies of a set of format 1, and of an empty one", try_oldest),
+    ("copies while others change the set", try_meanwhile),
+    ("copies that are cut off", try_cut_off),
+    ("copies of what isn't such a service", try_refused),
+    ("words for a copy that isn't made", try_words),
+    ("copies under kill", try_killed),
+)
