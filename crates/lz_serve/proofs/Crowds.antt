@@ -3,7 +3,8 @@ use Rattle.std.proofs.Common.{◌≡◌, ◌≢◌, ◌≤◌, ◌<◌, ◌+◌,
 use Rattle.std.proofs.lemmas.List.Elements.{All-cons, All-head, All-nil, All-tail, All-weaker}
 use Rattle.std.proofs.lemmas.Option.{slice_get_read}
 use Rattle.lz_list.specs.Traces.{Trace, Begins}
-use Rattle.lz_serve.specs.Clients.{Asker, Askers, ComesAfter, HasSeenIn, HaveSeenIn, IsAskedBy, IsAwaited, IsHeard, IsHeardAt, IsHeardOf, IsNext, IsOwn, IsOwnOf, Keeps, KeepsAwaited, KeepsHeard, KeepsLinesOf, KeepsOwn, KeepsReplies, KeepsSeen, OnlyLeave}
+use Rattle.lz_resp.specs.declared.scan.Scan.{Scan}
+use Rattle.lz_serve.specs.Clients.{Asker, Askers, ComesAfter, HasSeenIn, HaveSeenIn, IsAskedBy, IsAwaited, IsHeard, IsHeardAt, IsHeardOf, IsNext, IsOwn, IsOwnOf, Keeps, KeepsAwaited, KeepsHeard, KeepsLinesOf, KeepsOwn, KeepsReplies, KeepsSeen, OnlyLeave, TellsPageAt, TellsPageOf}
 use Rattle.lz_serve.specs.Grants.{Posed}
 
 pub from_nothing : (known : Trace) → Begins [] known
@@ -170,6 +171,12 @@ module _ {X : Type 0} (f : X → Option Asker) where
     -- where no line of this client awaits the reply, none here does
     pub heard_here : (q : Posed) → IsHeardOf (f old) q → IsHeardAt a at q
     heard_here q heard = subst (λ (b : Askers). IsHeardAt b at q) view_is (subst (λ (o : Option (Option Asker)). IfSome o (λ c. IsHeardOf c q)) (sym (client_there places at old there)) heard)
+
+    -- what this client was told of a page the one here was
+    pub paged_here : (scan : Scan) (b : Askers) → IfSome (slice_get b.clients at) (TellsPageOf (f old) scan) → TellsPageAt a at scan b
+    paged_here scan b paged =
+        subst (λ (x : Askers). TellsPageAt x at scan b) view_is
+        (subst (λ (o : Option (Option Asker)). IfSome o (λ was. IfSome (slice_get b.clients at) (TellsPageOf was scan))) (sym (client_there places at old there)) paged)
 
     -- what all clients have seen this one has
     pub seen_here : (known : Trace) → HaveSeenIn a known → HasSeenIn a.admitted known (f old)

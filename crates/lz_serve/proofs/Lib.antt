@@ -16,6 +16,7 @@ pub mod Queues
 pub mod HeldUp
 pub mod Crowds
 pub mod Turns
+pub mod PagesTold
 pub mod Joins
 pub mod Desks
 pub mod Meetings

@@ -1,18 +1,21 @@
 -- Worked exchanges that ask for a page.
-use Rattle.std.proofs.Common.{◌≡◌, ℕ, List, [], ◌∷◌, All, Ok, Err, Some, sym, ap, ◌∙◌, subst, arith, codes}
+use Rattle.std.proofs.Common.{◌≡◌, ℕ, true, false, List, [], ◌∷◌, All, Ok, Err, Some, None, refl, sym, ap, ◌∙◌, subst, arith, codes, lit<}
 use Rattle.std.proofs.lemmas.List.Elements.{All-head}
 use Rattle.std.specs.Fmt.{digits}
 use Rattle.lz_list.specs.Traces.{Begins, Trace}
 use Rattle.lz_list.specs.declared.publishing.Publishing.{Publishing}
-use Rattle.lz_proto.specs.declared.end.End.TheVariants.{Done}
+use Rattle.lz_proto.specs.declared.end.End.TheVariants.{Done, Quit}
 use Rattle.lz_resp.specs.declared.scan.Scan.{Scan}
 use Rattle.lz_board.specs.declared.answer.GlanceFault.TheVariants as fault
 use Rattle.lz_board.specs.declared.page.Page.{Page}
 use Rattle.lz_board.specs.Seats.{part}
+use Rattle.lz_serve.specs.Clients.{Asker, Askers, AwaitsPage, TellsPage, TellsPageAt}
 use Rattle.lz_serve.specs.Conversations.{IsPageFor, IsTold}
 use Rattle.lz_serve.specs.Exchanges.{lists}
 use Rattle.lz_serve.specs.Grants.{Grant}
 use Rattle.lz_serve.specs.Listings.{Listing, listing_text, told_text}
+use Rattle.lz_serve.specs.declared.turn.Turn.{Turn}
+use Rattle.lz_serve.specs.declared.turn.Turn.TheVariants as turn
 use Rattle.lz_serve.proofs.ConversationRows.{any}
 
 abbrev first : Scan
@@ -38,6 +41,21 @@ paged l page before is told keys next = text_of_it l page is.0 told ∙ cc
 halted : (l : Listing) → l.told ≡ Err fault.Halted → listing_text l ≡ codes "-HALTED the device failed\r\n"
 halted l told = ap (λ t. told_text l.scan t) told
 
+-- a client of connection 1 whose exchanges ask for these
+abbrev lister : List Turn → Asker
+lister turns = record { connection = 1; lines = 0; told = 0; under = []; puts = []; seen = []; turns = turns; waiting = []; ended = Done; lost = false }
+
+-- it awaits the page for which the first asks
+asks_first : AwaitsPage (lister (turn.Lists first ∷ turn.Ends [] ∷ [])) first
+asks_first = (refl, refl, refl)
+
+-- it was told, or is lost
+told : TellsPage (lister (turn.Lists first ∷ turn.Ends [] ∷ [])) first (lister (turn.Ends [] ∷ []))
+told awaits there = lit< tt
+
+lost : TellsPage (lister (turn.Lists first ∷ [])) first (record (lister (turn.Lists first ∷ [])) { lost = true })
+lost awaits there = absurd (cc)
+
 -- What must not hold.
 
 nothing_begun : (e : Publishing) → Begins (e ∷ []) [] → ⊥
@@ -55,3 +73,37 @@ another_room l is for = let same : 2 ≡ 3 = ap (λ (s : Scan). s.room) (sym is 
 -- a page that nobody listed
 not_without_a_page : (said : List ℕ) (grants : List Grant) → IsTold (λ l. ⊥) 1 [] (lists first) grants said Done → ⊥
 not_without_a_page said grants told = told.1.1.so
+
+-- who is lost awaits a page
+lost_awaits : AwaitsPage (record (lister (turn.Lists first ∷ [])) { lost = true }) first → ⊥
+lost_awaits awaits = let there = awaits.0 in absurd (cc)
+
+-- who has ended awaits one
+ended_awaits : AwaitsPage (record (lister (turn.Lists first ∷ [])) { ended = Quit }) first → ⊥
+ended_awaits awaits = let goes = awaits.1 in absurd (cc)
+
+-- it awaits the page for which its second exchange asks, or one for another room
+second_awaits : AwaitsPage (lister (turn.Says [] ∷ turn.Lists first ∷ [])) first → ⊥
+second_awaits awaits = let its = awaits.2 in absurd (cc)
+
+abbrev room_of : List Turn → ℕ
+room_of (turn.Lists scan ∷ turns) = scan.room
+room_of other = 0
+
+another_awaits : AwaitsPage (lister (turn.Lists first ∷ [])) (record first { room = 2 }) → ⊥
+another_awaits awaits = let same : ◌≡◌ {A = ℕ} 3 2 = ap room_of awaits.2 in absurd (omega (arith, same))
+
+-- none was told
+untold : TellsPage (lister (turn.Lists first ∷ [])) first (lister (turn.Lists first ∷ [])) → ⊥
+untold tells = let fewer = tells (refl, refl, refl) refl in absurd (omega (arith, fewer))
+
+-- at the second place none was told
+abbrev at_second : List Turn → Askers
+at_second turns = record { admitted = 1; clients = None ∷ Some (lister turns) ∷ []; queue = [] }
+
+untold_there : TellsPageAt (at_second (turn.Lists first ∷ [])) 1 first (at_second (turn.Lists first ∷ [])) → ⊥
+untold_there tells = untold tells
+
+-- (that it was holds)
+told_there : TellsPageAt (at_second (turn.Lists first ∷ [])) 1 first (at_second [])
+told_there awaits there = lit< tt

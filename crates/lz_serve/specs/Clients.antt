@@ -1,10 +1,11 @@
 -- Clients as their owner sees them, and which questions are those of their lines.
-use Rattle.std.specs.Prelude.{◌≡◌, ◌≢◌, ◌⊎◌, ⊤, ◌-◌, ◌<◌, ◌≤◌, ◌++◌, ℕ, suc, All, Bool, true, false, List, [], ◌∷◌, drop, map, Option, Some, None, IfSome, IsSomeAnd, slice_get}
+use Rattle.std.specs.Prelude.{◌≡◌, ◌≢◌, ◌⊎◌, ⊤, ◌-◌, ◌<◌, ◌≤◌, ◌++◌, ℕ, suc, All, Bool, true, false, List, [], ◌∷◌, drop, length, map, Option, Some, None, IfSome, IsSomeAnd, slice_get}
 use Rattle.std.specs.declared.snapshot.Snapshot.{Snapshot}
 use Rattle.lz_list.specs.Traces.{Trace, Begins}
 use Rattle.lz_board.specs.declared.pass.Pass.{Pass}
 use Rattle.lz_board.specs.Seats.{part}
 use Rattle.lz_resp.specs.declared.query.Query.{Query}
+use Rattle.lz_resp.specs.declared.scan.Scan.{Scan}
 use Rattle.lz_serve.specs.declared.line.Line.{Line}
 use Rattle.lz_serve.specs.declared.turn.Turn.{Turn}
 use Rattle.lz_serve.specs.declared.turn.Turn.TheVariants as turn
@@ -109,6 +110,18 @@ HasTold a = a.lost ≡ false → HasNoReady a × HasNoQuery a
 abbrev pub TellsOf : Option Asker → Posed → Option Asker → Type 0
 TellsOf old q new = (IsHeardOf old q → ⊥) → IfSome new HasTold
 
+-- it goes on, and its first exchange asks for this page
+abbrev pub AwaitsPage : Asker → Scan → Type 0
+AwaitsPage a scan = (a.lost ≡ false) × (a.ended ≡ Done) × (a.turns ≡ turn.Lists scan ∷ drop 1 a.turns)
+
+-- where it awaited this page, that exchange was told, unless it is lost
+abbrev pub TellsPage : Asker → Scan → Asker → Type 0
+TellsPage old scan new = AwaitsPage old scan → new.lost ≡ false → length new.turns < length old.turns
+
+-- it is so of the client that is there, if one was there before
+abbrev pub TellsPageOf : Option Asker → Scan → Option Asker → Type 0
+TellsPageOf old scan new = IfSome old (λ a. IfSome new (λ b. TellsPage a scan b))
+
 -- the client, if there is one, is of one of so many connections, and all that it has seen was seen here
 abbrev pub HasSeenIn : ℕ → Trace → Option Asker → Type 0
 HasSeenIn admitted known client = IfSome client (λ a. (a.connection ≤ admitted) × Begins a.seen known)
@@ -151,6 +164,10 @@ IsHeardAt a token q = IfSome (slice_get a.clients token) (λ client. IsHeardOf c
 -- where a line of the client at this place awaited the reply before, that has told what it may, if it is still there
 abbrev pub TellsAt : Askers → ℕ → Posed → Askers → Type 0
 TellsAt old token q new = (IsHeardAt old token q → ⊥) → IfSome (slice_get new.clients token) (λ client. IfSome client HasTold)
+
+-- where the client at this place awaited this page, it was told, unless it is lost or has left
+abbrev pub TellsPageAt : Askers → ℕ → Scan → Askers → Type 0
+TellsPageAt old token scan new = IfSome (slice_get old.clients token) (λ was. IfSome (slice_get new.clients token) (λ client. TellsPageOf was scan client))
 
 -- the client at this place, if there is one, has no line for a pass
 abbrev pub HasNoneAt : Askers → ℕ → Type 0

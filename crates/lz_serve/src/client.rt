@@ -1,5 +1,5 @@
 //! One client.
-ghost use Rattle.std.specs.Prelude.{◌≡◌, ◌<◌, ◌++◌, [], ◌∷◌, List, None, Some, false, length, true};
+ghost use Rattle.std.specs.Prelude.{◌≡◌, ◌<◌, ◌≤◌, ◌++◌, [], ◌∷◌, List, None, Some, false, length, true};
 ghost use Rattle.lz_list.specs.Traces.{Begins};
 ghost use Rattle.lz_board.specs.Seats.{part};
 ghost use Rattle.lz_proto.specs.declared.end.End.TheVariants.{Done};
@@ -202,7 +202,9 @@ impl<S: Stream> Client<S> {
     // Tells the first exchange, if it asks the service itself, and says whether it did.
     fn tell_query<O: Observer>(&mut self, observer: &O) -> bool
         ensures lines { KeepsLines self.old self.new }
+        ensures lost { self.old.lost ≡ true → self.new ≡ self.old }
         ensures fewer { result ≡ true → length self.new.turns < length self.old.turns }
+        ensures same { result ≡ false → self.new.turns ≡ self.old.turns }
         ensures rests { result ≡ false → self.new.lost ≡ false → (self.new ≡ self.old) × HasNoQuery self.old }
     {
         if self.lost {
@@ -232,6 +234,8 @@ impl<S: Stream> Client<S> {
         ensures heard { (q : Posed) → IsHeard self.old q → IsHeard self.new q }
         ensures told { HasTold self.new }
         ensures seen { self.new.seen ≡ self.old.seen }
+        ensures lost { self.old.lost ≡ true → self.new ≡ self.old }
+        ensures fewer { length self.new.turns ≤ length self.old.turns }
     {
         'turns: while self.tell_one(observer) {}
     }
@@ -243,7 +247,9 @@ impl<S: Stream> Client<S> {
         ensures kept { KeepsOwn (Some self.old) (Some self.new) }
         ensures heard { (q : Posed) → IsHeard self.old q → IsHeard self.new q }
         ensures seen { self.new.seen ≡ self.old.seen }
+        ensures lost { self.old.lost ≡ true → self.new ≡ self.old }
         ensures fewer { result ≡ true → length self.new.turns < length self.old.turns }
+        ensures same { result ≡ false → self.new.turns ≡ self.old.turns }
         ensures told { result ≡ false → HasTold self.new }
     {
         !self.talk.has_told() && (self.tell() || self.tell_query(observer))
@@ -256,6 +262,7 @@ impl<S: Stream> Client<S> {
         ensures kept { KeepsOwn (Some self.old) (Some self.new) }
         ensures heard { (q : Posed) → IsHeard self.old q → IsHeard self.new q }
         ensures seen { self.new.seen ≡ self.old.seen }
+        ensures lost { self.old.lost ≡ true → self.new ≡ self.old }
         ensures fewer { result ≡ true → length self.new.turns < length self.old.turns }
         ensures same { result ≡ false → self.new.turns ≡ self.old.turns }
         ensures rests { result ≡ false → self.new.lost ≡ false → (self.new ≡ self.old) × HasNoReady self.old }

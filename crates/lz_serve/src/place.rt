@@ -2,7 +2,7 @@
 ghost use Rattle.std.specs.Prelude.{◌≡◌, ℕ, IfSome, None, Some, false};
 ghost use Rattle.lz_list.specs.Traces.{Begins};
 ghost use Rattle.lz_board.specs.Seats.{part};
-ghost use Rattle.lz_serve.specs.Clients.{ComesAfter, HasNone, HasSeenIn, HasTold, IsAskedBy, IsHeardOf, IsOwnOf, KeepsHeard, KeepsLines, KeepsLinesOf, KeepsOwn, KeepsSeen, Remains, TellsOf};
+ghost use Rattle.lz_serve.specs.Clients.{ComesAfter, HasNone, HasSeenIn, HasTold, IsAskedBy, IsHeardOf, IsOwnOf, KeepsHeard, KeepsLines, KeepsLinesOf, KeepsOwn, KeepsSeen, Remains, TellsOf, TellsPageOf};
 ghost use Rattle.lz_serve.specs.Grants.{Promises};
 
 use crate::asking::Granted;
@@ -144,6 +144,7 @@ impl<S: Stream> Place<S> {
         ensures stays { Remains self.old.client self.new.client }
         ensures kept { KeepsOwn self.old.client self.new.client }
         ensures heard { KeepsHeard self.old.client self.new.client }
+        ensures paged { TellsPageOf self.old.client listed.now.scan self.new.client }
         ensures told { IfSome self.new.client HasTold }
         ensures seen { (admitted : ℕ) → HasSeenIn admitted (part pass.now).known self.old.client → HasSeenIn admitted (part pass.now).known self.new.client }
     {

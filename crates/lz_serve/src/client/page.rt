@@ -2,7 +2,7 @@
 ghost use Rattle.std.specs.Prelude.{◌≡◌, Some};
 ghost use Rattle.lz_list.specs.Traces.{Begins};
 ghost use Rattle.lz_board.specs.Seats.{part};
-ghost use Rattle.lz_serve.specs.Clients.{HasTold, IsHeard, KeepsLines, KeepsOwn};
+ghost use Rattle.lz_serve.specs.Clients.{HasTold, IsHeard, KeepsLines, KeepsOwn, TellsPage};
 ghost use Rattle.lz_serve.specs.Grants.{Posed};
 ghost use Rattle.lz_serve.specs.Listings.{IsListing, Listing};
 
@@ -52,6 +52,7 @@ impl<S: Stream> Client<S> {
         ensures lines { self.new.lines ≡ self.old.lines }
         ensures kept { KeepsOwn (Some self.old) (Some self.new) }
         ensures heard { (q : Posed) → IsHeard self.old q → IsHeard self.new q }
+        ensures paged { TellsPage self.old listed.now.scan self.new }
         ensures told { HasTold self.new }
         ensures seen { self.new.seen ≡ (part pass.now).known }
     {
@@ -64,7 +65,8 @@ impl<S: Stream> Client<S> {
     fn put_page<N: Named>(&mut self, listed: &Listed<N>) -> bool
         requires promised { (l : Listing) → IsListing N.board l → S.listed l }
         requires seen { Begins self.old.seen (part listed.now.before).known }
-        ensures { KeepsLines self.old self.new }
+        ensures lines { KeepsLines self.old self.new }
+        ensures paged { TellsPage self.old listed.now.scan self.new }
     {
         if self.lost {
             return false;

@@ -2,7 +2,7 @@
 ghost use Rattle.std.specs.Prelude.{◌≡◌, IfSome, slice_get};
 ghost use Rattle.lz_list.specs.Traces.{Begins};
 ghost use Rattle.lz_board.specs.Seats.{part};
-ghost use Rattle.lz_serve.specs.Clients.{HasTold, HaveSeenIn, KeepsAwaited, KeepsReplies, OnlyLeave};
+ghost use Rattle.lz_serve.specs.Clients.{HasTold, HaveSeenIn, KeepsAwaited, KeepsReplies, OnlyLeave, TellsPageAt};
 ghost use Rattle.lz_serve.specs.Grants.{Promises};
 
 use crate::crowd::Crowd;
@@ -44,6 +44,7 @@ impl<S: Stream> Crowd<S> {
         requires after { Begins (part listed.now.after).known (part pass.now).known }
         ensures kept { KeepsAwaited self.old self.new }
         ensures heard { KeepsReplies self.old self.new }
+        ensures paged { TellsPageAt self.old token listed.now.scan self.new }
         ensures told { IfSome (slice_get self.new.clients token) (λ client. IfSome client HasTold) }
         ensures seen { HaveSeenIn self.new (part pass.now).known }
     {

@@ -1,11 +1,12 @@
-use Rattle.std.proofs.Common.{IsSome, Option, refl, sym, ap, subst}
+use Rattle.std.proofs.Common.{◌<◌, IsSome, Option, length, refl, sym, ap, subst}
 use Rattle.lz_list.specs.Traces.{Begins}
 use Rattle.lz_board.specs.Seats.{part}
 use Rattle.lz_serve.specs.declared.reader.Reader.{Reader}
-use Rattle.lz_serve.specs.Clients.{Asker, passes_of, seen_by}
+use Rattle.lz_serve.specs.Clients.{Asker, AwaitsPage, passes_of, seen_by}
 use Rattle.lz_serve.specs.Conversations.{Talk}
 use Rattle.lz_serve.proofs.HeldUp.{held_same, page_ended}
 use Rattle.lz_serve.proofs.LinesUnderWay.{earned_same}
+use Rattle.lz_serve.proofs.PagesTold.{page_told}
 use Rattle.lz_serve.proofs.TalksOnStreams.{page_or_not, same_lines}
 use Rattle.lz_serve.proofs.client.Client.put_page.Goals as goal
 
@@ -32,3 +33,11 @@ invariant_of-self g c =
           (page_or_not P L seen from.connection traffic c.in-Ok.told l was new puts so late c.in-Ok.ensures.told c.in-Ok.ensures.none (c.self.invariant.2 kept)),
       λ held kept. held_same was new (ap (λ (t : Talk). t.waiting) others) told under (page_ended c.in-Ok.told l was new c.in-Ok.ensures.told c.in-Ok.ensures.none) (c.self.invariant.3 held kept),
     )
+
+pub returns-in-Ok-clause-paged : goal.returns-in-Ok-clause-paged
+returns-in-Ok-clause-paged g c = λ awaits there.
+    let was = c.self.inside.talk in
+    let new = c.tell_page.new.self in
+    let l = c.args.listed.now in
+    let first = subst (λ (a : Asker). AwaitsPage a l.scan) (sym c.self.view_is) awaits in
+    subst (λ (a : Asker). length new.turns < length a.turns) c.self.view_is (page_told c.in-Ok.told l was new c.in-Ok.ensures.told c.in-Ok.ensures.rests first.1 first.2)

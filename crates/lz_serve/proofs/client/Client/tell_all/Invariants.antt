@@ -1,4 +1,4 @@
-use Rattle.std.specs.Prelude.{◌≡◌, Some, length}
+use Rattle.std.specs.Prelude.{◌≡◌, ◌≤◌, Some, length, true}
 use Rattle.lz_serve.specs.Clients.{IsHeard, KeepsOwn}
 use Rattle.lz_serve.specs.Grants.{Posed}
 use Rattle.lz_serve.proofs.client.Client.tell_all.Given as goal
@@ -10,6 +10,8 @@ invariant-turns g l = record {
   kept : KeepsOwn (Some l.fn.self) (Some l.self);
   heard : (q : Posed) → IsHeard l.fn.self q → IsHeard l.self q;
   seen : l.self.seen ≡ l.fn.self.seen;
+  lost : l.fn.self.lost ≡ true → l.self ≡ l.fn.self;
+  fewer : length l.self.turns ≤ length l.fn.self.turns;
 }
 
 abbrev pub decreases-turns : goal.decreases-turns

@@ -1,9 +1,10 @@
 use Rattle.std.proofs.Common.{IfSome, Option, sym, subst}
 use Rattle.lz_list.proofs.Traces.WalkEnd.{begins_before}
 use Rattle.lz_board.specs.Seats.{part}
-use Rattle.lz_serve.specs.Clients.{Asker, Askers, HasSeenIn, HasTold, HaveSeenIn, IsHeardOf}
-use Rattle.lz_serve.proofs.Crowds.{keeps_awaited, keeps_heard, leave_keeps, leave_so, one_so, only_seen, same_own, seen_at, seen_here}
+use Rattle.lz_serve.specs.Clients.{Asker, Askers, HasSeenIn, HasTold, HaveSeenIn, IsHeardOf, TellsPageOf}
+use Rattle.lz_serve.proofs.Crowds.{keeps_awaited, keeps_heard, leave_keeps, leave_so, one_so, only_seen, paged_here, same_own, seen_at, seen_here}
 use Rattle.lz_serve.proofs.Joins.{seen_later}
+use Rattle.lz_serve.proofs.PagesTold.{leave_paged}
 use Rattle.lz_serve.proofs.crowd.Crowd.tell_page.Goals as goal
 
 pub returns-in_default-clause-seen : goal.returns-in_default-clause-seen
@@ -34,6 +35,15 @@ returns-clause-heard g c = λ token q awaited heard.
     (leave_keeps _ c.put_back.new.self c.put_back.ensures.leave).heard token q
     (keeps_awaited (λ place. place.client) c.args.self.now c.self.inside.admitted c.self.inside.places.items c.args.token old c.self.view_is c.in-Some.ensures.item.3.0 c.in-Some.ensures.value new (λ q own. same_own told.client new.client c.give_back-is_back.ensures q (c.tell_page.ensures.kept q own)) token q awaited)
     (keeps_heard (λ place. place.client) c.args.self.now c.self.inside.admitted c.self.inside.places.items c.args.token old c.self.view_is c.in-Some.ensures.item.3.0 c.in-Some.ensures.value new c.args.self.now.queue (λ q own was. subst (λ (a : Option Asker). IsHeardOf a q) (sym c.give_back-is_back.ensures) (c.tell_page.ensures.heard q own was)) token q awaited heard)
+
+pub returns-clause-paged : goal.returns-clause-paged
+returns-clause-paged g c =
+    let old = c.in-Some.place.now in
+    let new = c.give_back-is_back.new.self in
+    let scan = c.args.listed.now.scan in
+    paged_here (λ place. place.client) c.args.self.now c.self.inside.admitted c.self.inside.places.items c.args.token old c.self.view_is c.in-Some.ensures.item.3.0 c.in-Some.ensures.value scan c.put_back.new.self
+    (leave_paged old.client scan _ c.put_back.new.self c.args.token c.put_back.ensures.leave
+    (one_so (λ place. place.client) (TellsPageOf old.client scan) c.self.inside.places.items c.args.token new (subst (TellsPageOf old.client scan) (sym c.give_back-is_back.ensures) c.tell_page.ensures.paged)))
 
 pub returns-clause-told : goal.returns-clause-told
 returns-clause-told g c =
