@@ -16,6 +16,14 @@ use std::sync::Wait;
 use std::test::Fail;
 use test_support::made;
 
+/// How many members a set told of itself: at first, with 10, 20 and 30, and without 20; then before and after each sync of an addition of 40
+/// and of a removal of 10.
+#[derive(Drop)]
+struct Counted {
+    settled: [usize; 3],
+    under_way: [(usize, usize); 3],
+}
+
 // How many members there are once a call has come to its next Sync, and once that Sync was played.
 fn count_around_sync<'a, N: Named, R: Wait>(
     rt: &R,
@@ -38,13 +46,8 @@ fn count_around_sync<'a, N: Named, R: Wait>(
     (comes && played).then_some((before, after))
 }
 
-// How many members there are at each step: at first, with 10, 20 and 30, without 20; while 40 is added, by two syncs; and while 10 is
-// removed, by one.
-fn count_steps<N: Named, R: Wait>(
-    rt: &R,
-    set: &Shared<N>,
-    passes: Vec<Pass>,
-) -> Option<([usize; 3], [(usize, usize); 3])>
+// The addition has two syncs, its key's and its gate's, and the removal one.
+fn count_steps<N: Named, R: Wait>(rt: &R, set: &Shared<N>, passes: Vec<Pass>) -> Option<Counted>
     requires { All (MayCall N.board) passes.items }
 {
     let mut passes = passes;
@@ -62,20 +65,20 @@ fn count_steps<N: Named, R: Wait>(
     let mut removal = begin(rt, set, &mut kept, other, Command::Remove(Key::new(10)?));
     let closed = count_around_sync(rt, set, &mut kept, &mut own, &mut removal)?;
     let _ = answer(rt, set, &mut kept, removal)?;
-    Some(([none, all, fewer], [keyed, opened, closed]))
+    Some(Counted {
+        settled: [none, all, fewer],
+        under_way: [keyed, opened, closed],
+    })
 }
 
-fn start_counting<N: Named, R: Wait>(
-    rt: &R,
-    blank: Blank<MemoryDisk, NoGate>,
-) -> Option<([usize; 3], [(usize, usize); 3])>
+fn start_counting<N: Named, R: Wait>(rt: &R, blank: Blank<MemoryDisk, NoGate>) -> Option<Counted>
     requires { MayBeNamed device_of N.board N.first N.format blank }
 {
     let (set, passes) = blank.start::<N>();
     count_steps(rt, &set, passes)
 }
 
-fn open_counting<R: Wait>(rt: &R, alloc: Global) -> Option<([usize; 3], [(usize, usize); 3])> {
+fn open_counting<R: Wait>(rt: &R, alloc: Global) -> Option<Counted> {
     let disk = made(alloc, 8)?;
     match Set::open(alloc, disk, NoGate, 1, 2) {
         Ok(blank) => start_counting::<Brand, _>(rt, blank),
@@ -86,10 +89,10 @@ fn open_counting<R: Wait>(rt: &R, alloc: Global) -> Option<([usize; 3], [(usize,
 // A member counts from the sync on that makes its gate durable, and no more once its gate is being closed.
 #[test]
 fn a_set_counts_its_durable_members(rt: HostRuntime) -> Result<(), Fail> {
-    let Some((settled, under_way)) = open_counting(&rt, rt.alloc()) else {
+    let Some(counted) = open_counting(&rt, rt.alloc()) else {
         panic!(rt; "no set, or a call stopped elsewhere")
     };
-    assert_eq!(rt; settled, [0, 3, 2]);
-    assert_eq!(rt; under_way, [(2, 2), (2, 3), (2, 2)]);
+    assert_eq!(rt; counted.settled, [0, 3, 2]);
+    assert_eq!(rt; counted.under_way, [(2, 2), (2, 3), (2, 2)]);
     Ok(())
 }
