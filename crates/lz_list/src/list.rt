@@ -62,6 +62,13 @@ impl List {
         self.words.set(word, value);
     }
 
+    /// Whether both locks of a pair are free, so that a claim would take them.
+    pub fn is_free(&self, pred: Place, curr: Option<Slot>) -> bool
+        ensures { result ≡ is_pair_free self.now.locks pred curr }
+    {
+        self.locks.is_free(pred, curr)
+    }
+
     /// Takes the locks of a place and of the node after it, if there is one, for an actor: both or neither. Actors count
     /// from 1.
     pub fn claim(&mut self, actor: usize, pred: Place, curr: Option<Slot>) -> bool

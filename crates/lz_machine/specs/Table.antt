@@ -10,6 +10,7 @@ use Rattle.lz_vault.specs.declared.vault.Stage.TheVariants.{Closed, Keyed, Openi
 use Rattle.lz_vault.specs.Stages.{Cell, cell_synced, stage_put, is_closed, is_keyed, is_covered, is_free}
 use Rattle.lz_vault.specs.Vaults.{Vaulted, DeviceCall, NoCall, SyncAll, key_call, opening_call, closing_call, last_sync, syncs_after, cells_failed, died}
 use Rattle.lz_allot.specs.Uses.{Use, collect, lowest_free, take_slot, give_back, retire, see_pin, counts, is_outside}
+use Rattle.lz_list.specs.declared.place.Place.{Place}
 use Rattle.lz_list.specs.declared.place.Place.TheVariants.{Node}
 use Rattle.lz_list.specs.declared.word.Word.{Word}
 use Rattle.lz_list.specs.declared.word.Word.TheVariants.{Link as link_at, Key as key_at, Pin as pin_at, Halt as halt_word}
@@ -137,6 +138,10 @@ is_played_dead _ = false
 -- a slot's last write is durable, as its stage tells
 abbrev pub is_sure : Yard → ℕ → Bool
 is_sure y s = is_covered (cell_at y s).stage
+
+-- a Claim of this pair would find it taken
+abbrev pub is_taken : Yard → Place → Option ℕ → Bool
+is_taken y pred curr = not y.vault.dead && not (is_pair_free y.locks pred curr)
 
 -- no sync is left in this life
 abbrev pub is_spent : Yard → Bool

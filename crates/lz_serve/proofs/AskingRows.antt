@@ -1,19 +1,22 @@
 -- Worked rows of what a pass of a loop is about, most of which must not hold.
-use Rattle.std.proofs.Common.{◌≡◌, ◌++◌, inl, inr, ℕ, suc, true, List, Option, Some, None, length, length-append, sym, ap, ◌∙◌, subst, arith}
+use Rattle.std.proofs.Common.{◌≡◌, inl, inr, ℕ, true, List, IsSomeAnd, Option, Some, None, sym, ap, ◌∙◌, subst, arith}
 use mathlib.Core.Bool.{true≢false}
 use Rattle.lz_slot.specs.declared.command.Command.TheVariants as command
 use Rattle.lz_slot.specs.declared.format.Format.{Format}
 use Rattle.lz_machine.specs.Orders.{Calling}
+use Rattle.lz_machine.specs.Yards.{Yard}
 use Rattle.lz_proto.specs.declared.request.Request.TheVariants.{Add, Has, Quit}
 use Rattle.lz_board.specs.declared.pass.Pass.{Pass}
 use Rattle.lz_board.specs.declared.view.Part.{Part}
-use Rattle.lz_board.specs.declared.view.Note.{Note}
-use Rattle.lz_board.specs.Seats.{BoardId, part}
+use Rattle.lz_board.specs.Seats.{BoardId}
+use Rattle.lz_set.specs.declared.underway.Stage.{Stage}
+use Rattle.lz_set.specs.declared.underway.Stage.TheVariants.{Answers}
+use Rattle.lz_set.specs.Stages.{StandsBefore}
 use Rattle.lz_serve.specs.Grants.{Posed}
 use Rattle.lz_serve.specs.Halts.{SawHalt}
 use Rattle.lz_serve.specs.Replies.{AreAskedAgain, command_of}
 use Rattle.lz_serve.proofs.Seats.{alone_once}
-use Rattle.lz_serve.specs.Askings.{Asked, IsAnswering, IsAsking, IsBusy, IsCounting, IsSameQuestion, WaitsForSlots}
+use Rattle.lz_serve.specs.Askings.{Asked, IsAnswering, IsAsking, IsCounting, IsSameQuestion, IsStopped, WaitsForSlots}
 use Rattle.lz_serve.proofs.Askings.{counted, resting}
 
 module _ (b : BoardId) (F : Format) (given : List Part) (q : Posed) (pass : Pass) (call : Option Calling) (tries : ℕ) (is : IsAnswering b F given q pass call tries) where
@@ -60,7 +63,11 @@ waits_on : (a : Asked) → WaitsForSlots true a a → ⊥
 waits_on a (waits, inl never) = true≢false never
 waits_on a (waits, inr answered) = absurd (omega (arith, answered))
 
--- one waits at a node without having claimed it since
-busy_on : (a : Asked) → IsBusy a a → ⊥
-busy_on a (stage, (e, o, x, m, more, steps, kind)) =
-    let longer : length (part a.pass).steps ≡ suc (length (more ++ (part a.pass).steps)) = ap (λ (l : List Note). length l) steps in absurd (omega (arith, longer, length-append more (part a.pass).steps))
+-- one is stopped that wasn't played on, or has its reply
+unplayed : (y : Yard) (a : Asked) → a.stage ≡ None → IsStopped y a → ⊥
+unplayed y a none stops = subst (λ (o : Option Stage). IsSomeAnd o (λ stage. IsSomeAnd a.call (λ k. StandsBefore y stage k))) none stops
+
+replied : (y : Yard) (a : Asked) (k : Calling) → a.stage ≡ Some Answers → a.call ≡ Some k → IsStopped y a → ⊥
+replied y a k answers begun stops =
+    subst (λ (o : Option Calling). IsSomeAnd o (λ k. StandsBefore y Answers k)) begun
+    (subst (λ (o : Option Stage). IsSomeAnd o (λ stage. IsSomeAnd a.call (λ k. StandsBefore y stage k))) answers stops)

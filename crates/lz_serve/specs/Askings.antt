@@ -4,15 +4,13 @@ use Rattle.lz_slot.specs.declared.command.Command.{Command}
 use Rattle.lz_slot.specs.declared.format.Format.{Format}
 use Rattle.lz_machine.specs.Orders.{Calling}
 use Rattle.lz_machine.specs.Yards.{Yard}
-use Rattle.lz_machine.specs.declared.kind.Kind.TheVariants.{Claim}
 use Rattle.lz_board.specs.declared.pass.Pass.{Pass}
 use Rattle.lz_board.specs.declared.view.Part.{Part}
 use Rattle.lz_board.specs.Seats.{BoardId, IsOf, part}
 use Rattle.lz_tie.specs.Counting.{Counts}
 use Rattle.lz_set.specs.declared.underway.Stage.{Stage}
-use Rattle.lz_set.specs.declared.underway.Stage.TheVariants.{Busy, Syncs}
 use Rattle.lz_set.specs.Names.{MayCall}
-use Rattle.lz_set.specs.Stages.{HasPlayed, StandsAt, StandsUncovered}
+use Rattle.lz_set.specs.Stages.{StandsAt, StandsBefore}
 use Rattle.lz_serve.specs.Grants.{Posed}
 use Rattle.lz_serve.specs.Halts.{IsCalmAfter, SawHalt}
 use Rattle.lz_serve.specs.Replies.{AreAskedAgain, command_of}
@@ -83,13 +81,9 @@ IsAnother old new =
 
 -- Why a call isn't played on now; none of it asks whose call it is, or whether its client is still there.
 
--- it stands before a Sync that would call the device
-abbrev pub IsBeforeSync : Yard → Asked → Type 0
-IsBeforeSync yard a = (a.stage ≡ Some Syncs) × IsSomeAnd a.call (λ k. StandsUncovered yard k)
-
--- it has claimed a node since, which another call holds
-abbrev pub IsBusy : Asked → Asked → Type 0
-IsBusy old new = (new.stage ≡ Some Busy) × HasPlayed Claim (part old.pass) (part new.pass)
+-- it stands before a Sync that would call the device, or before the Claim of a node that another call holds
+abbrev pub IsStopped : Yard → Asked → Type 0
+IsStopped yard a = IsSomeAnd a.stage (λ stage. IsSomeAnd a.call (λ k. StandsBefore yard stage k))
 
 -- it waits for slots: it was answered since, or none may be made again (`tries`)
 abbrev pub WaitsForSlots : Bool → Asked → Asked → Type 0

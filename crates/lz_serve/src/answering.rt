@@ -3,7 +3,7 @@ ghost use Rattle.std.specs.Prelude.{◌≡◌, ◌≢◌, ◌⊎◌, ◌↔◌, 
 ghost use Rattle.lz_list.specs.Traces.{Begins};
 ghost use Rattle.lz_board.specs.Seats.{part};
 ghost use Rattle.lz_set.specs.declared.underway.Stage.TheVariants as stage;
-ghost use Rattle.lz_serve.specs.Askings.{IsBeforeSync, IsBusy, WaitsForSlots, waits_for_slots};
+ghost use Rattle.lz_serve.specs.Askings.{IsStopped, WaitsForSlots, waits_for_slots};
 ghost use Rattle.lz_serve.specs.Clients.{HaveSeenIn, IsAwaited, IsNext, Keeps, KeepsAwaited};
 ghost use Rattle.lz_serve.specs.Desks.{GoesAnew, IsCalled, IsReplied, Knows};
 ghost use Rattle.lz_serve.specs.Grants.{Posed, Promises};
@@ -57,7 +57,7 @@ where
     ensures kept { KeepsAwaited crowd.old crowd.new }
     ensures met { IfSome meeting.new (λ free. HaveSeenIn crowd.new (part free.pass).known) }
     ensures none { (meeting.new ≡ None) ↔ (meeting.old ≡ None) }
-    ensures waits { result ≡ Next.Waits → WaitsForSlots tries asking.old asking.new ⊎ IsBusy asking.old asking.new ⊎ IsSomeAnd kept.new (λ l. IsBeforeSync l.yard asking.new) }
+    ensures waits { result ≡ Next.Waits → WaitsForSlots tries asking.old asking.new ⊎ IsSomeAnd kept.new (λ l. IsStopped l.yard asking.new) }
     ensures anew { result ≡ Next.GoesOn → GoesAnew crowd.new asking.old asking.new }
     ensures goes { result ≢ Next.Rests → IsCalled crowd.new (option_map (λ free. (part free.pass).known) meeting.new) asking.new }
     ensures replied { result ≡ Next.Rests → IsReplied crowd.new asking.old }

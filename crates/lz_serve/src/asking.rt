@@ -6,9 +6,9 @@ ghost use Rattle.lz_board.specs.declared.pass.Pass.{Pass as Seen};
 ghost use Rattle.lz_board.specs.Seats.{IsOf, part};
 ghost use Rattle.lz_tie.specs.Counting.{Counts};
 ghost use Rattle.lz_set.specs.Names.{MayCall};
-ghost use Rattle.lz_set.specs.Stages.{HasPlayed, StandsAt, StandsUncovered, StepsUnfailed, StepsWithout};
+ghost use Rattle.lz_set.specs.Stages.{HasPlayed, StandsAt, StepsUnfailed, StepsWithout};
 ghost use Rattle.lz_machine.specs.declared.kind.Kind.TheVariants as kind;
-ghost use Rattle.lz_serve.specs.Askings.{IsCounting, IsSameQuestion, waits_for_slots};
+ghost use Rattle.lz_serve.specs.Askings.{IsCounting, IsSameQuestion, IsStopped, waits_for_slots};
 ghost use Rattle.lz_serve.specs.Grants.{IsGrant};
 ghost use Rattle.lz_serve.specs.Replies.{asks_again, client_reply, command_of, most_tries, says_halted};
 
@@ -208,8 +208,7 @@ impl<N: Named, B: Given> Asking<N, B> {
         self.stage = None;
     }
 
-    /// Plays the call on up to a stage, and no Sync that calls the device. It begins where it hasn't yet, and one that was busy claims its
-    /// node again. None where it rests.
+    /// Plays the call on up to a stage, and no Sync that calls the device. It begins where it hasn't yet. None where it rests.
     pub fn go_on<'a, D: Disk, G: StepGate, R: Wait>(
         &mut self,
         rt: &R,
@@ -219,8 +218,7 @@ impl<N: Named, B: Given> Asking<N, B> {
         ensures stands { IfSome result (λ stage. IsSomeAnd self.new.call (λ call. StandsAt stage call)) }
         ensures stage { self.new.stage ≡ result }
         ensures none { result ≡ None → self.old.question ≡ None }
-        ensures uncovered { result ≡ Some Stage.Syncs → IsSomeAnd kept.new (λ l. IsSomeAnd self.new.call (λ call. StandsUncovered l.yard call)) }
-        ensures claimed { result ≡ Some Stage.Busy → HasPlayed kind.Claim (part self.old.pass) (part self.new.pass) }
+        ensures stopped { IfSome result (λ stage. stage ≢ Stage.Answers → IsSomeAnd kept.new (λ l. IsStopped l.yard self.new)) }
         ensures steps { StepsUnfailed kind.Sync (part self.old.pass) (part self.new.pass) }
         ensures same { IsSameQuestion self.old self.new }
     {

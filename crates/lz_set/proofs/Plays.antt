@@ -18,8 +18,7 @@ use Rattle.lz_machine.specs.declared.kind.Kind.TheVariants.{Hop, Invoke, Sync}
 use Rattle.lz_machine.specs.Kinds.{kind_of}
 use Rattle.lz_machine.specs.Orders.{Calling, shape_with}
 use Rattle.lz_machine.specs.Runs.{reply_at}
-use Rattle.lz_machine.specs.Table.{is_sure}
-use Rattle.lz_machine.specs.Yards.{Shape}
+use Rattle.lz_machine.specs.Yards.{Shape, Yard}
 use Rattle.lz_caller.specs.Begun.{begun_after}
 use Rattle.lz_board.specs.declared.view.Note.{Note}
 use Rattle.lz_board.specs.declared.view.Part.{Part}
@@ -32,7 +31,9 @@ use Rattle.lz_tie.specs.declared.playing.Turn.{Turn}
 use Rattle.lz_tie.specs.Held.{Advanced}
 use Rattle.lz_tie.specs.Counting.{Counts, CountsOn}
 use Rattle.lz_tie.specs.Holds.{LockedOver}
-use Rattle.lz_set.specs.Stages.{HasPlayed, IsUncovered, NoneOf, PlaysOne, StandsUncovered, StepsBut, StepsOn, StepsUnfailed, StepsWithout, kind_of_failed, kind_of_step}
+use Rattle.lz_set.specs.declared.underway.Stage.{Stage}
+use Rattle.lz_set.specs.declared.underway.Stage.TheVariants.{Syncs, Busy, Answers}
+use Rattle.lz_set.specs.Stages.{HasPlayed, NoneOf, PlaysOne, StandsAt, StandsBefore, StepsBut, StepsUnfailed, StepsWithout, StopsBefore, kind_of_failed, kind_of_step}
 
 -- neither a loaded pin word nor the yard's shape makes it another kind of event
 kind_loaded : (words : Words) (e : Event) → kind_of (loaded words e) ≡ kind_of e
@@ -73,11 +74,6 @@ turned_one b was is k t before after e next a = subst (λ (f : Event). PlaysOne 
 
 pub has_played : (kind : Kind) (h h' : Part) → PlaysOne kind h h' → HasPlayed kind h h'
 has_played kind h h' p = (p.0, p.1, p.2, p.3, map (load_note h.number) h.loads, p.4, p.5)
-
-pub played_then : (kind : Kind) (h mid h' : Part) → StepsOn h mid → HasPlayed kind mid h' → HasPlayed kind h h'
-played_then kind h mid h' one p =
-    let n = stamped p.3 (note_by h'.number (Played p.0 p.1) p.2) in
-    (p.0, p.1, p.2, p.3, p.4 ++ one.0, p.5 ∙ ap (λ (l : List Note). n ∷ (p.4 ++ l)) one.1 ∙ ap (λ (l : List Note). n ∷ l) (sym (append_assoc p.4 one.0 h.steps)), p.6)
 
 -- loads are no syncs
 loads_without : (p : ℕ) (loads : List Load) → NoneOf kind_of_step Sync (map (load_note p) loads)
@@ -165,11 +161,17 @@ held_unfailed e h mid h' one p covered = without_then kind_of_failed Sync h mid 
     go (SyncOf s) p covered = covered s refl
     go e p covered = so_unfailed Sync mid h' (one_without (kind_of e) mid h' (λ is. cc) p)
 
--- before a Sync whose slot isn't covered, as was seen under the lock that is kept
-pub stands_uncovered : {D : Type 0} (kept : Option (LockedOver D)) (seen held : LockedOver D) (k : Calling) (e : Event) → kept ≡ Some held → seen ≡ held → e ≡ event_at (shape_with k) k.command k.progress → IsUncovered seen.yard e
-    → IsSomeAnd kept (λ l. StandsUncovered l.yard k)
-stands_uncovered {D} kept seen held k e keeps same next sync =
-    subst (λ (o : Option (LockedOver D)). IsSomeAnd o (λ l. StandsUncovered l.yard k)) (sym keeps) (sync.0, sym next ∙ sync.1, subst (λ (l : LockedOver D). is_sure l.yard sync.0 ≡ false) same sync.2)
+-- a call stands before the event at which it stops, as was seen under the lock that is kept
+pub stands_before : {D : Type 0} (kept : Option (LockedOver D)) (seen held : LockedOver D) (stage : Stage) (k : Calling) (e : Event) → kept ≡ Some held → seen ≡ held → e ≡ event_at (shape_with k) k.command k.progress
+    → StopsBefore seen.yard stage e → IsSomeAnd kept (λ l. StandsBefore l.yard stage k)
+stands_before {D} kept seen held stage k e keeps same next stops =
+    subst (λ (o : Option (LockedOver D)). IsSomeAnd o (λ l. StandsBefore l.yard stage k)) (sym keeps)
+    (subst (λ (l : LockedOver D). StopsBefore l.yard stage (event_at (shape_with k) k.command k.progress)) same (subst (λ (f : Event). StopsBefore seen.yard stage f) next stops))
+
+pub stands_at : (y : Yard) (stage : Stage) (k : Calling) (e : Event) → e ≡ event_at (shape_with k) k.command k.progress → StopsBefore y stage e → StandsAt stage k
+stands_at y Syncs k e next stops = (stops.0, sym next ∙ stops.1)
+stands_at y Busy k e next stops = (stops.0, stops.1, sym next ∙ stops.2)
+stands_at y Answers k e next stops = absurd stops
 
 pub same_counts : (b : BoardId) (k : Calling) (h : Part) (is k' : Calling) (h' : Part) → is ≡ k' → CountsOn b k h k' h' → CountsOn b k h is h'
 same_counts b k h is k' h' same on = λ c format before counts. subst (λ (q : Calling). Counts b c format before q h') (sym same) (on c format before counts)

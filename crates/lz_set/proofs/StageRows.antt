@@ -1,5 +1,5 @@
 -- Worked rows: where calls stand that stopped.
-use Rattle.std.proofs.Common.{◌≡◌, ◌≢◌, List, [], ◌∷◌, ◌++◌, length, Option, Some, None, is_some, refl, sym, ap, arith, length-append}
+use Rattle.std.proofs.Common.{◌≡◌, ◌≢◌, ℕ, Bool, true, false, List, [], ◌∷◌, ◌++◌, length, Option, Some, None, is_some, refl, sym, ap, arith, length-append}
 use Rattle.std.proofs.lemmas.Option.{none-some, same_Some}
 use mathlib.Core.Bool.{false≢true}
 use Rattle.lz_slot.specs.declared.command.Command.TheVariants.{Add}
@@ -15,6 +15,7 @@ use Rattle.lz_machine.specs.declared.event.Reply.TheVariants.{No}
 use Rattle.lz_machine.specs.declared.kind.Kind.{Kind}
 use Rattle.lz_machine.specs.declared.kind.Kind.TheVariants as kind
 use Rattle.lz_machine.specs.Orders.{Calling}
+use Rattle.lz_machine.specs.Yards.{Yard}
 use Rattle.lz_board.specs.declared.view.Note.{Note}
 use Rattle.lz_board.specs.declared.view.Part.{Part}
 use Rattle.lz_board.specs.declared.view.What.TheVariants.{Called, Played}
@@ -22,7 +23,7 @@ use Rattle.lz_board.specs.Notes.{note_by}
 use Rattle.lz_board.specs.Plays.{no_sizes}
 use Rattle.lz_tie.proofs.CoveredRows.{yard_at}
 use Rattle.lz_set.specs.declared.underway.Stage.TheVariants.{Syncs, Busy, Answers}
-use Rattle.lz_set.specs.Stages.{HasPlayed, IsUncovered, NoneOf, PlaysOne, StandsAt, StepsUnfailed, StepsWithout, kind_of_failed, kind_of_step}
+use Rattle.lz_set.specs.Stages.{HasPlayed, NoneOf, PlaysOne, StandsAt, StepsUnfailed, StepsWithout, StopsBefore, kind_of_failed, kind_of_step}
 
 -- an adding of 9 in slot 1 that has come so far
 abbrev call_at : Progress → Calling
@@ -122,14 +123,39 @@ failed_write : StepsUnfailed kind.Sync (pass_with []) (pass_with (note_by 1 (Pla
 failed_write = (note_by 1 (Played WriteOpen found.Fault) None ∷ [], refl, ((λ is. let same : kind.WriteOpen ≡ kind.Sync = same_Some kind.WriteOpen kind.Sync is in cc), tt))
 
 -- a slot whose key was written, before its sync and after it
-key_not_synced : IsUncovered (yard_at cell.KeyLoose) (Sync 0)
+key_not_synced : StopsBefore (yard_at cell.KeyLoose) Syncs (Sync 0)
 key_not_synced = (0, refl, refl)
 
-key_synced : IsUncovered (yard_at cell.Keyed) (Sync 0) → ⊥
+key_synced : StopsBefore (yard_at cell.Keyed) Syncs (Sync 0) → ⊥
 key_synced h = let slot = h.1 in let sure = h.2 in cc
 
-no_such_slot : IsUncovered (yard_at cell.KeyLoose) (Sync 1) → ⊥
+no_such_slot : StopsBefore (yard_at cell.KeyLoose) Syncs (Sync 1) → ⊥
 no_such_slot h = let slot = h.1 in let sure = h.2 in cc
 
-no_sync_at_all : IsUncovered (yard_at cell.KeyLoose) WriteOpen → ⊥
+no_sync_at_all : StopsBefore (yard_at cell.KeyLoose) Syncs WriteOpen → ⊥
 no_sync_at_all h = let slot = h.1 in cc
+
+-- a bucket's head that another has, the node after it, and what is free
+abbrev held_by : ℕ → ℕ → Bool → Yard
+held_by head node dead =
+    let yard = yard_at cell.Keyed in
+    record yard { locks = record { heads = head ∷ []; nodes = node ∷ [] }; vault = record yard.vault { dead = dead } }
+
+head_taken : StopsBefore (held_by 2 0 false) Busy (Claim (Bucket 0) None)
+head_taken = (Bucket 0, None, refl, refl)
+
+node_taken : StopsBefore (held_by 0 2 false) Busy (Claim (Bucket 0) (Some 0))
+node_taken = (Bucket 0, Some 0, refl, refl)
+
+other_taken : StopsBefore (held_by 0 2 false) Busy (Claim (Bucket 0) None) → ⊥
+other_taken h = let pred = h.2 in let taken = h.3 in cc
+
+-- over a dead vault a Claim is answered that
+taken_and_dead : StopsBefore (held_by 2 2 true) Busy (Claim (Bucket 0) (Some 0)) → ⊥
+taken_and_dead h = let pred = h.2 in let taken = h.3 in cc
+
+no_claim : StopsBefore (held_by 2 2 false) Busy (Sync 0) → ⊥
+no_claim h = let pred = h.2 in cc
+
+never_for_a_reply : StopsBefore (held_by 2 2 false) Answers (Claim (Bucket 0) None) → ⊥
+never_for_a_reply h = h

@@ -1,5 +1,5 @@
 -- How a call under way is played on.
-use Rattle.std.specs.Prelude.{◌≡◌, ◌≢◌, ℕ, false, List, [], ◌∷◌, ◌++◌, map, Option, Some, None}
+use Rattle.std.specs.Prelude.{◌≡◌, ◌≢◌, ℕ, false, true, List, [], ◌∷◌, ◌++◌, map, Option, Some, None}
 use Rattle.lz_list.specs.declared.place.Place.{Place}
 use Rattle.lz_list.specs.declared.publishing.Publishing.{Publishing}
 use Rattle.lz_machine.specs.declared.event.Event.{Event}
@@ -13,7 +13,7 @@ use Rattle.lz_machine.specs.Calls.{event_at}
 use Rattle.lz_machine.specs.Kinds.{kind_of}
 use Rattle.lz_machine.specs.Orders.{Calling, shape_with}
 use Rattle.lz_machine.specs.Runs.{reply_at}
-use Rattle.lz_machine.specs.Table.{is_sure}
+use Rattle.lz_machine.specs.Table.{is_sure, is_taken}
 use Rattle.lz_machine.specs.Yards.{Yard}
 use Rattle.lz_board.specs.declared.view.Note.{Note}
 use Rattle.lz_board.specs.declared.view.Part.{Part}
@@ -28,10 +28,6 @@ abbrev pub StandsAt : Stage → Calling → Type 0
 StandsAt Syncs k = (slot : ℕ) × (event_at (shape_with k) k.command k.progress ≡ Sync slot)
 StandsAt Busy k = (pred : Place) × (curr : Option ℕ) × (event_at (shape_with k) k.command k.progress ≡ Claim pred curr)
 StandsAt Answers k = (reply : Reply) × (reply_at k.progress ≡ Some reply)
-
--- the pass has made no steps since, or some
-abbrev pub StepsOn : Part → Part → Type 0
-StepsOn h h' = (more : List Note) × (h'.steps ≡ more ++ h.steps)
 
 -- its newest step since is an event of this kind
 abbrev pub HasPlayed : Kind → Part → Part → Type 0
@@ -69,10 +65,13 @@ StepsWithout kind h h' = StepsBut kind_of_step kind h h'
 abbrev pub StepsUnfailed : Kind → Part → Part → Type 0
 StepsUnfailed kind h h' = StepsBut kind_of_failed kind h h'
 
--- the event is the Sync of a slot whose last write isn't durable in this yard: it calls the device
-abbrev pub IsUncovered : Yard → Event → Type 0
-IsUncovered y e = (slot : ℕ) × (e ≡ Sync slot) × (is_sure y slot ≡ false)
+-- why a call stops before an event, over this yard: it is the Sync of a slot whose last write isn't durable, so that it calls the device; or
+-- the Claim of a pair of which another call has a lock
+abbrev pub StopsBefore : Yard → Stage → Event → Type 0
+StopsBefore y Syncs e = (slot : ℕ) × (e ≡ Sync slot) × (is_sure y slot ≡ false)
+StopsBefore y Busy e = (pred : Place) × (curr : Option ℕ) × (e ≡ Claim pred curr) × (is_taken y pred curr ≡ true)
+StopsBefore y Answers e = ⊥
 
--- the call stands before such a Sync
-abbrev pub StandsUncovered : Yard → Calling → Type 0
-StandsUncovered y k = IsUncovered y (event_at (shape_with k) k.command k.progress)
+-- the call stands before such an event
+abbrev pub StandsBefore : Yard → Stage → Calling → Type 0
+StandsBefore y stage k = StopsBefore y stage (event_at (shape_with k) k.command k.progress)

@@ -23,8 +23,8 @@ const LOOKS: u32 = 100;
 /// that wait, which it wakes. While new calls come all the time, as many answers as there are passes end the wait. After the
 /// sync all that waited for it go on, whatever it gave: over a dead device each is told so by its own. A node is held by a call
 /// that runs, or waits for a sync, or is in a gate, or is a value; the first two are done with it by and by, and the owner of
-/// the last is to play it on. Each wakes those that wait for the node, and one that is freed between a claim and the wait after
-/// it is not missed: the claim has noted how often one had been freed.
+/// the last is to play it on. Each wakes those that wait for the node. A call finds it taken and goes to sleep in one hold of the
+/// lock, so it misses none that is freed.
 #[derive(Drop)]
 pub(crate) struct GroupCommit {
     // How many syncs had a group to close: the number of the open one.
@@ -54,8 +54,6 @@ pub(crate) struct Stay {
     runs: bool,
     // The group whose sync it waits for, or waited for last.
     group: usize,
-    // How often a node had been freed when it claimed one last.
-    frees: usize,
     // It has closed a group, and hasn't yet woken those that waited.
     wakes: bool,
 }
@@ -86,7 +84,6 @@ impl GroupCommit {
             awaited,
             runs: false,
             group: 0,
-            frees: 0,
             wakes: false,
         };
         self.run(&mut stay);
@@ -140,12 +137,10 @@ impl GroupCommit {
         self.rest(stay);
     }
 
-    /// The call has played an event of this kind. Its caller holds the lock.
-    pub(crate) fn played(&self, kind: Kind, stay: &mut Stay) {
-        match kind {
-            Kind::Claim => stay.frees = self.frees.load(Ordering::SeqCst),
-            Kind::Release | Kind::Halt => self.free(),
-            _ => {}
+    /// A call has played an event of this kind. Its caller holds the lock.
+    pub(crate) fn played(&self, kind: Kind) {
+        if matches!(kind, Kind::Release | Kind::Halt) {
+            self.free();
         }
     }
 
@@ -221,7 +216,7 @@ impl GroupCommit {
         }
     }
 
-    /// Waits until a node may have been freed since the call claimed one.
+    /// Waits until a node may have been freed. The call has found the one that it claims taken in this hold of the lock.
     pub(crate) fn await_node<'a, T, R: Wait>(
         &self,
         rt: &R,
@@ -229,15 +224,13 @@ impl GroupCommit {
         stay: &mut Stay,
     ) -> MutexGuard<'a, T> {
         let mut locked = locked;
-        if self.frees.load(Ordering::SeqCst) != stay.frees {
-            return locked;
-        }
+        let frees = self.frees.load(Ordering::SeqCst);
         self.busy.fetch_add(1, Ordering::SeqCst);
         self.rest(stay);
         self.wake(stay);
         for _ in rt.forever() {
             locked = self.freed.wait(rt, locked);
-            if self.frees.load(Ordering::SeqCst) != stay.frees {
+            if self.frees.load(Ordering::SeqCst) != frees {
                 // Whoever freed it has counted the call among those that run.
                 stay.runs = true;
                 return locked;

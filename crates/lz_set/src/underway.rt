@@ -1,11 +1,10 @@
 //! A call as a value, and how it is played on.
-ghost use Rattle.std.specs.Prelude.{◌≡◌, ◌≢◌, ℕ, IsSomeAnd, IsTrue, None, Some, false, true};
+ghost use Rattle.std.specs.Prelude.{◌≡◌, ◌≢◌, ℕ, IfSome, IsSomeAnd, None, Some, true};
 ghost use Rattle.std.specs.Sync.Mutex.{mutex_guard_value};
 ghost use Rattle.lz_slot.specs.declared.command.Command.{Command as Asked};
 ghost use Rattle.lz_slot.specs.declared.format.Format.{Format};
 ghost use Rattle.lz_machine.specs.declared.event.Event.TheVariants.{Hop, Sync};
 ghost use Rattle.lz_machine.specs.Calls.{event_at};
-ghost use Rattle.lz_machine.specs.Kinds.{kind_of};
 ghost use Rattle.lz_machine.specs.Laws.{hop_of};
 ghost use Rattle.lz_machine.specs.Orders.{shape_with};
 ghost use Rattle.lz_machine.specs.Runs.{reply_at};
@@ -17,7 +16,7 @@ ghost use Rattle.lz_tie.specs.Counting.{Counts, CountsOn, IsCounted};
 ghost use Rattle.lz_tie.specs.OneCaller.{IsPlainAnswer, keys_in};
 ghost use Rattle.lz_set.specs.Answers.{reply_of};
 ghost use Rattle.lz_set.specs.Names.{MayCall};
-ghost use Rattle.lz_set.specs.Stages.{HasPlayed, IsUncovered, PlaysOne, StandsAt, StandsUncovered, StepsUnfailed, StepsWithout};
+ghost use Rattle.lz_set.specs.Stages.{HasPlayed, PlaysOne, StandsAt, StandsBefore, StepsUnfailed, StepsWithout, StopsBefore};
 
 use crate::fault::Fault;
 use crate::gate::StepGate;
@@ -54,7 +53,7 @@ impl Model for Underway {
 pub enum Stage {
     /// Its next event is a Sync, which calls the device.
     Syncs,
-    /// It claimed a node that another call holds. Its next event is that Claim again.
+    /// Its next event is the Claim of a node that another call holds.
     Busy,
     /// It has its reply.
     Answers,
@@ -78,8 +77,8 @@ impl<D: Disk, G: StepGate, N: Named> Set<D, G, N> {
         self.invoke(rt, kept, pass, command, self.commits.come(false))
     }
 
-    /// Plays the call on up to a stage. One that was busy claims its node again. A Sync whose slot is covered calls no device, so it
-    /// is played at once; before another the call stops, and the lock is kept. No Sync that is played here failed, over whatever
+    /// Plays the call on up to a stage. A Sync whose slot is covered calls no device, so it is played at once; before another, and
+    /// before the Claim of a node that is taken, the call stops, and the lock is kept. No Sync that is played here failed, over whatever
     /// device: it calls none.
     pub fn go_on<'a, R: Wait>(
         &'a self,
@@ -93,9 +92,8 @@ impl<D: Disk, G: StepGate, N: Named> Set<D, G, N> {
         ensures pass { IsOf N.board pass.new }
         ensures counts { CountsOn N.board call.old (part pass.old) call.new (part pass.new) }
         ensures stands { StandsAt result call.new }
-        ensures uncovered { result ≡ Stage.Syncs → IsSomeAnd kept.new (λ l. StandsUncovered l.yard call.new) }
         ensures steps { StepsUnfailed Kind.Sync (part pass.old) (part pass.new) }
-        ensures claimed { result ≡ Stage.Busy → HasPlayed Kind.Claim (part pass.old) (part pass.new) }
+        ensures before { result ≢ Stage.Answers → IsSomeAnd kept.new (λ l. StandsBefore l.yard result call.new) }
     {
         for _ in rt.forever() {
             self.walk(rt, kept, pass, call);
@@ -105,19 +103,15 @@ impl<D: Disk, G: StepGate, N: Named> Set<D, G, N> {
             let event = call.caller.next();
             let asked = event;
             let played = event;
-            let noted = event;
-            let kind = noted.kind();
+            let kind = played.kind();
             let mut locked = self.lock(rt, kept, &mut call.stay);
-            if is_uncovered(&*locked, event) {
+            if let Some(stage) = stop_before(&*locked, event) {
                 kept.keep(locked);
-                return Stage::Syncs;
+                return stage;
             }
             locked.turn_on(&self.board, pass, &mut call.caller, asked);
-            self.commits.played(kind, &mut call.stay);
+            self.commits.played(kind);
             self.leave(rt, kept, pass.number(), kind, locked, &mut call.stay);
-            if is_taken(played, &call.caller) {
-                return Stage::Busy;
-            }
         }
         unreachable!()
     }
@@ -329,23 +323,16 @@ impl<D: Disk, G: StepGate, N: Named> Set<D, G, N> {
     }
 }
 
-// Whether the event is a Sync whose slot isn't covered, so that it would call the device.
-fn is_uncovered<N: Named, D: Disk>(locked: &Locked<N, D>, event: Event) -> bool
-    ensures uncovered { result ≡ true → IsUncovered locked.now.yard event }
-    ensures covered { result ≡ false → (slot : ℕ) → event ≡ Sync slot → is_sure locked.now.yard slot ≡ true }
+// At which stage a call stops before this event: where it would call the device, or claim what is taken.
+fn stop_before<N: Named, D: Disk>(locked: &Locked<N, D>, event: Event) -> Option<Stage>
+    ensures stops { IfSome result (λ stage. StopsBefore locked.now.yard stage event) }
+    ensures goes { result ≡ None → (slot : ℕ) → event ≡ Sync slot → is_sure locked.now.yard slot ≡ true }
 {
     match event {
-        Event::Sync(slot) => !locked.is_covered(slot),
-        _ => false,
+        Event::Sync(slot) if !locked.is_covered(slot) => Some(Stage::Syncs),
+        Event::Claim(pred, curr) if locked.is_taken(pred, curr) => Some(Stage::Busy),
+        _ => None,
     }
-}
-
-// Whether the event was a Claim of a node that another call holds: the call's next event is one again.
-fn is_taken(event: Event, caller: &Caller) -> bool
-    ensures claimed { IsTrue result → kind_of event ≡ Kind.Claim }
-    ensures stands { IsTrue result → StandsAt Stage.Busy caller.now }
-{
-    matches!(event, Event::Claim(_, _)) && matches!(caller.next(), Event::Claim(_, _))
 }
 
 // The answer of a call that ended with this reply.

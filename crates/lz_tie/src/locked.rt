@@ -3,7 +3,7 @@ ghost use Rattle.std.specs.Prelude.{◌≡◌, ◌⊎◌, ◌≤◌, ◌<◌};
 ghost use Rattle.lz_vault.specs.Opens.{open_count};
 ghost use Rattle.lz_vault.specs.Vaults.{last_sync};
 ghost use Rattle.lz_list.specs.Traces.{halt_word};
-ghost use Rattle.lz_machine.specs.Table.{is_sure};
+ghost use Rattle.lz_machine.specs.Table.{is_sure, is_taken};
 ghost use Rattle.lz_board.specs.Notes.{trace_of};
 ghost use Rattle.lz_board.specs.Seats.{IsPenOf, notes};
 ghost use Rattle.lz_tie.specs.Holds.{IsLocked};
@@ -13,6 +13,7 @@ ghost use Rattle.lz_tie.specs.Moments.{ExplainedSince, LeftSince, RepliesStay};
 use crate::named::Named;
 use lz_board::Pen;
 use lz_disk::Disk;
+use lz_list::Place;
 use lz_slot::Slot;
 use lz_yard::Yard;
 use std::marker::{Model, PhantomData};
@@ -62,6 +63,13 @@ impl<N: Named, D: Disk> Locked<N, D> {
         ensures { result ≡ is_sure self.now.yard slot }
     {
         self.yard.is_covered(slot)
+    }
+
+    /// Whether a Claim of this pair would find it taken.
+    pub fn is_taken(&self, pred: Place, curr: Option<Slot>) -> bool
+        ensures { result ≡ is_taken self.now.yard pred curr }
+    {
+        self.yard.is_taken(pred, curr)
     }
 
     /// How many slots are open for sure.

@@ -9,7 +9,7 @@ ghost use Rattle.lz_yard.specs.Filling.{OpensYard};
 ghost use Rattle.lz_machine.specs.Ready.{IsEventOf};
 ghost use Rattle.lz_machine.specs.Runs.{MayPlay, with_words};
 ghost use Rattle.lz_yard.specs.Steps.{Played};
-ghost use Rattle.lz_machine.specs.Table.{is_sure, needs};
+ghost use Rattle.lz_machine.specs.Table.{is_sure, is_taken, needs};
 
 use crate::filling::Tables;
 use crate::parts::Parts;
@@ -17,7 +17,7 @@ use crate::plays::played;
 use crate::told::{Stepped, untold};
 use lz_allot::Counts;
 use lz_disk::Disk;
-use lz_list::{Word, Words};
+use lz_list::{Place, Word, Words};
 use lz_machine::{Course, Event, Outcome};
 use lz_slot::{Format, Slot};
 use lz_vault::{OpenFault, Opened, Refused, Vault};
@@ -129,6 +129,13 @@ impl<D: Disk> Yard<D> {
         ensures { result ≡ is_sure self.now.yard slot }
     {
         slot.index() as usize >= self.parts.slots || self.parts.is_sure(slot)
+    }
+
+    /// Whether a Claim of this pair would find it taken. Over a dead vault no pair is: a Claim is answered that.
+    pub fn is_taken(&self, pred: Place, curr: Option<Slot>) -> bool
+        ensures { result ≡ is_taken self.now.yard pred curr }
+    {
+        !self.parts.is_dead() && !self.parts.list.is_free(pred, curr)
     }
 
     /// How many slots are surely open.

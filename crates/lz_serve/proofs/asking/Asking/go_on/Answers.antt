@@ -1,19 +1,10 @@
 use Rattle.std.proofs.Common.{◌≡◌, subst}
-use Rattle.lz_machine.specs.declared.kind.Kind.TheVariants.{Claim, Sync}
+use Rattle.lz_machine.specs.declared.kind.Kind.TheVariants.{Sync}
 use Rattle.lz_board.specs.Seats.{part}
-use Rattle.lz_set.specs.declared.underway.Stage.TheVariants.{Busy}
-use Rattle.lz_set.specs.Stages.{HasPlayed, StepsUnfailed, kind_of_failed}
-use Rattle.lz_set.proofs.Plays.{played_then, so_unfailed, without_then}
+use Rattle.lz_set.specs.Stages.{StepsUnfailed, kind_of_failed}
+use Rattle.lz_set.proofs.Plays.{so_unfailed, without_then}
 use Rattle.lz_serve.specs.Askings.{Asked}
 use Rattle.lz_serve.proofs.asking.Asking.go_on.Goals as goal
-
-pub returns-clause-claimed : goal.returns-clause-claimed
-returns-clause-claimed g c = λ stands.
-    let new = part c.go_on-stage.new.pass in
-    let first = c.begin_once.ensures.steps in
-    let busy : c.go_on-stage.result ≡ Busy = cc in
-    subst (λ (a : Asked). HasPlayed Claim (part a.pass) new) c.self.view_is
-    (played_then Claim (part c.self.inside.pass) (part c.begin_once.new.pass) new (first.0, first.1) (c.go_on-stage.ensures.claimed busy))
 
 pub returns-clause-steps : goal.returns-clause-steps
 returns-clause-steps g c =

@@ -1,21 +1,22 @@
-use Rattle.std.proofs.Common.{◌≡◌, true, Option, Some, None, is_some, refl, sym, ap, ◌∙◌, subst}
+use Rattle.std.proofs.Common.{◌≡◌, ◌≢◌, true, Option, Some, None, is_some, refl, sym, ap, ◌∙◌, subst}
 use mathlib.Core.Bool.{false≢true}
 use Rattle.lz_machine.specs.declared.event.Reply.{Reply}
-use Rattle.lz_machine.specs.declared.kind.Kind.{Kind}
-use Rattle.lz_machine.specs.declared.kind.Kind.TheVariants.{Claim}
 use Rattle.lz_machine.specs.Calls.{event_at}
 use Rattle.lz_machine.specs.Laws.{hop_of}
 use Rattle.lz_machine.specs.Orders.{Calling, shape_with}
 use Rattle.lz_machine.specs.Runs.{reply_at}
 use Rattle.lz_machine.specs.Table.{is_sure}
 use Rattle.lz_board.specs.Seats.{part}
-use Rattle.lz_set.specs.Stages.{PlaysOne}
-use Rattle.lz_set.proofs.Plays.{has_played, held_unfailed, played_then, same_counts, stands_uncovered, turned_one, turned_unfailed, walked_unfailed}
+use Rattle.lz_set.proofs.Plays.{held_unfailed, same_counts, stands_at, stands_before, turned_one, turned_unfailed, walked_unfailed}
 use Rattle.lz_set.proofs.set.Set.go_on.Goals as goal
 
 some_is : (o : Option Reply) → is_some o ≡ true → (reply : Reply) × (o ≡ Some reply)
 some_is None is = absurd (false≢true is)
 some_is (Some reply) is = (reply, refl)
+
+none_of : {A : Type 0} (o : Option A) → ((a : A) → o ≢ Some a) → o ≡ None
+none_of None none = refl
+none_of (Some a) none = absurd (none a refl)
 
 pub walk-requires-clause-counted : goal.walk-requires-clause-counted
 walk-requires-clause-counted g c =
@@ -33,21 +34,19 @@ returns-then-is_some-clause-stands g c =
 pub returns-then-is_some-clause-steps : goal.returns-then-is_some-clause-steps
 returns-then-is_some-clause-steps g c = walked_unfailed (part c.args.pass.now) (part c.loop.pass) (part c.walk.new.pass) c.loop.invariant.steps c.walk.ensures.steps
 
-pub returns-then-is_uncovered-clause-counts : goal.returns-then-is_uncovered-clause-counts
-returns-then-is_uncovered-clause-counts g c = λ asked format before counts.
+pub returns-in-Some-stop_before-clause-counts : goal.returns-in-Some-stop_before-clause-counts
+returns-in-Some-stop_before-clause-counts g c = λ asked format before counts.
     same_counts g.N.Named.board c.loop.call (part c.loop.pass) c.call.inside.caller c.walk.new.call (part c.walk.new.pass) c.call.view_is c.walk.ensures.counts asked format before (c.loop.invariant.counts asked format before counts)
 
-pub returns-then-is_uncovered-clause-stands : goal.returns-then-is_uncovered-clause-stands
-returns-then-is_uncovered-clause-stands g c =
-    let sync = c.is_uncovered.ensures.uncovered c.if-is_uncovered.true in
-    (sync.0, sym c.next-event.ensures.event ∙ sync.1)
+pub returns-in-Some-stop_before-clause-stands : goal.returns-in-Some-stop_before-clause-stands
+returns-in-Some-stop_before-clause-stands g c = stands_at c.deref.result.now.yard _ c.call.inside.caller c.next-event.result c.next-event.ensures.event (rw c.in-Some-stop_before.is at c.stop_before.ensures.stops)
 
-pub returns-then-is_uncovered-clause-uncovered : goal.returns-then-is_uncovered-clause-uncovered
-returns-then-is_uncovered-clause-uncovered g c = λ _.
-    stands_uncovered _ _ _ c.call.inside.caller c.next-event.result c.keep.ensures c.deref.ensures c.next-event.ensures.event (c.is_uncovered.ensures.uncovered c.if-is_uncovered.true)
+pub returns-in-Some-stop_before-clause-before : goal.returns-in-Some-stop_before-clause-before
+returns-in-Some-stop_before-clause-before g c = λ _.
+    stands_before _ _ _ _ c.call.inside.caller c.next-event.result c.keep.ensures c.deref.ensures c.next-event.ensures.event (rw c.in-Some-stop_before.is at c.stop_before.ensures.stops)
 
-pub returns-then-is_uncovered-clause-steps : goal.returns-then-is_uncovered-clause-steps
-returns-then-is_uncovered-clause-steps g c = walked_unfailed (part c.args.pass.now) (part c.loop.pass) (part c.walk.new.pass) c.loop.invariant.steps c.walk.ensures.steps
+pub returns-in-Some-stop_before-clause-steps : goal.returns-in-Some-stop_before-clause-steps
+returns-in-Some-stop_before-clause-steps g c = walked_unfailed (part c.args.pass.now) (part c.loop.pass) (part c.walk.new.pass) c.loop.invariant.steps c.walk.ensures.steps
 
 pub turn_on-requires-clause-counted : goal.turn_on-requires-clause-counted
 turn_on-requires-clause-counted g c =
@@ -64,26 +63,6 @@ turn_on-requires-clause-event g c = c.next-event.ensures.event
 pub turn_on-requires-clause-load : goal.turn_on-requires-clause-load
 turn_on-requires-clause-load g c = ap hop_of c.next-event.ensures.event ∙ ap (λ (k : Calling). hop_of (event_at (shape_with k) k.command k.progress)) c.call.view_is ∙ c.walk.ensures.loaded
 
-pub returns-then-is_taken-clause-counts : goal.returns-then-is_taken-clause-counts
-returns-then-is_taken-clause-counts g c = λ asked format before counts.
-    c.turn_on.ensures.goes asked format before
-    (same_counts g.N.Named.board c.loop.call (part c.loop.pass) c.call.inside.caller c.walk.new.call (part c.walk.new.pass) c.call.view_is c.walk.ensures.counts asked format before (c.loop.invariant.counts asked format before counts))
-
-pub returns-then-is_taken-clause-steps : goal.returns-then-is_taken-clause-steps
-returns-then-is_taken-clause-steps g c =
-    let one = walked_unfailed (part c.args.pass.now) (part c.loop.pass) (part c.walk.new.pass) c.loop.invariant.steps c.walk.ensures.steps in
-    held_unfailed c.next-event.result (part c.args.pass.now) (part c.walk.new.pass) (part c.turn_on.new.pass) one
-    (turned_one _ _ _ _ _ _ _ _ c.next-event.ensures.event c.turn_on.ensures.advanced)
-    (λ slot is. turned_unfailed _ _ _ _ _ _ _ c.turn_on.ensures.advanced (c.turn_on.ensures.covered slot is
-    (subst (λ l. is_sure l.yard slot ≡ true) (c.deref.ensures ∙ sym c.deref_mut.ensures.value) (c.is_uncovered.ensures.covered c.if-is_uncovered.false slot is))).0)
-
-pub returns-then-is_taken-clause-claimed : goal.returns-then-is_taken-clause-claimed
-returns-then-is_taken-clause-claimed g c = λ busy.
-    played_then Claim (part c.args.pass.now) (part c.walk.new.pass) (part c.turn_on.new.pass) (c.loop.invariant.steps.0, c.walk.ensures.steps ∙ c.loop.invariant.steps.1)
-    (has_played Claim (part c.walk.new.pass) (part c.turn_on.new.pass)
-    (subst (λ (kind : Kind). PlaysOne kind (part c.walk.new.pass) (part c.turn_on.new.pass)) (c.is_taken.ensures.claimed c.if-is_taken.true)
-    (turned_one _ _ _ _ _ _ _ _ c.next-event.ensures.event c.turn_on.ensures.advanced)))
-
 pub loop-preserved : goal.loop-preserved
 loop-preserved g c =
     let one = walked_unfailed (part c.args.pass.now) (part c.loop.pass) (part c.walk.new.pass) c.loop.invariant.steps c.walk.ensures.steps in
@@ -92,7 +71,7 @@ loop-preserved g c =
       steps = held_unfailed c.next-event.result (part c.args.pass.now) (part c.walk.new.pass) (part c.turn_on.new.pass) one
           (turned_one _ _ _ _ _ _ _ _ c.next-event.ensures.event c.turn_on.ensures.advanced)
           (λ slot is. turned_unfailed _ _ _ _ _ _ _ c.turn_on.ensures.advanced (c.turn_on.ensures.covered slot is
-          (subst (λ l. is_sure l.yard slot ≡ true) (c.deref.ensures ∙ sym c.deref_mut.ensures.value) (c.is_uncovered.ensures.covered c.if-is_uncovered.false slot is))).0);
+          (subst (λ l. is_sure l.yard slot ≡ true) (c.deref.ensures ∙ sym c.deref_mut.ensures.value) (c.stop_before.ensures.goes (none_of c.stop_before.result c.in_default.not-Some) slot is))).0);
       counts = λ asked format before counts. c.turn_on.ensures.goes asked format before
           (same_counts g.N.Named.board c.loop.call (part c.loop.pass) c.call.inside.caller c.walk.new.call (part c.walk.new.pass) c.call.view_is c.walk.ensures.counts asked format before (c.loop.invariant.counts asked format before counts));
     }
