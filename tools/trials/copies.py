@@ -4,21 +4,24 @@ from __future__ import annotations
 
 import os
 import random
-import signal
 import socket
 import subprocess
 import threading
 import time
+from collections import Counter
 from contextlib import contextmanager, suppress
-from typing import Iterator, List, Optional, Set
+from typing import Counter as Count
+from typing import Iterator, List, Tuple
 
 from trials.at_path import socket_of
+from trials.changing import changing
 from trials.frames import by_frames
-from trials.guests import connect
-from trials.plain_frames import array, bulk
+from trials.hostile import tell
+from trials.makings import NO_FILE, NOT_MADE
+from trials.plain_frames import bulk
 from trials.program import PATIENCE, Ended, Key, Program, Service
 from trials.report import expect
-from trials.scans import added, number
+from trials.scans import added
 
 # Keys that are members all the while, keys that come and go, and by how many clients.
 STAYING, CHANGING, CHANGERS = 4_000, 50, 64
@@ -28,8 +31,8 @@ COPIES = 6
 # How long a copy may take beside them.
 MOST_SECONDS = 300
 
-# Slots of a service that is killed while it is copied, and how often.
-MANY, KILLS = 20_000, 12
+# Members of a set of which a copy or the service is killed, its slots, and by how many clients it is changed meanwhile.
+MANY, ROOM_FOR, FEW = 20_000, 21_000, 4
 
 ROOMS = {0: [0, 17, 4, 10**18 - 1], 3: [17, 8], 15: list(range(1_500))}
 KEYS = {Key(room, number) for room, numbers in ROOMS.items() for number in numbers}
@@ -85,43 +88,26 @@ def try_oldest(program: Program, folder: str) -> None:
 
 
 def try_meanwhile(program: Program, folder: str) -> None:
-    """While 64 clients add and remove keys, each copy holds those that stay, and none that was never there."""
-    file, ends, failures = os.path.join(folder, "f"), threading.Event(), []
-    stay = {Key(room, number) for room in (0, 7) for number in range(STAYING // 2)}
-    may = stay | {Key(at % 16, STAYING + at * CHANGING + number) for at in range(CHANGERS) for number in range(CHANGING)}
+    """While 64 clients add and remove keys, each copy holds those that are members all the while, and none that at no moment is one."""
+    file = os.path.join(folder, "f")
+    stay = [Key(room, number) for room in (0, 7) for number in range(STAYING // 2)]
     program.make(file, 3 * STAYING, 4)
-
-    def change(at: int) -> None:
-        draw = random.Random(at)
-        try:
-            with connect(service.port) as client, client.makefile("rb") as stream:
-                while not ends.is_set():
-                    some = [b"%d" % (STAYING + at * CHANGING + draw.randrange(CHANGING)) for _ in range(8)]
-                    client.sendall(b"".join(array(draw.choice((b"SADD", b"SREM")), b"%d" % (at % 16), key) for key in some))
-                    for _ in some:
-                        number(stream, b":")
-        except BaseException as error:
-            failures.append(error)
-
     with Service(program, file, 64, "--loops", "2", *by_frames(100)) as service:
         for room in (0, 7):
             added(service.port, room, list(range(STAYING // 2)))
-        threads = [threading.Thread(target=change, args=(at,)) for at in range(CHANGERS)]
-        for thread in threads:
-            thread.start()
-        try:
+        with changing(service.port, [own_keys(at, STAYING) for at in range(CHANGERS)], stay, 0) as changed:
             for at in range(COPIES):
                 new = os.path.join(folder, f"g{at}")
-                ended = copy(program, service.port, new, 3 * STAYING, "--format", str(2 + at % 3))
-                held: Set[Key] = set(program.members(new))
+                with changed.watched() as known:
+                    ended = copy(program, service.port, new, 3 * STAYING, "--format", str(2 + at % 3))
+                held = program.members(new)
                 expect(ended, copied(len(held)), "what the copy says")
-                expect(sorted(stay - held)[:5], [], "keys that stay, and aren't in the copy")
-                expect(sorted(held - may)[:5], [], "keys in it that never were there")
-        finally:
-            ends.set()
-            for thread in threads:
-                thread.join()
-    expect(failures, [], "what went wrong with those that change keys")
+                expect(known.flaws(held), [], "what is wrong with the copy")
+
+
+def own_keys(client: int, first: int) -> List[Key]:
+    """The keys that a client changes, where the first one changes those from this number on."""
+    return [Key(client % 16, first + client * CHANGING + number) for number in range(CHANGING)]
 
 
 @contextmanager
@@ -192,33 +178,47 @@ def try_refused(program: Program, folder: str) -> None:
     expect(sorted(os.listdir(folder)), ["f"], "what is left")
 
 
-def try_killed(program: Program, folder: str) -> None:
-    """A service that is killed while it is copied, and a copy that is killed: the new file is whole, or isn't made."""
-    file, new = os.path.join(folder, "f"), os.path.join(folder, "new")
+def try_killed(program: Program, folder: str, kills: int, seed: int) -> None:
+    """A copy that is killed at any moment, or whose service is, while others change the set: the new file is whole, or isn't made."""
+    file, draw = os.path.join(folder, "f"), random.Random(seed)
+    came: Count[str] = Counter()
     keys = "".join(f"{number % 16}:{number}\n" for number in range(MANY))
-    expect(program.run("make", file, str(MANY), "--keys", "--format", "3", lines=keys), Ended(f"made {MANY}\n", 0), "a list")
-    all_keys = sorted(Key(number % 16, number) for number in range(MANY))
-    began = time.monotonic()
-    with Service(program, file, 4, *by_frames(4)) as service:
-        expect(copy(program, service.port, new, MANY, "--format", "3"), copied(MANY), "a copy")
-    long = time.monotonic() - began
+    expect(program.run("make", file, str(ROOM_FOR), "--keys", "--format", "3", lines=keys), Ended(f"made {ROOM_FOR}\n", 0), "a list")
+    left, long = copy_under_kill(program, file, "nothing", 0, seed)
+    expect(left, "whole", "what a copy leaves that isn't killed")
+    for at in range(kills):
+        killed = ("copies", "services")[at % 2]
+        left, _ = copy_under_kill(program, file, killed, long * draw.random(), seed + at)
+        came[f"{left} after kills of {killed}"] += 1
+    tell(f"{kills} copies under kill", came)
+
+
+def copy_under_kill(program: Program, file: str, killed: str, seconds: float, seed: int) -> Tuple[str, float]:
+    """Copies a set that others change, kills the copy or the service after so many seconds, and gives what is left of the copy, and its seconds. What
+    was answered is in the set."""
+    new, members = f"{file}.new", program.members(file)
+    with Service(program, file, 8, *by_frames(8)) as service:
+        with changing(service.port, [own_keys(at, MANY) for at in range(FEW)], members, seed) as changed, changed.watched() as known:
+            words, began = [program.path, "copy", str(service.port), new, str(ROOM_FOR), "--format", "3"], time.monotonic()
+            with subprocess.Popen(words, stdout=subprocess.PIPE, stderr=subprocess.DEVNULL, text=True) as copying:
+                time.sleep(seconds)
+                changed.may_fail = killed == "services"
+                for process in {"copies": [copying], "services": [service.process]}.get(killed, []):
+                    process.kill()
+                text = copying.communicate(timeout=PATIENCE)[0]
+            long = time.monotonic() - began
+    expect(changed.now.flaws(program.members(file)), [], "what is wrong with the set")
+    left = {NOT_MADE: "begun", NO_FILE: "absent"}.get(program.run("check", new, "--keys"), "whole")
+    may_say = [""] if killed == "copies" else [NO_SERVICE.text, NO_READ.text] if left == "absent" else []
+    if left == "whole":
+        found = program.members(new)
+        expect(known.flaws(found), [], "what is wrong with the copy")
+        may_say = [copied(len(found)).text, *may_say]
+    else:
+        program.make(new, ROOM_FOR, 3)
+    expect(text in may_say, True, f"that a copy that is {left} says so: {text!r}")
     os.remove(new)
-    for at in range(KILLS):
-        with Service(program, file, 4, *by_frames(4)) as service:
-            words = [program.path, "copy", str(service.port), new, str(MANY), "--format", "3"]
-            with subprocess.Popen(words, stdout=subprocess.PIPE, stderr=subprocess.DEVNULL) as copying:
-                time.sleep(long * (at // 2) / (KILLS // 2))
-                killed = copying if at % 2 else service.process
-                killed.send_signal(signal.SIGKILL)
-                text: Optional[bytes] = copying.communicate(timeout=PATIENCE)[0]
-        found: List[Key] = []
-        if program.run("info", new).text.startswith("format"):
-            found = program.members(new)
-            expect(found == all_keys, True, "that what is made is whole")
-        expect(text in ((b"copied %d\n" % MANY,) if found else (b"nofile\n", b"noread\n")) or at % 2 == 1, True, f"what the copy says: {text!r}")
-        if os.path.exists(new):
-            expect(at % 2 == 1 or bool(found), True, "that a copy of a killed service leaves no file but a whole one")
-            os.remove(new)
+    return left, long
 
 
 TRIALS = (
@@ -228,5 +228,4 @@ TRIALS = (
     ("copies that are cut off", try_cut_off),
     ("copies of what isn't such a service", try_refused),
     ("words for a copy that isn't made", try_words),
-    ("copies under kill", try_killed),
 )

@@ -6,22 +6,23 @@ import os
 import random
 import socket
 import threading
-from collections import Counter
 from typing import BinaryIO, Iterator, List, NamedTuple, Sequence, Set
 
 from trials.beside_redis import framed, needs_package, python_with
+from trials.changing import Changes, changing, number
 from trials.frames import AT_ONCE, by_frames, replies
 from trials.guests import connect
 from trials.plain_frames import array, bulk, integer
-from trials.program import Program, Service
+from trials.program import PATIENCE, Key, Program, Service
 from trials.real_clients import output
 from trials.report import expect
 
 # Keys that are members all the while, keys that come and go, and by how many clients.
 STAYING, CHANGING, CHANGERS = 3_000, 300, 4
 
-# How many scans are made meanwhile.
-SCANS = 40
+# How many changes are made beside scans, and how many scans at least; passes and loops of the services, and what the scans count by turns.
+CHANGES, SCANS = 30_000, 40
+SERVED, COUNTS, ROOM = ((1, "1"), (2, "1"), (16, "2")), (0, 100, 1_024), 2
 
 # Slots over which a page goes at most, and keys that it has at most.
 MOST_SLOTS, MOST_KEYS = 4_096, 1_024
@@ -35,13 +36,6 @@ NO_TEXTS = b"-ERR texts are not kept, and none can be listed\r\n"
 class Page(NamedTuple):
     cursor: int
     keys: List[int]
-
-
-def number(stream: BinaryIO, kind: bytes) -> int:
-    """The number on a line of this kind."""
-    line = stream.readline()
-    expect((line[:1], line[-2:]), (kind, b"\r\n"), f"a line of a page: {line!r}")
-    return int(line[1:-2])
 
 
 def word(stream: BinaryIO) -> int:
@@ -119,42 +113,34 @@ def try_pages(program: Program, folder: str) -> None:
             expect(sorted(first.keys + page(stream).keys), sorted(rooms[0]), "a scan that goes on after a restart")
 
 
-def try_meanwhile(program: Program, folder: str) -> None:
-    """While other clients add and remove keys, each scan tells those that stay, and none that was never there."""
-    stay, ends, failures = list(range(STAYING)), threading.Event(), []
-    for passes, loops in ((1, "1"), (2, "1"), (16, "2")):
+def try_meanwhile(program: Program, folder: str, changes: int, seed: int) -> None:
+    """While other clients make so many changes, each scan tells once each key that was a member all the while, and none that at no moment was one."""
+    keys = [Key(ROOM, number) for number in range(STAYING + CHANGING * CHANGERS)]
+    clients = [keys[STAYING + CHANGING * at :][:CHANGING] for at in range(CHANGERS)]
+    for form, (passes, loops) in enumerate(SERVED, 2):
         file = os.path.join(folder, f"f{passes}")
-        program.make(file, 2 * STAYING)
+        program.make(file, 2 * STAYING, form)
         with Service(program, file, passes, "--loops", loops, *by_frames(16)) as service:
-            added(service.port, 2, stay)
-            ends.clear()
+            added(service.port, ROOM, random.Random(seed).sample(range(len(keys)), len(keys)))
+            with changing(service.port, clients, keys, seed + form) as changed:
+                scan_beside(changed, len(keys), changes // len(SERVED))
 
-            def change(first: int) -> None:
-                draw = random.Random(first)
-                try:
-                    with connect(service.port) as client, client.makefile("rb") as stream:
-                        while not ends.is_set():
-                            some = [b"%d" % (first + draw.randrange(CHANGING)) for _ in range(8)]
-                            client.sendall(b"".join(array(draw.choice((b"SADD", b"SREM")), b"2", key) for key in some))
-                            for _ in some:
-                                number(stream, b":")
-                except BaseException as error:
-                    failures.append(error)
 
-            threads = [threading.Thread(target=change, args=(STAYING + CHANGING * at,)) for at in range(CHANGERS)]
-            for thread in threads:
-                thread.start()
-            try:
-                with connect(service.port) as client:
-                    for at in range(SCANS):
-                        told = Counter(keys_of(list(pages(client, 2, (0, 100, 1_024)[at % 3]))))
-                        expect([key for key in stay if told[key] != 1], [], "keys that stay, and weren't told once")
-                        expect([key for key in told if key >= STAYING + CHANGING * CHANGERS], [], "keys that never were there")
-            finally:
-                ends.set()
-                for thread in threads:
-                    thread.join()
-            expect(failures, [], "what went wrong with those that change keys")
+def scan_beside(changed: Changes, most: int, changes: int) -> None:
+    """Scans again and again until so many changes were made, and judges each scan. There are so many keys at most."""
+    scans = throughout = never = 0
+    with connect(changed.port) as client:
+        client.settimeout(PATIENCE)
+        while changed.made < changes or scans < SCANS:
+            with changed.watched() as known:
+                told = [Key(ROOM, key) for key in keys_of(list(pages(client, ROOM, COUNTS[scans % len(COUNTS)])))]
+            expect(known.flaws(told), [], "what is wrong with a scan")
+            scans, throughout, never = scans + 1, throughout + len(known.members) - STAYING, never + most - len(known.may)
+            if changed.failures:
+                break
+    known.expect_noticed(told)
+    kinds = f"{throughout} times a changed key was a member all the while, {never} times never"
+    print(f"         {changed.made} changes beside {scans} scans judged: {kinds}", flush=True)
 
 
 def try_in_order(program: Program, folder: str) -> None:
@@ -204,7 +190,6 @@ def try_clients(program: Program, folder: str) -> None:
 
 TRIALS = (
     ("pages of a room", try_pages),
-    ("scans while others change the set", try_meanwhile),
     ("pages among other frames", try_in_order),
     ("redis-cli and redis-py scan", try_clients),
 )
