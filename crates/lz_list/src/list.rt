@@ -1,6 +1,6 @@
 //! The list: its words, its node locks, and what changes them.
 ghost use Rattle.std.specs.Prelude.{◌≡◌, ◌↔◌, ◌<◌, ◌≤◌, ℕ, false, if◌then◌else◌, IfNone, IfOk, IfSome, IsTrue, Option, Some};
-ghost use Rattle.lz_slot.specs.Limits.{most_slots};
+ghost use Rattle.lz_slot.specs.Limits.{most_passes, most_slots};
 
 use crate::link::{next_to, slot_behind};
 use crate::locks::Locks;
@@ -72,6 +72,7 @@ impl List {
     /// Takes the locks of a place and of the node after it, if there is one, for an actor: both or neither. Actors count
     /// from 1.
     pub fn claim(&mut self, actor: usize, pred: Place, curr: Option<Slot>) -> bool
+        requires actor { actor ≤ most_passes }
         requires pred { IsPlace self.old.words pred }
         requires curr { IsCurr self.old.words curr }
         ensures free { result ≡ is_pair_free self.old.locks pred curr }
@@ -82,7 +83,7 @@ impl List {
         if !self.locks.is_free(place, node) {
             return false;
         }
-        self.locks.give_pair(pred, curr, actor);
+        self.locks.give_pair(pred, curr, actor as u16);
         true
     }
 

@@ -6,11 +6,11 @@ use lz_slot::Slot;
 use std::alloc::{AllocError, Global};
 use std::marker::Model;
 
-// The actor that has each lock, 0 where it is free.
+// The actor that has each lock, 0 where it is free. It has two bytes, since each slot has a lock.
 #[derive(Drop)]
 pub(crate) struct Locks {
-    heads: Vec<usize>,
-    nodes: Vec<usize>,
+    heads: Vec<u16>,
+    nodes: Vec<u16>,
 }
 
 impl Model for Locks {
@@ -34,7 +34,7 @@ impl Locks {
         })
     }
 
-    fn owner(&self, place: Place) -> usize
+    fn owner(&self, place: Place) -> u16
         ensures { result ≡ owner self.now place }
     {
         let owner = match place {
@@ -44,7 +44,7 @@ impl Locks {
         owner.copied().unwrap_or(0)
     }
 
-    fn give(&mut self, place: Place, actor: usize)
+    fn give(&mut self, place: Place, actor: u16)
         requires { IsLock self.old place }
         ensures { self.new ≡ with_owner self.old place actor }
     {
@@ -65,7 +65,7 @@ impl Locks {
     }
 
     // Gives the locks of a pair to an actor, or to nobody.
-    pub(crate) fn give_pair(&mut self, pred: Place, curr: Option<Slot>, actor: usize)
+    pub(crate) fn give_pair(&mut self, pred: Place, curr: Option<Slot>, actor: u16)
         requires pred { IsLock self.old pred }
         requires curr { IsCurrLock self.old curr }
         ensures { self.new ≡ pair_owned self.old pred curr actor }

@@ -1,5 +1,6 @@
 -- The yard as contracts see it, and what an event that is played does to its parts.
 use Rattle.std.specs.Prelude.{◌≡◌, ◌≢◌, ℕ, ◌<◌, ◌≤◌, true, false, not, ◌&&◌, List, length, slice_get, Some, IfSome, Result, Ok, Err}
+use Rattle.lz_slot.specs.Limits.{most_passes}
 use Rattle.lz_disk.specs.Devices.{Device}
 use Rattle.lz_vault.specs.Vaults.{NoCall, Succeeds, Fails, last_sync}
 use Rattle.lz_vault.specs.declared.vault.VaultFault.{VaultFault}
@@ -28,7 +29,8 @@ pub record HasInRange (slots : ℕ) (actor : Actor) : Type 0 where
   pub slot : IfSome actor.slot (λ s. s < slots)
   pub curr : IfSome actor.curr (λ s. s < slots)
 
--- The parts fit: each table is as long as the shape says, actors have slots in hand, and no sync was made beyond the last.
+-- The parts fit: each table is as long as the shape says, the passes are no more than the most, actors have slots in hand, and
+-- no sync was made beyond the last.
 pub record PartsFit (y : Yard) (known : ℕ) : Type 0 where
   pub cells : length y.vault.cells ≡ y.shape.slots
   pub heads : length y.words.heads ≡ y.shape.buckets
@@ -37,6 +39,7 @@ pub record PartsFit (y : Yard) (known : ℕ) : Type 0 where
   pub pins : length y.words.pins ≡ y.shape.passes
   pub uses : length y.uses ≡ y.shape.slots
   pub rows : known ≡ y.shape.passes
+  pub passes : y.shape.passes ≤ most_passes
   pub actors : length y.actors ≡ y.shape.passes
   pub syncs : y.vault.syncs ≤ last_sync
   pub hands : (i : ℕ) (actor : Actor) → slice_get y.actors i ≡ Some actor → HasInRange y.shape.slots actor

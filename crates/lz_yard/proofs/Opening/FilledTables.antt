@@ -6,7 +6,7 @@ use Rattle.std.proofs.lemmas.List.{length-map, length-replicate, get_or-replicat
 use Rattle.std.proofs.lemmas.List.FromFn.{length-range_with_len}
 use Rattle.std.proofs.lemmas.List.Sorted.{IsPermutation-reverse, list_any-IsPermutation, All-permutation}
 use Rattle.std.proofs.lemmas.Option.{slice_get_within, get_or_from_slice_get}
-use Rattle.lz_slot.specs.Limits.{most_slots}
+use Rattle.lz_slot.specs.Limits.{most_passes, most_slots}
 use Rattle.lz_vault.specs.Stages.{Cell}
 use Rattle.lz_vault.specs.Vaults.{Vaulted}
 use Rattle.lz_allot.specs.Uses.{Free, Taken}
@@ -113,8 +113,8 @@ module _ (vault : Vaulted) (B S slots : ℕ) (list : Listed) (allot : Allotted) 
   opened = record { shape = record { slots = slots; buckets = B; passes = S }; words = list.words; locks = list.locks; vault = vault; uses = allot.uses; actors = actors }
 
   -- the parts of a yard that was opened fit
-  pub opened_fits : vault.syncs ≡ 0 → PartsFit opened (length allot.rows)
-  opened_fits fresh = record {
+  pub opened_fits : vault.syncs ≡ 0 → S ≤ most_passes → PartsFit opened (length allot.rows)
+  opened_fits fresh few = record {
     cells = sym count;
     heads = ap (λ (w : Words). length w.heads) are.words ∙ length-table B (λ b. word_after B (opening B are.members) (Head b));
     links = ap (λ (w : Words). length w.links) are.words ∙ length-table (length vault.cells) (λ s. word_after B (opening B are.members) (Link s)) ∙ sym count;
@@ -122,6 +122,7 @@ module _ (vault : Vaulted) (B S slots : ℕ) (list : Listed) (allot : Allotted) 
     pins = ap (λ (w : Words). length w.pins) are.words ∙ length-replicate S 0;
     uses = ap length are.uses ∙ length-map (range_with_len 0 (length vault.cells)) (λ s. if has_slot s are.members then Taken else Free) ∙ length-range_with_len 0 (length vault.cells) ∙ sym count;
     rows = are.rows;
+    passes = few;
     actors = ap length are.idle ∙ length-replicate S idle_actor;
     syncs = omega (arith, fresh);
     hands = λ i actor there. idle_hands slots S i actor (subst (λ (l : List Actor). slice_get l i ≡ Some actor) are.idle there);

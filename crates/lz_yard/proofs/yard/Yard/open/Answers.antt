@@ -5,7 +5,7 @@ use Rattle.lz_yard.proofs.Opening.FirstYard.{first_yard}
 use Rattle.lz_yard.proofs.yard.Yard.open.Goals as goal
 
 pub invariant_of-result : goal.invariant_of-result
-invariant_of-result g c = opened_fits _ _ _ _ _ _ _ c.in-Ok.ensures c.slots.ensures.count c.in_ok-vault.ensures.ok.fresh.0
+invariant_of-result g c = opened_fits _ _ _ _ _ _ _ c.in-Ok.ensures c.slots.ensures.count c.in_ok-vault.ensures.ok.fresh.0 c.requires.passes.1
 
 pub returns-in-Ok-clause-ok : goal.returns-in-Ok-clause-ok
 returns-in-Ok-clause-ok g c =
