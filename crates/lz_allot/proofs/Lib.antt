@@ -1,5 +1,6 @@
 pub mod Trees
 pub mod SetSlots
+pub mod FilledTrees
 pub mod LowestSlot
 pub mod FilledPlaces
 pub mod ToldUses

@@ -129,7 +129,7 @@ module _ (old words : List ℕ) (first slots s : ℕ) (b : Bool) (node now : ℕ
   }
 
 -- the two tests of a word for zero
-more_than_zero : (w : ℕ) → nat_lt 0 w ≡ not (eqb w 0)
+pub more_than_zero : (w : ℕ) → nat_lt 0 w ≡ not (eqb w 0)
 more_than_zero w = grind (arith, nat_tests)
 
 same_tests : (x y : Bool) → beq x y ≡ true → x ≡ y

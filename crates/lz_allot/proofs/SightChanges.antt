@@ -4,7 +4,6 @@ use Rattle.std.proofs.lemmas.List.{ext_get_or, get_or-map, get_or-replicate, len
 use Rattle.std.proofs.lemmas.Bool.{lt-ltb, le-ltb}
 use Rattle.lz_slot.specs.Counted.{of_pass, set_of_pass}
 use Rattle.lz_allot.specs.declared.kind.Kind.{Kind}
-use Rattle.lz_allot.specs.declared.kind.Kind.TheVariants as kind
 use Rattle.lz_allot.specs.declared.row.Row.{Row}
 use Rattle.lz_allot.specs.declared.sight.Sight.TheVariants.{Unseen, Inside, Left}
 use Rattle.lz_allot.specs.Rows.{first_row, row_seen, rows_seen}

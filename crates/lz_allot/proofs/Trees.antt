@@ -2,7 +2,7 @@
 use Rattle.std.proofs.Common.{◌≡◌, ◌≢◌, ⊎_elim, ℕ, suc, ◌+◌, ◌*◌, ◌/◌, ◌%◌, ◌-◌, ◌<◌, ◌≤◌, ◌==◌, Bool, true, false, if◌then◌else◌, List, length, get_or, set, replicate, sym, ◌∙◌, ap, arith, get_or-set_other, get_or-set_same}
 use Rattle.std.specs.Prelude.{length}
 use Rattle.std.specs.Int.{bit_at}
-use Rattle.std.proofs.lemmas.List.{ext_get_or, get_or-replicate, length-replicate}
+use Rattle.std.proofs.lemmas.List.{get_or-replicate, length-replicate}
 use Rattle.std.proofs.Math.ListN.{get_or-eq_default}
 use Rattle.std.proofs.lemmas.List.FromFn.{get_or-map-range_with_len, length-map-range_with_len}
 use Rattle.std.proofs.lemmas.Nat.Bits.{bit_at-zero}
@@ -15,7 +15,7 @@ pub nothing_told : (words : List ℕ) (k : ℕ) → word_at words ((k - 1) / 64)
 nothing_told words k none =
     ap (λ (w : ℕ). bit_at w ((k - 1) % 64) == 1) none ∙ ap (λ (bit : ℕ). bit == 1) (bit_at-zero ((k - 1) % 64))
 
-told_by : (bit : ℕ) (b : Bool) → bit ≡ (if b then 1 else 0) → (bit == 1) ≡ b
+pub told_by : (bit : ℕ) (b : Bool) → bit ≡ (if b then 1 else 0) → (bit == 1) ≡ b
 told_by bit true e = ap (λ (x : ℕ). x == 1) e
 told_by bit false e = ap (λ (x : ℕ). x == 1) e
 
@@ -55,15 +55,6 @@ next_start first slots is most more = record {
   most = omega arith;
 }
 
-empty_word : (n k : ℕ) → word_at (replicate n 0) k ≡ 0
+pub empty_word : (n k : ℕ) → word_at (replicate n 0) k ≡ 0
 empty_word n k =
     ⊎_elim (λ low. get_or-replicate n k 0 0 low) (λ high. get_or-eq_default (replicate n 0) 0 {n = k} (omega (arith, length-replicate {A = ℕ} n 0))) (cases_lt k n)
-
-pub empty_shown : (n first slots : ℕ) → shown (replicate n 0) first slots ≡ replicate slots false
-empty_shown n first slots =
-    let size = shown_length (replicate n 0) first slots in
-    ext_get_or false (shown (replicate n 0) first slots) (replicate slots false) (omega (arith, size, length-replicate slots false))
-    (λ k lt.
-    shown_at (replicate n 0) first slots k (omega (arith, size))
-    ∙ nothing_told (replicate n 0) (first + k) (empty_word n ((first + k - 1) / 64))
-    ∙ sym (get_or-replicate slots k false false (omega (arith, size))))

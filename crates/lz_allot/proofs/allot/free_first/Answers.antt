@@ -1,5 +1,4 @@
 use Rattle.std.proofs.Common.{arith}
-use Rattle.lz_allot.specs.declared.kind.Kind.TheVariants as kind
 use Rattle.std.proofs.lemmas.List.{get_or-drop}
 use Rattle.lz_allot.proofs.FilledPlaces.{length-set_each}
 use Rattle.lz_allot.proofs.allot.free_first.Goals as goal

@@ -1,12 +1,17 @@
-use Rattle.std.proofs.Common.{false, sym, ◌∙◌, arith}
-use Rattle.std.proofs.lemmas.List.{ext_get_or, get_or-map, length-map}
-use Rattle.lz_allot.specs.declared.kind.Kind.TheVariants as kind
-use Rattle.lz_allot.specs.Allots.{is_free_kind}
+use Rattle.std.proofs.Common.{◌+◌, ◌∙◌, arith}
+use Rattle.lz_allot.proofs.FilledTrees.{filled_shown, filled_tree}
 use Rattle.lz_allot.proofs.free.free_of.Goals as goal
+
+pub invariant_of-result : goal.invariant_of-result
+invariant_of-result c =
+    filled_tree _ _ _ c.first_leaf-first.ensures.start c.requires c.first_leaf-first.ensures.room
+    (omega (arith, c.in_ok-leaf_words.ensures.room, c.told_above-words.ensures.len))
+    c.told_above-words.ensures.told
+    (λ s. c.told_above-words.ensures.leaves (c.first_leaf-first.result + s) (omega arith) ∙ c.in_ok-leaf_words.ensures.slots s)
 
 pub returns : goal.returns
 returns c =
-    let kinds = c.args.kinds.now in
-    let size = c.loop-index.invariant.size in
-    ext_get_or false _ _ (size ∙ sym (length-map kinds is_free_kind))
-    (λ k lt. c.loop-index.invariant.told k (omega arith) ∙ sym (get_or-map is_free_kind kinds k kind.Taken false (omega arith)))
+    filled_shown _ _ _ c.first_leaf-first.ensures.start c.requires c.first_leaf-first.ensures.room
+    (omega (arith, c.in_ok-leaf_words.ensures.room, c.told_above-words.ensures.len))
+    c.told_above-words.ensures.told
+    (λ s. c.told_above-words.ensures.leaves (c.first_leaf-first.result + s) (omega arith) ∙ c.in_ok-leaf_words.ensures.slots s)

@@ -1,6 +1,5 @@
 use Rattle.std.proofs.Common.{arith}
 use Rattle.std.proofs.lemmas.List.{length-replicate, take_all, get_or_read}
-use Rattle.lz_allot.specs.declared.kind.Kind.TheVariants as kind
 use Rattle.lz_allot.proofs.FilledPlaces.{length-set_each, set_each_more}
 use Rattle.lz_allot.proofs.kind.first_kinds.Goals as goal
 

@@ -2,7 +2,6 @@ use Rattle.std.proofs.Common.{◌≡◌, ap, map, replicate, ◌∙◌, arith, r
 use Rattle.std.specs.List.{count_by}
 use Rattle.std.specs.VecDeque.{deque_capacity}
 use Rattle.std.proofs.lemmas.List.Sums.{count_by-le-length}
-use Rattle.lz_allot.specs.declared.kind.Kind.TheVariants as kind
 use Rattle.lz_allot.specs.Rows.{first_row}
 use Rattle.lz_allot.specs.Allots.{is_free_kind}
 use Rattle.lz_allot.proofs.CallEffects.{first_length, told_first, allot_first}
