@@ -7,7 +7,6 @@ use Rattle.std.proofs.lemmas.Bool.{cases_lt}
 use Rattle.std.proofs.lemmas.Bool.Decides.{nat_tests}
 use Rattle.std.proofs.lemmas.Map.Keys.{IsDistinct-push, apart_from_distinct}
 use Rattle.lz_slot.specs.Rooms.{largest_of}
-use Rattle.lz_slot.specs.Sets.{members}
 use Rattle.lz_slot.specs.Texts.{key_read}
 use Rattle.lz_slot.specs.declared.format.Format.{Format}
 use Rattle.lz_slot.specs.declared.spelling.KeyFault.{KeyFault}

@@ -10,7 +10,6 @@ use Rattle.lz_proto.specs.declared.fault.SessionFault.{SessionFault}
 use Rattle.lz_proto.specs.declared.fault.SessionFault.TheVariants.{Read, Write, Memory}
 use Rattle.lazyset_offline.specs.Tellings.{Tells, status_sent}
 use Rattle.lz_vault.specs.declared.opening.OpenFault.{OpenFault}
-use Rattle.lz_vault.specs.declared.opening.OpenFault.TheVariants as opening
 use Rattle.lazyset_offline.specs.Ends.{open_status}
 use Rattle.lazyset_offline.specs.Makings.{refused_text}
 use Rattle.lazyset_offline.specs.declared.status.Status.{Status}

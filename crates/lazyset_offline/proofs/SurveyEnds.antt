@@ -3,7 +3,6 @@ use Rattle.std.proofs.Common.{◌≡◌, ◌⊎◌, ℕ, List, [], Option, Some,
 use Rattle.std.proofs.lemmas.Bool.Decides.{nat_tests}
 use Rattle.lz_judge.specs.Surveys.{HoldsASet, IsSurveyed, OfText}
 use Rattle.lz_judge.specs.declared.finding.Survey.{Survey}
-use Rattle.lz_judge.specs.declared.finding.Survey.TheVariants as survey
 use Rattle.lz_judge.specs.declared.surveying.SurveyFault.{SurveyFault}
 use Rattle.lazyset_offline.specs.Checks.{LacksSurvey, no_survey_text, survey_status}
 use Rattle.lazyset_offline.specs.Tellings.{LacksMemory, Tells}

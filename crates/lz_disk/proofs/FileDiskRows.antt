@@ -1,5 +1,5 @@
 -- Worked rows: a disk over a file, and the writes that wait.
-use Rattle.std.proofs.Common.{◌≡◌, ◌≤◌, inr, ℕ, zero, suc, true, false, List, [], ◌∷◌, length, slice_index, refl, sym, ap, arith}
+use Rattle.std.proofs.Common.{◌≡◌, ◌≤◌, inr, ℕ, zero, suc, false, List, [], ◌∷◌, length, slice_index, refl, sym, ap, arith}
 use Rattle.std.proofs.lemmas.Bool.{false≢true}
 use Rattle.lz_disk.specs.Images.{Medium, AreBytes, IsImage, at_rest}
 use Rattle.lz_disk.specs.Gathers.{Waiting, Joined}

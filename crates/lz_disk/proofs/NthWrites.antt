@@ -1,9 +1,9 @@
 -- How the writes of one place are counted, one change after another, and the picked byte is found.
-use Rattle.std.proofs.Common.{◌≡◌, inl, inr, ℕ, zero, suc, ◌+◌, ◌-◌, ◌≤◌, ◌<◌, nat_le, Bool, true, false, ◌&&◌, List, [], ◌∷◌, ◌++◌, length, get_or, take, drop, set, if◌then◌else◌, sym, refl, ◌∙◌, ap, arith, drop-cons}
+use Rattle.std.proofs.Common.{◌≡◌, inl, inr, ℕ, suc, ◌+◌, ◌-◌, ◌≤◌, ◌<◌, nat_le, Bool, true, false, ◌&&◌, List, [], ◌∷◌, length, get_or, take, if◌then◌else◌, sym, refl, ◌∙◌, ap, arith}
 use Rattle.std.proofs.lemmas.Bool.{cases_Bool}
-use Rattle.std.proofs.lemmas.List.{take_all, drop_all}
+use Rattle.std.proofs.lemmas.List.{take_all}
 use Rattle.lz_disk.specs.Images.{Medium}
-use Rattle.lz_disk.specs.Picks.{covers, nth_written, times_written, with_nth}
+use Rattle.lz_disk.specs.Picks.{covers, nth_written, times_written}
 use Rattle.lz_disk.specs.Records.{after, after_record}
 use Rattle.lz_disk.specs.declared.memory.Record.{Record}
 use Rattle.lz_disk.specs.declared.memory.Record.TheVariants.{Synced}

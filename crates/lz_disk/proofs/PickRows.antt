@@ -1,5 +1,5 @@
 -- Worked rows: what a crash leaves that a mask or the writes' numbers pick.
-use Rattle.std.proofs.Common.{◌≡◌, ℕ, ◌+◌, true, false, List, [], ◌∷◌, ◌++◌, replicate, slice_index, refl, ap, arith}
+use Rattle.std.proofs.Common.{◌≡◌, ℕ, true, List, [], ◌∷◌, ◌++◌, replicate, slice_index, refl, ap, arith}
 use Rattle.lz_disk.specs.Images.{Medium}
 use Rattle.lz_disk.specs.Picks.{left_by}
 use Rattle.lz_disk.specs.declared.memory.Pick.TheVariants.{Old, New, Mask, Nth}

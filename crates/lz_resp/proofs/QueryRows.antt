@@ -8,7 +8,7 @@ use Rattle.lz_resp.specs.declared.figures.Figures.{Figures}
 use Rattle.lz_resp.specs.declared.naming.Selected.TheVariants.{Room}
 use Rattle.lz_resp.specs.declared.item.Item.TheVariants.{Says, Tells}
 use Rattle.lz_resp.specs.declared.query.Query.TheVariants.{Size, Info, Shutdown}
-use Rattle.lz_resp.specs.declared.query.Sections.TheVariants.{All, Server, Clients, Lazyset, Missing}
+use Rattle.lz_resp.specs.declared.query.Sections.TheVariants.{All, Server, Clients, Missing}
 
 asked :
     (item_of (Room 3) (codes "DbSize" ∷ []) ≡ Tells Size) × (item_of (Room 3) (codes "DBSIZE" ∷ codes "3" ∷ []) ≡ Says (codes "-ERR wrong number of arguments for 'dbsize' command\r\n"))

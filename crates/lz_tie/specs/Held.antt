@@ -1,14 +1,12 @@
 -- What a hold of the lock promises the pass.
-use Rattle.std.specs.Prelude.{◌≡◌, ◌≢◌, ℕ, suc, ◌<◌, ◌≤◌, true, List, [], ◌∷◌, None}
+use Rattle.std.specs.Prelude.{◌≡◌, ◌≢◌, ℕ, suc, true, List, [], ◌∷◌, None}
 use Rattle.lz_slot.specs.declared.command.Command.{Command}
 use Rattle.lz_slot.specs.declared.format.Format.{Format}
 use Rattle.lz_slot.specs.declared.history.Mark.TheVariants.{Call}
-use Rattle.lz_slot.specs.Limits.{largest_key}
-use Rattle.lz_slot.specs.Sets.{key_of}
 use Rattle.lz_disk.specs.Devices.{Device}
 use Rattle.lz_vault.specs.Vaults.{NoCall, Succeeds}
 use Rattle.lz_machine.specs.declared.event.Event.{Event}
-use Rattle.lz_machine.specs.declared.event.Event.TheVariants.{Invoke, SeePin, Sync}
+use Rattle.lz_machine.specs.declared.event.Event.TheVariants.{SeePin, Sync}
 use Rattle.lz_machine.specs.declared.event.Outcome.{Outcome}
 use Rattle.lz_machine.specs.declared.event.Outcome.TheVariants.{Fault}
 use Rattle.lz_machine.specs.Yards.{Yard}
@@ -17,7 +15,6 @@ use Rattle.lz_machine.specs.Calls.{event_at}
 use Rattle.lz_machine.specs.Laws.{hop_of}
 use Rattle.lz_machine.specs.Orders.{Calling}
 use Rattle.lz_machine.specs.Runs.{mark_of_turn, reply_at}
-use Rattle.lz_board.specs.declared.view.Sizes.{Sizes}
 use Rattle.lz_board.specs.declared.view.What.TheVariants.{Called, Played}
 use Rattle.lz_board.specs.declared.view.Note.{Note}
 use Rattle.lz_board.specs.declared.view.Part.{Part}
@@ -27,8 +24,7 @@ use Rattle.lz_board.specs.Seats.{BoardId}
 use Rattle.lz_tie.specs.declared.playing.Turn.{Turn}
 use Rattle.lz_tie.specs.OnePass.{OnlyOwn}
 use Rattle.lz_tie.specs.Marks.{Shows, calls_in, last_call_number}
-use Rattle.lz_tie.specs.Holds.{HasCall, HoldNotes, IsIdle, IsTurn, Turned, begins_with}
-use Rattle.lz_tie.specs.Moments.{HoldExplains}
+use Rattle.lz_tie.specs.Holds.{HasCall, HoldNotes, IsTurn, Turned, begins_with}
 
 -- The event is the next one of the pass's call c, and no load.
 pub record IsNextOf (h : Part) (c : Calling) (e : Event) : Type 0 where

@@ -1,5 +1,5 @@
 -- The nodes of a chain, by key and by slot.
-use Rattle.std.proofs.Common.{◌≡◌, ℕ, ◌≤◌, ◌<◌, true, false, ◌||◌, [], ◌∷◌, ◌++◌, refl, arith}
+use Rattle.std.proofs.Common.{◌≡◌, ℕ, ◌≤◌, ◌<◌, true, ◌||◌, [], ◌∷◌, ◌++◌, refl, arith}
 use mathlib.Core.Bool.{false≢true}
 use Rattle.lz_slot.specs.Nodes.{has_node}
 use Rattle.lz_list.specs.Traces.{Chain, has_key, has_slot, bucket_of}

@@ -1,5 +1,5 @@
 -- A call that is under way goes on by a load of its pass.
-use Rattle.std.proofs.Common.{◌≡◌, ℕ, Bool, false, [], ◌++◌, length, refl, sym, ap, ◌∙◌, subst, append_assoc, is_some, Option, Some, None}
+use Rattle.std.proofs.Common.{◌≡◌, ℕ, Bool, false, ◌++◌, length, refl, sym, ap, ◌∙◌, subst, append_assoc, is_some, Option, Some, None}
 use mathlib.Core.Bool.{false≢true}
 use Rattle.std.specs.List.{list_any}
 use Rattle.lz_slot.specs.declared.command.Command.{Command}

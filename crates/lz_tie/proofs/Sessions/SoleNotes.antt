@@ -1,5 +1,5 @@
 -- In a set of one pass the notes are its steps and what the pen found.
-use Rattle.std.proofs.Common.{◌≡◌, ◌⊎◌, inl, inr, ⊎_elim, ℕ, List, [], ◌∷◌, sym, ap, ◌∙◌, subst, arith}
+use Rattle.std.proofs.Common.{◌≡◌, inl, inr, ⊎_elim, ℕ, List, [], ◌∷◌, sym, ap, ◌∙◌, subst, arith}
 use Rattle.lz_disk.specs.Devices.{Device}
 use Rattle.lz_machine.specs.Yards.{Yard}
 use Rattle.lz_board.specs.declared.view.Sizes.{Sizes}

@@ -1,4 +1,4 @@
-use Rattle.std.proofs.Common.{◌≡◌, ◌<◌, ◌≤◌, ℕ, length, sym, ◌∙◌, arith, rules}
+use Rattle.std.proofs.Common.{◌≡◌, ◌<◌, ◌≤◌, length, sym, ◌∙◌, arith}
 use Rattle.std.proofs.lemmas.Grind.{same_number_lists}
 use Rattle.lz_disk.specs.Records.{after}
 use Rattle.lz_disk.proofs.PickImages.{length-with_nth, nth_at}
