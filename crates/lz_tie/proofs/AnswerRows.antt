@@ -6,21 +6,12 @@ use Rattle.lz_slot.specs.declared.format.Format.TheVariants.{Two}
 use Rattle.lz_list.specs.declared.word.Word.TheVariants.{Head, Link, Key, Halt}
 use Rattle.lz_list.specs.declared.publishing.Change.TheVariants.{Added as as_added, Removed as as_removed}
 use Rattle.lz_list.specs.declared.publishing.Publishing.TheVariants.{Linked as linked, Marked as marked, Unlinked as unlinked, Settled as settled, KeyPrepared as key_prepared, LinkPrepared as link_prepared}
-use Rattle.lz_list.specs.Traces.{Trace, Begins, linking_in, opening}
+use Rattle.lz_tie.proofs.Vocabulary.{Trace, Begins, linking_in, opening, Shape, IsLateReply, Note, Load, Part, Sizes, note_by, load_note, splice}
+use Rattle.lz_tie.proofs.Vocabulary.{pin_after, index, word_at, Glanced, GlancedUnsettled, fresh, knowing}
 use Rattle.lz_machine.specs.declared.event.Event.TheVariants.{Pin, Reserve, Answer}
 use Rattle.lz_machine.specs.declared.event.Outcome.TheVariants.{Done}
 use Rattle.lz_machine.specs.declared.event.Reply.TheVariants.{Yes, Worn, Device}
-use Rattle.lz_machine.specs.Yards.{Shape}
-use Rattle.lz_machine.specs.Halts.{IsLateReply}
 use Rattle.lz_board.specs.declared.view.What.TheVariants.{Called, Played, Found}
-use Rattle.lz_board.specs.declared.view.Note.{Note}
-use Rattle.lz_board.specs.declared.view.Load.{Load}
-use Rattle.lz_board.specs.declared.view.Part.{Part}
-use Rattle.lz_board.specs.declared.view.Sizes.{Sizes}
-use Rattle.lz_board.specs.Notes.{note_by, load_note, splice, pin_after}
-use Rattle.lz_board.specs.Addresses.{index, word_at}
-use Rattle.lz_board.specs.Glances.{Glanced, GlancedUnsettled}
-use Rattle.lz_board.specs.Plays.{fresh, knowing}
 use Rattle.lz_tie.specs.Answers.{Added, AreWithin, IsOneCall, Met, Promises, Removed, WasFull}
 
 -- key 9 was found in slot 0

@@ -1,12 +1,10 @@
 -- Worked rows: when a Sync spares the device.
 use Rattle.std.proofs.Common.{false, [], ◌∷◌, refl, arith}
 use Rattle.lz_slot.specs.declared.format.Format.TheVariants.{One}
-use Rattle.lz_disk.specs.Devices.{Device}
-use Rattle.lz_vault.specs.declared.vault.Stage.{Stage}
+use Rattle.lz_tie.proofs.Vocabulary.{Device, Stage, Yard}
 use Rattle.lz_vault.specs.declared.vault.Stage.TheVariants.{KeyLoose, Keyed}
 use Rattle.lz_machine.specs.declared.event.Event.TheVariants.{Sync, WriteOpen}
 use Rattle.lz_machine.specs.declared.event.Outcome.TheVariants.{Done, Fault}
-use Rattle.lz_machine.specs.Yards.{Yard}
 use Rattle.lz_tie.specs.Held.{SparesDevice}
 use Rattle.lz_tie.specs.Moments.{no_device}
 

@@ -5,10 +5,8 @@ use Rattle.std.proofs.lemmas.Bool.Decides.{nat_tests}
 use Rattle.std.proofs.lemmas.List.{append_cancel_right}
 use Rattle.lz_slot.specs.declared.command.Command.TheVariants.{Add, Remove, Has}
 use Rattle.lz_slot.specs.declared.format.Format.TheVariants.{One, Two}
-use Rattle.lz_slot.specs.Sets.{Keys, members}
-use Rattle.lz_allot.specs.declared.counts.Counts.{Counts}
+use Rattle.lz_tie.proofs.Vocabulary.{Keys, members, Counts, Trace, opening}
 use Rattle.lz_list.specs.declared.publishing.Publishing.TheVariants.{Linked as linked, Marked as marked}
-use Rattle.lz_list.specs.Traces.{Trace, opening}
 use Rattle.lz_machine.specs.declared.event.Reply.TheVariants.{Yes, No, Full, Worn, OldFile, Halted}
 use Rattle.lz_tie.specs.KeyByKey.{AreFor, OnlyOwnOf, Untouched, KeyRow, IsKeyAnswer, ServedKey, about, PlainCalls, answered_in}
 use Rattle.lz_tie.proofs.SessionRows.{before, after, answers}

@@ -4,10 +4,8 @@ use Rattle.std.proofs.lemmas.List.{append_cancel_right}
 use Rattle.lz_slot.specs.declared.command.Command.TheVariants.{Has}
 use Rattle.lz_slot.specs.declared.format.Format.TheVariants.{Two}
 use Rattle.lz_list.specs.declared.publishing.Publishing.TheVariants.{Linked as linked, Marked as marked}
-use Rattle.lz_list.specs.Traces.{Trace, opening}
+use Rattle.lz_tie.proofs.Vocabulary.{Trace, opening, Since, own, knowing}
 use Rattle.lz_machine.specs.declared.event.Reply.TheVariants.{Yes}
-use Rattle.lz_board.specs.Notes.{Since, own}
-use Rattle.lz_board.specs.Plays.{knowing}
 use Rattle.lz_tie.specs.LoneClient.{MadeCall, PublishedIn, InTurn, AreAll}
 use Rattle.lz_tie.proofs.Replies.KeyChanges.{no_sooner}
 use Rattle.lz_tie.proofs.SessionRows.{before, after, answers}

@@ -5,25 +5,17 @@ use Rattle.std.proofs.lemmas.List.{append_cancel_right}
 use Rattle.lz_slot.specs.declared.command.Command.TheVariants.{Add, Remove, Has}
 use Rattle.lz_slot.specs.declared.format.Format.TheVariants.{Two}
 use Rattle.lz_slot.specs.declared.history.Mark.TheVariants.{Call, Answer as answer}
-use Rattle.lz_slot.specs.Bytes.{Holds}
-use Rattle.lz_slot.specs.Histories.{History, Fits, IsUnderWay}
-use Rattle.lz_slot.specs.Sets.{Keys}
-use Rattle.lz_disk.specs.Devices.{Device}
+use Rattle.lz_tie.proofs.Vocabulary.{Holds, History, Fits, IsUnderWay, Keys, Device, Trace, IsPlain, Note, Sizes, note_by, load_note, shape_of_sizes}
+use Rattle.lz_tie.proofs.Vocabulary.{stamped, BoardId}
 use Rattle.lz_list.specs.declared.publishing.Change.TheVariants.{Added as as_added}
 use Rattle.lz_list.specs.declared.publishing.Publishing.TheVariants.{Linked as linked, Settled as settled, KeyPrepared as key_prepared, LinkPrepared as link_prepared}
 use Rattle.lz_list.specs.declared.word.Word.TheVariants.{Head, Halt}
 use Rattle.lz_list.specs.declared.place.Place.TheVariants.{Bucket}
-use Rattle.lz_list.specs.Traces.{Trace}
 use Rattle.lz_machine.specs.declared.event.Event.TheVariants.{Pin, Reserve, WriteKey, Sync, Claim, Check, WriteOpen, Link, Release, Settle, Answer}
 use Rattle.lz_machine.specs.declared.event.Outcome.TheVariants.{Done, Slot, Taken, True}
-use Rattle.lz_machine.specs.Alone.{IsPlain}
 use Rattle.lz_machine.proofs.Alone.Service.{served, served_open}
 use Rattle.lz_machine.proofs.Open.FirstPoint.{one_set}
-use Rattle.lz_board.specs.declared.view.Note.{Note}
-use Rattle.lz_board.specs.declared.view.Sizes.{Sizes}
 use Rattle.lz_board.specs.declared.view.What.TheVariants.{Called, Played}
-use Rattle.lz_board.specs.Notes.{note_by, load_note, shape_of_sizes, stamped}
-use Rattle.lz_board.specs.Seats.{BoardId}
 use Rattle.lz_tie.specs.Holds.{no_board}
 use Rattle.lz_tie.specs.Marks.{marks_in}
 use Rattle.lz_tie.specs.Moments.{GrowsTo, ExplainsFrom, RepliesStay}

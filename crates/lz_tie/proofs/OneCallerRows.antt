@@ -8,12 +8,10 @@ use Rattle.std.proofs.lemmas.Map.Keys.{IsDistinct-push}
 use Rattle.std.proofs.lemmas.Map.Made.{length-le_from_is_member}
 use Rattle.lz_slot.specs.declared.command.Command.TheVariants.{Add, Has}
 use Rattle.lz_slot.specs.declared.format.Format.TheVariants.{One, Two}
-use Rattle.lz_slot.specs.Sets.{members, HasMembers}
+use Rattle.lz_tie.proofs.Vocabulary.{members, HasMembers, Counts, Trace, opening, member}
 use Rattle.lz_slot.proofs.Sets.{members_among}
-use Rattle.lz_allot.specs.declared.counts.Counts.{Counts}
 use Rattle.lz_list.specs.declared.publishing.Change.TheVariants.{Added as as_added}
 use Rattle.lz_list.specs.declared.publishing.Publishing.TheVariants.{Linked as linked, Settled as settled, KeyPrepared as key_prepared, LinkPrepared as link_prepared}
-use Rattle.lz_list.specs.Traces.{Trace, opening, member}
 use Rattle.lz_machine.specs.declared.event.Reply.TheVariants.{Yes, No, Full, OldFile, Halted}
 use Rattle.lz_machine.proofs.Alone.Size.{none_distinct}
 use Rattle.lz_tie.specs.OnePass.{AreOwn, OnlyOwn}

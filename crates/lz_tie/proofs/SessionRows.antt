@@ -6,17 +6,11 @@ use Rattle.lz_slot.specs.declared.command.Command.TheVariants.{Add, Remove, Has}
 use Rattle.lz_slot.specs.declared.format.Format.TheVariants.{Two}
 use Rattle.lz_slot.specs.declared.history.Mark.TheVariants.{Call, Answer as answer}
 use Rattle.lz_list.specs.declared.word.Word.TheVariants.{Head, Link, Key, Halt}
-use Rattle.lz_list.specs.Traces.{Trace, Lawful, opening}
+use Rattle.lz_tie.proofs.Vocabulary.{Trace, Lawful, opening, Part, Note, Sizes, note_by, load_note, fresh, BoardId}
 use Rattle.lz_machine.specs.declared.event.Event.TheVariants.{Pin, Answer}
 use Rattle.lz_machine.specs.declared.event.Outcome.TheVariants.{Done}
 use Rattle.lz_machine.specs.declared.event.Reply.TheVariants.{Yes, No, Halted}
-use Rattle.lz_board.specs.declared.view.Part.{Part}
-use Rattle.lz_board.specs.declared.view.Note.{Note}
-use Rattle.lz_board.specs.declared.view.Sizes.{Sizes}
 use Rattle.lz_board.specs.declared.view.What.TheVariants.{Called, Played, Found}
-use Rattle.lz_board.specs.Notes.{note_by, load_note}
-use Rattle.lz_board.specs.Plays.{fresh}
-use Rattle.lz_board.specs.Seats.{BoardId}
 use Rattle.lz_tie.specs.Answers.{Answers}
 use Rattle.lz_tie.specs.Holds.{no_board}
 use Rattle.lz_tie.specs.OneCaller.{keys_in}

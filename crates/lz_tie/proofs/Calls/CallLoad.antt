@@ -2,36 +2,15 @@
 use Rattle.std.proofs.Common.{◌≡◌, ℕ, Bool, false, ◌++◌, length, refl, sym, ap, ◌∙◌, subst, append_assoc, is_some, Option, Some, None}
 use mathlib.Core.Bool.{false≢true}
 use Rattle.std.specs.List.{list_any}
-use Rattle.lz_slot.specs.declared.command.Command.{Command}
-use Rattle.lz_slot.specs.declared.format.Format.{Format}
-use Rattle.lz_slot.specs.Sets.{key_of}
-use Rattle.lz_list.specs.declared.word.Word.{Word}
-use Rattle.lz_list.specs.Walks.{hopped}
-use Rattle.lz_list.specs.Traces.{Trace, halt_word, word_after}
-use Rattle.lz_machine.specs.declared.event.Event.{Event}
+use Rattle.lz_tie.proofs.Vocabulary.{Command, Format, key_of, Word, hopped, Trace, halt_word, word_after, Event, Reply, Sequence, Progress, Shape}
+use Rattle.lz_tie.proofs.Vocabulary.{event_at, events_of, halt_loaded, progress_after, is_before_pin, side_of, hop_of, IsLoading, reply_at, IsLate}
+use Rattle.lz_tie.proofs.Vocabulary.{Sizes, Load, Part, is_for, IsShared, placed, unless_replied, shape_of_sizes, index, word_at, Changes, loading}
+use Rattle.lz_tie.proofs.Vocabulary.{IsShownTo, BoardId}
 use Rattle.lz_machine.specs.declared.event.Event.TheVariants.{Hop}
 use Rattle.lz_machine.specs.declared.event.Outcome.TheVariants.{Value}
-use Rattle.lz_machine.specs.declared.event.Reply.{Reply}
-use Rattle.lz_machine.specs.declared.caller.Sequence.{Sequence}
 use Rattle.lz_machine.specs.declared.caller.Sequence.TheVariants.{Pinning}
-use Rattle.lz_machine.specs.declared.caller.Progress.{Progress}
 use Rattle.lz_machine.specs.declared.caller.Progress.TheVariants.{Playing, LoadsHalt, Walking}
-use Rattle.lz_machine.specs.Yards.{Shape}
-use Rattle.lz_machine.specs.Calls.{event_at, events_of, halt_loaded, progress_after}
-use Rattle.lz_machine.specs.CallersSound.{is_before_pin, side_of}
-use Rattle.lz_machine.specs.Laws.{hop_of}
-use Rattle.lz_machine.specs.Orders.{IsLoading}
-use Rattle.lz_machine.specs.Runs.{reply_at}
-use Rattle.lz_machine.specs.Halts.{IsLate}
-use Rattle.lz_board.specs.declared.view.Sizes.{Sizes}
 use Rattle.lz_board.specs.declared.view.What.TheVariants.{Played}
-use Rattle.lz_board.specs.declared.view.Load.{Load}
-use Rattle.lz_board.specs.declared.view.Part.{Part}
-use Rattle.lz_board.specs.Notes.{is_for, IsShared, placed, unless_replied, shape_of_sizes}
-use Rattle.lz_board.specs.Addresses.{index, word_at}
-use Rattle.lz_board.specs.Glances.{Changes}
-use Rattle.lz_board.specs.Plays.{loading, IsShownTo}
-use Rattle.lz_board.specs.Seats.{BoardId}
 use Rattle.lz_board.proofs.Upkeep.Address.{shared_boards, decode}
 use Rattle.lz_board.proofs.Walk.GlanceAnswer.{halt_since}
 use Rattle.std.proofs.lemmas.List.Elements.{filter-append}

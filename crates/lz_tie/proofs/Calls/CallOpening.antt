@@ -1,25 +1,11 @@
 -- A call that was just made is under way.
 use Rattle.std.proofs.Common.{◌≡◌, ℕ, ◌%◌, Bool, true, false, List, [], ◌∷◌, ◌++◌, map, refl, sym, ap, ◌∙◌, subst, arith, if◌then◌else◌, None}
 use mathlib.Core.Bool.{false≢true}
-use Rattle.lz_slot.specs.declared.command.Command.{Command}
-use Rattle.lz_slot.specs.declared.format.Format.{Format}
-use Rattle.lz_list.specs.Traces.{Trace}
+use Rattle.lz_tie.proofs.Vocabulary.{Command, Format, Trace, Progress, Shape, begun, event_at, first_progress, is_before_pin, side_of, HasPass}
+use Rattle.lz_tie.proofs.Vocabulary.{is_old, IsLate, Note, Load, Part, Extends, note_by, load_note, place, shape_of_sizes, Changes, BoardId}
 use Rattle.lz_machine.specs.declared.event.Reply.TheVariants.{OldFile}
-use Rattle.lz_machine.specs.declared.caller.Progress.{Progress}
 use Rattle.lz_machine.specs.declared.caller.Progress.TheVariants.{Answering}
-use Rattle.lz_machine.specs.Yards.{Shape}
-use Rattle.lz_machine.specs.Calls.{begun, event_at, first_progress}
-use Rattle.lz_machine.specs.CallersSound.{is_before_pin, side_of}
-use Rattle.lz_machine.specs.Orders.{HasPass}
-use Rattle.lz_machine.specs.Table.{is_old}
-use Rattle.lz_machine.specs.Halts.{IsLate}
 use Rattle.lz_board.specs.declared.view.What.TheVariants.{Called}
-use Rattle.lz_board.specs.declared.view.Note.{Note}
-use Rattle.lz_board.specs.declared.view.Load.{Load}
-use Rattle.lz_board.specs.declared.view.Part.{Part}
-use Rattle.lz_board.specs.Notes.{Extends, note_by, load_note, place, shape_of_sizes}
-use Rattle.lz_board.specs.Glances.{Changes}
-use Rattle.lz_board.specs.Seats.{BoardId}
 use Rattle.lz_tie.specs.Holds.{IsIdle, HoldNotes}
 use Rattle.lz_tie.specs.NotedRuns.{AreNext}
 use Rattle.lz_tie.specs.UnderWay.{OwnAt, UnderWay}

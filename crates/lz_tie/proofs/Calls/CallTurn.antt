@@ -1,43 +1,23 @@
 -- A call that is under way goes on by a turn of its pass.
 use Rattle.std.proofs.Common.{◌≡◌, ◌≢◌, ◌⊎◌, inl, inr, ⊎_elim, ℕ, zero, suc, ◌%◌, ◌≤◌, Bool, true, false, List, [], ◌++◌, map, refl, sym, ap, ◌∙◌, subst, arith, eq-eqb, if◌then◌else◌, is_some, Option, Some, None}
 use mathlib.Core.Bool.{false≢true}
-use Rattle.lz_slot.specs.declared.command.Command.{Command}
-use Rattle.lz_slot.specs.declared.format.Format.{Format}
-use Rattle.lz_slot.specs.Sets.{HasMembers}
-use Rattle.lz_allot.specs.declared.counts.Counts.{Counts}
-use Rattle.lz_allot.specs.Uses.{collect, lowest_free, counts}
-use Rattle.lz_vault.specs.Vaults.{NoCall}
-use Rattle.lz_list.specs.declared.publishing.Publishing.{Publishing}
-use Rattle.lz_list.specs.Traces.{Trace, halt_word, member}
-use Rattle.lz_machine.specs.declared.course.Course.{Course}
+use Rattle.lz_tie.proofs.Vocabulary.{Command, Format, HasMembers, Counts, collect, lowest_free, counts, NoCall, Publishing, Trace, halt_word, member}
+use Rattle.lz_tie.proofs.Vocabulary.{Course, Event, Outcome, Progress, Shape, Yard, actor_at, pin_in, course, line, line_on, line_call}
+use Rattle.lz_tie.proofs.Vocabulary.{line_publishes, published_on, publishes, outcome_of, slot_found, event_at, loaded, progress_after, View, view_of}
+use Rattle.lz_tie.proofs.Vocabulary.{Relies, IsCaller, is_before_pin, side_of, hop_of, HasPass, Caller, run, first_point, reply_at, IsLate, Sizes}
+use Rattle.lz_tie.proofs.Vocabulary.{Note, Part, note_by, as_list, own, trace_of, load_note, shape_of_sizes, pin_after_played, BoardId}
 use Rattle.lz_machine.specs.declared.course.Course.TheVariants.{Plays}
-use Rattle.lz_machine.specs.declared.event.Event.{Event}
 use Rattle.lz_machine.specs.declared.event.Event.TheVariants.{Pin, Reserve}
-use Rattle.lz_machine.specs.declared.event.Outcome.{Outcome}
 use Rattle.lz_machine.specs.declared.event.Outcome.TheVariants.{Done, Slot, NoSlot, Worn, NotNow, Fault, Dead}
 use Rattle.lz_machine.specs.declared.event.Reply.TheVariants.{Full, Worn as SaysWorn, OldFile, Halted, Device}
 use Rattle.lz_machine.specs.declared.caller.Sequence.TheVariants.{Pinning, Writing}
-use Rattle.lz_machine.specs.declared.caller.Progress.{Progress}
 use Rattle.lz_machine.specs.declared.caller.Progress.TheVariants.{Playing, LoadsHalt, Walking, Reserving, Answering}
-use Rattle.lz_machine.specs.Yards.{Shape, Yard, actor_at, pin_in}
-use Rattle.lz_machine.specs.Table.{course, line, line_on, line_call, line_publishes, published_on, publishes, outcome_of, slot_found}
-use Rattle.lz_machine.specs.Calls.{event_at, loaded, progress_after}
-use Rattle.lz_machine.specs.CallersSound.{View, view_of, Relies, IsCaller, is_before_pin, side_of}
-use Rattle.lz_machine.specs.Laws.{hop_of}
-use Rattle.lz_machine.specs.Orders.{HasPass}
-use Rattle.lz_machine.specs.Runs.{Caller, run, first_point, reply_at}
-use Rattle.lz_machine.specs.Halts.{IsLate}
 use Rattle.lz_machine.proofs.Alone.FullSet.{full_of_one_pass}
 use Rattle.lz_machine.proofs.Frames.OneActor.{caller_range}
 use Rattle.lz_machine.proofs.Theorem.NoSlotCounts.{counts_are_right}
 use Rattle.lz_machine.proofs.Theorem.Reached.{reached_sound, IsUpAt, up_at}
 use Rattle.lz_machine.proofs.Theorem.Timeliness.{never_late}
-use Rattle.lz_board.specs.declared.view.Sizes.{Sizes}
 use Rattle.lz_board.specs.declared.view.What.TheVariants.{Played}
-use Rattle.lz_board.specs.declared.view.Note.{Note}
-use Rattle.lz_board.specs.declared.view.Part.{Part}
-use Rattle.lz_board.specs.Notes.{note_by, as_list, own, trace_of, load_note, shape_of_sizes, pin_after_played}
-use Rattle.lz_board.specs.Seats.{BoardId}
 use Rattle.lz_tie.specs.Answers.{IsWithin, last_reserve, reserved_by}
 use Rattle.lz_tie.specs.Holds.{HoldNotes, Turned}
 use Rattle.lz_tie.specs.UnderWay.{OwnAt, FoundFull, UnderWay}

@@ -1,28 +1,12 @@
 -- The steps of a call under way, in the words of the caller that counts them.
 use Rattle.std.proofs.Common.{◌≡◌, ℕ, List, sym, ap, ◌∙◌, subst, Option, Some, None}
-use Rattle.lz_slot.specs.declared.command.Command.{Command}
-use Rattle.lz_slot.specs.declared.format.Format.{Format}
-use Rattle.lz_list.specs.declared.publishing.Publishing.{Publishing}
-use Rattle.lz_list.specs.declared.word.Word.{Word}
-use Rattle.lz_list.specs.Traces.{Trace, word_after}
-use Rattle.lz_machine.specs.declared.event.Event.{Event}
+use Rattle.lz_tie.proofs.Vocabulary.{Command, Format, Publishing, Word, Trace, word_after, Event, Outcome, Progress, event_at, progress_after, hop_of}
+use Rattle.lz_tie.proofs.Vocabulary.{Calling, HasPass, shape_with, reply_at, Sizes, Note, Part, note_by, shape_of_sizes, IsShared, index, loading}
+use Rattle.lz_tie.proofs.Vocabulary.{IsShownTo, BoardId}
 use Rattle.lz_machine.specs.declared.event.Event.TheVariants.{Hop}
-use Rattle.lz_machine.specs.declared.event.Outcome.{Outcome}
 use Rattle.lz_machine.specs.declared.event.Outcome.TheVariants.{Value}
-use Rattle.lz_machine.specs.declared.caller.Progress.{Progress}
-use Rattle.lz_machine.specs.Calls.{event_at, progress_after}
-use Rattle.lz_machine.specs.Laws.{hop_of}
-use Rattle.lz_machine.specs.Orders.{Calling, HasPass, shape_with}
-use Rattle.lz_machine.specs.Runs.{reply_at}
 use Rattle.lz_machine.proofs.Runs.EventOrder.{shaped, same_event, same_follows}
 use Rattle.lz_board.specs.declared.view.What.TheVariants.{Played}
-use Rattle.lz_board.specs.declared.view.Sizes.{Sizes}
-use Rattle.lz_board.specs.declared.view.Note.{Note}
-use Rattle.lz_board.specs.declared.view.Part.{Part}
-use Rattle.lz_board.specs.Notes.{note_by, shape_of_sizes, IsShared}
-use Rattle.lz_board.specs.Addresses.{index}
-use Rattle.lz_board.specs.Plays.{loading, IsShownTo}
-use Rattle.lz_board.specs.Seats.{BoardId}
 use Rattle.lz_tie.specs.Holds.{HasCall, HoldNotes, Turned}
 use Rattle.lz_tie.specs.UnderWay.{UnderWay}
 use Rattle.lz_tie.proofs.Calls.CallLoad.{loaded}

@@ -3,50 +3,23 @@ use Rattle.std.proofs.Common.{◌≡◌, ◌≢◌, ℕ, ◌==◌, Bool, true, f
 use mathlib.Core.Bool.{false≢true}
 use Rattle.std.specs.List.{list_any}
 use Rattle.std.proofs.lemmas.Bool.{cond_both}
-use Rattle.lz_slot.specs.declared.command.Command.{Command}
+use Rattle.lz_tie.proofs.Vocabulary.{Command, Format, key_of, Place, Met, Word, LeadsOn, Trace, word_after, Hopped, More, End, wants, hopped, Need}
+use Rattle.lz_tie.proofs.Vocabulary.{may_answer, Event, Outcome, Reply, Sequence, Progress, Shape, IsInside, begun, event_at, events_of}
+use Rattle.lz_tie.proofs.Vocabulary.{first_progress, goes_on, hops_on, walked, rests, halt_loaded, progress_after, is_before_pin, side_of, hop_of}
+use Rattle.lz_tie.proofs.Vocabulary.{Calling, MayTake, shape_with, mark_of, mark_of_turn, reply_at, is_old, begun_after, Sizes, Note, Part, index}
+use Rattle.lz_tie.proofs.Vocabulary.{IsWalkable, Extends, note_by, pin_after, shape_of_sizes, IsShared, loading, IsShownTo, BoardId, Walked}
 use Rattle.lz_slot.specs.declared.command.Command.TheVariants.{Add, Remove, Has}
-use Rattle.lz_slot.specs.declared.format.Format.{Format}
-use Rattle.lz_slot.specs.Sets.{key_of}
-use Rattle.lz_list.specs.declared.place.Place.{Place}
-use Rattle.lz_list.specs.declared.walk.Met.{Met}
 use Rattle.lz_list.specs.declared.walk.Met.TheVariants.{Absent, Unmarked, Marked as met_marked}
-use Rattle.lz_list.specs.declared.word.Word.{Word}
-use Rattle.lz_list.specs.Hops.{LeadsOn}
-use Rattle.lz_list.specs.Traces.{Trace, word_after}
-use Rattle.lz_list.specs.Walks.{Hopped, More, End, wants, hopped}
-use Rattle.lz_flush.specs.declared.need.Need.{Need}
 use Rattle.lz_flush.specs.declared.need.Need.TheVariants.{Now, Sync as asks_sync}
-use Rattle.lz_flush.specs.Settling.{may_answer}
-use Rattle.lz_machine.specs.declared.event.Event.{Event}
 use Rattle.lz_machine.specs.declared.event.Event.TheVariants.{Hop, Invoke, Answer}
-use Rattle.lz_machine.specs.declared.event.Outcome.{Outcome}
 use Rattle.lz_machine.specs.declared.event.Outcome.TheVariants.{Value}
-use Rattle.lz_machine.specs.declared.event.Reply.{Reply}
 use Rattle.lz_machine.specs.declared.event.Reply.TheVariants.{Yes, No, OldFile as SaysOldFile}
-use Rattle.lz_machine.specs.declared.caller.Sequence.{Sequence}
 use Rattle.lz_machine.specs.declared.caller.Sequence.TheVariants.{Pinning, Writing, Releasing}
-use Rattle.lz_machine.specs.declared.caller.Progress.{Progress}
 use Rattle.lz_machine.specs.declared.caller.Progress.TheVariants.{Playing, LoadsHalt, Walking, Answering}
-use Rattle.lz_machine.specs.Yards.{Shape, IsInside}
-use Rattle.lz_machine.specs.Calls.{begun, event_at, events_of, first_progress, goes_on, hops_on, walked, rests, halt_loaded, progress_after}
-use Rattle.lz_machine.specs.CallersSound.{is_before_pin, side_of}
-use Rattle.lz_machine.specs.Laws.{hop_of}
-use Rattle.lz_machine.specs.Orders.{Calling, MayTake, shape_with}
-use Rattle.lz_machine.specs.Runs.{mark_of, mark_of_turn, reply_at}
-use Rattle.lz_machine.specs.Table.{is_old}
 use Rattle.lz_machine.proofs.Runs.FlowChart.{Edge, again, past, begins as starts, hops, next_edge}
 use Rattle.lz_machine.proofs.Theorem.Readiness.{is_invoke}
-use Rattle.lz_caller.specs.Begun.{begun_after}
 use Rattle.lz_caller.proofs.BegunCall.{begins}
 use Rattle.lz_board.specs.declared.view.What.TheVariants.{Called, Played}
-use Rattle.lz_board.specs.declared.view.Sizes.{Sizes}
-use Rattle.lz_board.specs.declared.view.Note.{Note}
-use Rattle.lz_board.specs.declared.view.Part.{Part}
-use Rattle.lz_board.specs.Addresses.{index, IsWalkable}
-use Rattle.lz_board.specs.Notes.{Extends, note_by, pin_after, shape_of_sizes, IsShared}
-use Rattle.lz_board.specs.Plays.{loading, IsShownTo}
-use Rattle.lz_board.specs.Seats.{BoardId}
-use Rattle.lz_board.specs.Walkers.{Walked}
 use Rattle.lz_board.proofs.Walk.WalkerLemma.{first_look, hop_shown}
 use Rattle.lz_tie.specs.declared.playing.Turn.{Turn}
 use Rattle.lz_tie.specs.Answers.{Answers}

@@ -3,22 +3,13 @@ use Rattle.std.proofs.Common.{◌≡◌, ℕ, zero, suc, Bool, false, List, [], 
 use mathlib.Core.Bool.{false≢true}
 use Rattle.std.specs.List.{list_any}
 use Rattle.std.proofs.lemmas.Bool.{or_parts}
-use Rattle.lz_slot.specs.declared.command.Command.{Command}
-use Rattle.lz_list.specs.Words.{Words}
-use Rattle.lz_machine.specs.declared.event.Event.{Event}
+use Rattle.lz_tie.proofs.Vocabulary.{Command, Words, Event, Outcome, Sequence, Progress, Shape, event_at, events_of, loaded, is_before_pin, reply_at}
+use Rattle.lz_tie.proofs.Vocabulary.{IsLate}
 use Rattle.lz_machine.specs.declared.event.Event.TheVariants.{Check, Answer, SeePin}
-use Rattle.lz_machine.specs.declared.event.Outcome.{Outcome}
-use Rattle.lz_machine.specs.declared.caller.Sequence.{Sequence}
 use Rattle.lz_machine.specs.declared.caller.Sequence.TheVariants.{Pinning}
-use Rattle.lz_machine.specs.declared.caller.Progress.{Progress}
 use Rattle.lz_machine.specs.declared.caller.Progress.TheVariants.{Playing, LoadsHalt, Reserving, SeeingPins, Claiming, Checking, Answering}
-use Rattle.lz_machine.specs.Yards.{Shape}
-use Rattle.lz_machine.specs.Calls.{event_at, events_of, loaded}
-use Rattle.lz_machine.specs.CallersSound.{is_before_pin}
-use Rattle.lz_machine.specs.Runs.{reply_at}
 use Rattle.lz_board.specs.declared.view.What.TheVariants.{Played}
 use Rattle.lz_tie.specs.Answers.{IsWithin}
-use Rattle.lz_machine.specs.Halts.{IsLate}
 use Rattle.lz_tie.proofs.Reading.PinWords.{is_pinning}
 use Rattle.lz_tie.proofs.Calls.NextPlace.{IsPlain}
 

@@ -2,32 +2,13 @@
 use Rattle.std.proofs.Common.{◌≡◌, ◌≢◌, ⊎_elim, ℕ, ◌%◌, Bool, true, List, [], ◌∷◌, ◌++◌, map, sym, ap, ◌∙◌, subst, append_assoc, eq-eqb, ne_eqb, if◌then◌else◌, Option, None}
 use Rattle.std.proofs.lemmas.Bool.{cases_eq}
 use Rattle.std.proofs.lemmas.List.Elements.{filter-append}
-use Rattle.lz_slot.specs.declared.command.Command.{Command}
-use Rattle.lz_slot.specs.declared.format.Format.{Format}
-use Rattle.lz_allot.specs.declared.counts.Counts.{Counts}
-use Rattle.lz_list.specs.declared.publishing.Publishing.{Publishing}
-use Rattle.lz_list.specs.Traces.{Trace, Begins, halt_word}
-use Rattle.lz_machine.specs.declared.event.Event.{Event}
-use Rattle.lz_machine.specs.declared.event.Outcome.{Outcome}
-use Rattle.lz_machine.specs.declared.event.Reply.{Reply}
+use Rattle.lz_tie.proofs.Vocabulary.{Command, Format, Counts, Publishing, Trace, Begins, halt_word, Event, Outcome, Reply, Progress, event_at}
+use Rattle.lz_tie.proofs.Vocabulary.{progress_after, is_before_pin, side_of, HasPass, reply_at, is_old, IsInside, IsLate, Sizes, Note, Load, Part}
+use Rattle.lz_tie.proofs.Vocabulary.{note_by, stamped, as_list, own, is_for, trace_of, load_note, place, placed, unless_replied, shape_of_sizes}
+use Rattle.lz_tie.proofs.Vocabulary.{Changes, BoardId}
 use Rattle.lz_machine.specs.declared.event.Reply.TheVariants.{Full, OldFile}
-use Rattle.lz_machine.specs.declared.caller.Progress.{Progress}
 use Rattle.lz_machine.specs.declared.caller.Progress.TheVariants.{Answering}
-use Rattle.lz_machine.specs.Calls.{event_at, progress_after}
-use Rattle.lz_machine.specs.CallersSound.{is_before_pin, side_of}
-use Rattle.lz_machine.specs.Orders.{HasPass}
-use Rattle.lz_machine.specs.Runs.{reply_at}
-use Rattle.lz_machine.specs.Table.{is_old}
-use Rattle.lz_machine.specs.Yards.{IsInside}
-use Rattle.lz_machine.specs.Halts.{IsLate}
-use Rattle.lz_board.specs.declared.view.Sizes.{Sizes}
 use Rattle.lz_board.specs.declared.view.What.TheVariants.{Called, Played}
-use Rattle.lz_board.specs.declared.view.Note.{Note}
-use Rattle.lz_board.specs.declared.view.Load.{Load}
-use Rattle.lz_board.specs.declared.view.Part.{Part}
-use Rattle.lz_board.specs.Notes.{note_by, stamped, as_list, own, is_for, trace_of, load_note, place, placed, unless_replied, shape_of_sizes}
-use Rattle.lz_board.specs.Glances.{Changes}
-use Rattle.lz_board.specs.Seats.{BoardId}
 use Rattle.lz_board.proofs.Upkeep.Growth.{begins_of}
 use Rattle.lz_board.proofs.Upkeep.Splice.{trace_splice}
 use Rattle.lz_tie.specs.Answers.{IsWithin, AreWithin}

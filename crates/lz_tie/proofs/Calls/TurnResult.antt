@@ -1,14 +1,11 @@
 -- What a turn gives that moves no pin word: it is played, or it is cut off and publishes nothing.
 use Rattle.std.proofs.Common.{◌≡◌, ◌≢◌, ◌⊎◌, inl, inr, ⊎_elim, ℕ, Bool, true, false, not, ◌&&◌, [], refl, sym, ap, ◌∙◌, if◌then◌else◌, ◌==◌}
 use mathlib.Core.Bool.{false≢true}
-use Rattle.lz_vault.specs.Vaults.{NoCall}
-use Rattle.lz_machine.specs.declared.event.Event.{Event}
+use Rattle.lz_tie.proofs.Vocabulary.{NoCall, Event, Course, Yard, actor_at, needs, is_played_dead, is_sure, is_spent, course, course_alive, line}
+use Rattle.lz_tie.proofs.Vocabulary.{line_on, line_publishes, published_on, line_call, call_on, pin_of, last_pin}
 use Rattle.lz_machine.specs.declared.event.Event.TheVariants.{Pin, Answer, Sync}
 use Rattle.lz_machine.specs.declared.event.Outcome.TheVariants.{Done, Worn, NotNow, Dead}
-use Rattle.lz_machine.specs.declared.course.Course.{Course}
 use Rattle.lz_machine.specs.declared.course.Course.TheVariants.{Refused, Dies, Plays}
-use Rattle.lz_machine.specs.Yards.{Yard, actor_at}
-use Rattle.lz_machine.specs.Table.{needs, is_played_dead, is_sure, is_spent, course, course_alive, line, line_on, line_publishes, published_on, line_call, call_on, pin_of, last_pin}
 use Rattle.lz_machine.proofs.Runs.Course.{dead_course, early_course, alive_course}
 use Rattle.lz_tie.proofs.Reading.PinWords.{is_pinning}
 

@@ -1,17 +1,11 @@
 -- A call that walks, apart from its caller: the word that it loads, and where the value leads.
 use Rattle.std.proofs.Common.{◌≡◌, ℕ, sym, ap, ◌∙◌, subst, Some}
 use Rattle.std.proofs.lemmas.Option.{none-some, same_Some}
-use Rattle.lz_list.specs.declared.walk.Look.{Look}
-use Rattle.lz_list.specs.declared.walk.Walk.{Walk}
-use Rattle.lz_list.specs.Hops.{LeadsOn}
-use Rattle.lz_list.specs.Walks.{More, hopped, wants}
-use Rattle.lz_machine.specs.declared.caller.Progress.{Progress}
+use Rattle.lz_tie.proofs.Vocabulary.{Look, Walk, LeadsOn, More, hopped, wants, Progress, event_at, hops_on, progress_after, Calling, IsLoading}
+use Rattle.lz_tie.proofs.Vocabulary.{MayTake, shape_with, look_at, looking, walk_at, walk_of, with_look}
 use Rattle.lz_machine.specs.declared.caller.Progress.TheVariants.{Walking}
 use Rattle.lz_machine.specs.declared.event.Event.TheVariants.{Hop}
 use Rattle.lz_machine.specs.declared.event.Outcome.TheVariants.{Value}
-use Rattle.lz_machine.specs.Calls.{event_at, hops_on, progress_after}
-use Rattle.lz_machine.specs.Orders.{Calling, IsLoading, MayTake, shape_with}
-use Rattle.lz_caller.specs.Walking.{look_at, looking, walk_at, walk_of, with_look}
 
 module _ (k : Calling) (look : Look) (w : Walk) (walks : walk_of (with_look k look) ≡ Some w) where
   abbrev at : Progress → Calling

@@ -1,8 +1,6 @@
 -- Yards that are the same but for pin words.
 use Rattle.std.proofs.Common.{◌≡◌, ℕ, refl, ◌∙◌, subst}
-use Rattle.lz_machine.specs.Yards.{Yard}
-use Rattle.lz_machine.specs.Table.{pin_of}
-use Rattle.lz_machine.specs.Runs.{SameButPins}
+use Rattle.lz_tie.proofs.Vocabulary.{Yard, pin_of, SameButPins}
 use Rattle.lz_tie.specs.NotedRuns.{SameButAllPins}
 
 pub alike_is : {x y : Yard} → x ≡ y → SameButAllPins x y

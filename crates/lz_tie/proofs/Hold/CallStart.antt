@@ -1,25 +1,14 @@
 -- Two notes of the pen that no event gives: a pin word that was found, and a call that was made.
 use Rattle.std.proofs.Common.{◌≡◌, ◌≢◌, ◌⊎◌, inl, inr, ⊎_elim, ℕ, zero, suc, ◌+◌, ◌-◌, ◌≤◌, Bool, true, false, List, [], ◌∷◌, ◌++◌, refl, sym, ap, ◌∙◌, subst, arith, replicate, Option, Some, None, IsNone, IsTrue, is_some}
 use mathlib.Core.Bool.{false≢true}
-use Rattle.lz_slot.specs.declared.command.Command.{Command}
-use Rattle.lz_slot.specs.Counted.{of_pass, set_of_pass}
-use Rattle.lz_slot.specs.Limits.{largest_key}
-use Rattle.lz_vault.specs.Vaults.{Vaulted}
-use Rattle.lz_slot.specs.Sets.{key_of}
-use Rattle.lz_disk.specs.Images.{Medium}
-use Rattle.lz_allot.specs.Uses.{is_outside}
-use Rattle.lz_list.specs.Traces.{Trace}
-use Rattle.lz_machine.specs.declared.caller.Progress.{Progress}
-use Rattle.lz_machine.specs.Yards.{Shape, Yard, idle_actor}
-use Rattle.lz_machine.specs.Table.{pin_of, last_pin, is_old}
+use Rattle.lz_tie.proofs.Vocabulary.{Command, of_pass, set_of_pass, largest_key, Vaulted, key_of, Medium, is_outside, Trace, Progress, Shape, Yard}
+use Rattle.lz_tie.proofs.Vocabulary.{idle_actor, pin_of, last_pin, is_old, MayPlay, State, Up, Down, Service, Caller, Calls, Looks, Point, run, IsRun}
+use Rattle.lz_tie.proofs.Vocabulary.{MayStep, first_point, caller_at, state_after, looked, invoked, Note, note_by, steps_of, place, pin_after}
+use Rattle.lz_tie.proofs.Vocabulary.{is_calling, PinTold, found_note}
 use Rattle.lz_machine.specs.declared.event.Event.TheVariants.{Invoke}
-use Rattle.lz_machine.specs.Runs.{MayPlay, State, Up, Down, Service, Caller, Calls, Looks, Point, run, IsRun, MayStep, first_point, caller_at, state_after, looked, invoked, shape_of as shape_in}
+use Rattle.lz_machine.specs.Runs.{shape_of as shape_in}
 use Rattle.lz_machine.proofs.Runs.Shape.{run_keeps_shape}
 use Rattle.lz_board.specs.declared.view.What.TheVariants.{Called}
-use Rattle.lz_board.specs.declared.view.Note.{Note}
-use Rattle.lz_board.specs.Notes.{note_by, steps_of, place, pin_after}
-use Rattle.lz_board.specs.Kept.{is_calling, PinTold}
-use Rattle.lz_board.specs.Plays.{found_note}
 use Rattle.lz_tie.specs.NotedRuns.{TellsStep, viewed, SameButAllPins, IsTied}
 use Rattle.lz_tie.specs.Holds.{sizes_of}
 use Rattle.lz_tie.proofs.Reading.CallPlaces.{Placed, place_reads}

@@ -1,20 +1,11 @@
 -- A Sync whose slot is covered calls no device.
 use Rattle.std.proofs.Common.{◌≡◌, ◌≢◌, ℕ, Bool, true, if◌then◌else◌, refl, sym, ap, subst}
-use Rattle.lz_disk.specs.Devices.{Device}
-use Rattle.lz_vault.specs.Vaults.{DeviceCall, NoCall, SyncAll, Succeeds}
+use Rattle.lz_tie.proofs.Vocabulary.{Device, DeviceCall, NoCall, SyncAll, Succeeds, set, Course, Event, Outcome, Yard, actor_at, call_on, course}
+use Rattle.lz_tie.proofs.Vocabulary.{is_sure, line_call, with_words, Told, Played}
 use Rattle.lz_list.specs.declared.word.Word.TheVariants.{Pin as pin_at}
-use Rattle.lz_list.specs.Words.{set}
-use Rattle.lz_machine.specs.declared.course.Course.{Course}
 use Rattle.lz_machine.specs.declared.course.Course.TheVariants.{Plays}
-use Rattle.lz_machine.specs.declared.event.Event.{Event}
 use Rattle.lz_machine.specs.declared.event.Event.TheVariants.{Sync}
-use Rattle.lz_machine.specs.declared.event.Outcome.{Outcome}
 use Rattle.lz_machine.specs.declared.event.Outcome.TheVariants.{Fault}
-use Rattle.lz_machine.specs.Yards.{Yard, actor_at}
-use Rattle.lz_machine.specs.Table.{call_on, course, is_sure, line_call}
-use Rattle.lz_machine.specs.Runs.{with_words}
-use Rattle.lz_yard.specs.declared.told.Told.{Told}
-use Rattle.lz_yard.specs.Steps.{Played}
 use Rattle.lz_tie.specs.Held.{SparesDevice}
 
 -- whatever becomes of it

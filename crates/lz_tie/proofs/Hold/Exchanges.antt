@@ -1,8 +1,7 @@
 -- The exchange on the board that goes with a turn's note.
 use Rattle.std.proofs.Common.{◌≡◌, ◌≢◌, ℕ, refl, sym, ap, ◌∙◌, subst, Option, Some, None}
-use Rattle.lz_list.specs.declared.word.Word.{Word}
+use Rattle.lz_tie.proofs.Vocabulary.{Word, Words, get}
 use Rattle.lz_list.specs.declared.word.Word.TheVariants.{Head, Link, Key, Pin as pin_at, Halt as halt_word}
-use Rattle.lz_list.specs.Words.{Words, get}
 
 -- the word, what it was, and what it becomes
 pub record Exchange : Type 0 where

@@ -1,21 +1,11 @@
 -- The next event of a call in a hold, once the pin word that it looks at was found.
 use Rattle.std.proofs.Common.{◌≡◌, ◌≢◌, ◌≤◌, ◌<◌, ℕ, List, ◌∷◌, refl, ap, ◌∙◌, subst}
 use mathlib.Core.Bool.{false≢true}
-use Rattle.lz_slot.specs.declared.command.Command.{Command}
-use Rattle.lz_disk.specs.Devices.{Device}
-use Rattle.lz_machine.specs.declared.event.Event.{Event}
+use Rattle.lz_tie.proofs.Vocabulary.{Command, Device, Event, Calling, Yard, Note, Part, Sizes, Knows, PinTold, note_by, trace_of, found_note, knowing}
+use Rattle.lz_tie.proofs.Vocabulary.{BoardId}
 use Rattle.lz_machine.specs.declared.event.Event.TheVariants.{Invoke, SeePin}
 use Rattle.lz_machine.specs.declared.event.Outcome.TheVariants.{Fault}
-use Rattle.lz_machine.specs.Orders.{Calling}
-use Rattle.lz_machine.specs.Yards.{Yard}
 use Rattle.lz_machine.proofs.Theorem.Readiness.{is_invoke}
-use Rattle.lz_board.specs.declared.view.Note.{Note}
-use Rattle.lz_board.specs.declared.view.Part.{Part}
-use Rattle.lz_board.specs.declared.view.Sizes.{Sizes}
-use Rattle.lz_board.specs.Kept.{Knows, PinTold}
-use Rattle.lz_board.specs.Notes.{note_by, trace_of}
-use Rattle.lz_board.specs.Plays.{found_note, knowing}
-use Rattle.lz_board.specs.Seats.{BoardId}
 use Rattle.lz_tie.specs.declared.playing.Turn.{Turn}
 use Rattle.lz_tie.specs.Held.{IsNextOf, WentOn, found_for}
 use Rattle.lz_tie.specs.Holds.{HoldNotes, InHold, IsLocked, IsTurn, MayTurn, Turned, what_of}

@@ -1,28 +1,11 @@
 -- The step of a pass that has joined the pen, in the words of the code that plays it: its number and its pin word are read at run time.
 use Rattle.std.proofs.Common.{◌≡◌, ℕ, List, refl, sym, ap, ◌∙◌, subst, None}
-use Rattle.lz_slot.specs.declared.command.Command.{Command}
-use Rattle.lz_slot.specs.declared.format.Format.{Format}
-use Rattle.lz_disk.specs.Devices.{Device}
+use Rattle.lz_tie.proofs.Vocabulary.{Command, Format, Device, set, Event, Outcome, Yard, Calling, IsEventOf, MayPlay, with_words, Told, Note, Part}
+use Rattle.lz_tie.proofs.Vocabulary.{What, Moment, moment_at, note_by, stamp_of, stamped, KeepsPin, MovesPin, noted, noted_part, moved_part, BoardId}
 use Rattle.lz_list.specs.declared.word.Word.TheVariants.{Pin as pin_at}
-use Rattle.lz_list.specs.Words.{set}
-use Rattle.lz_machine.specs.declared.event.Event.{Event}
 use Rattle.lz_machine.specs.declared.event.Event.TheVariants.{Invoke}
-use Rattle.lz_machine.specs.declared.event.Outcome.{Outcome}
-use Rattle.lz_machine.specs.Yards.{Yard}
-use Rattle.lz_machine.specs.Orders.{Calling}
-use Rattle.lz_machine.specs.Ready.{IsEventOf}
-use Rattle.lz_machine.specs.Runs.{MayPlay, with_words}
 use Rattle.lz_machine.proofs.Runs.EventRange.{is_event}
-use Rattle.lz_yard.specs.declared.told.Told.{Told}
 use Rattle.lz_yard.specs.Steps.{Played as PlayedOver}
-use Rattle.lz_board.specs.declared.view.Note.{Note}
-use Rattle.lz_board.specs.declared.view.Part.{Part}
-use Rattle.lz_board.specs.declared.view.What.{What}
-use Rattle.lz_board.specs.declared.moment.Moment.{Moment}
-use Rattle.lz_board.specs.Notes.{moment_at, note_by, stamp_of, stamped}
-use Rattle.lz_board.specs.Noting.{KeepsPin, MovesPin}
-use Rattle.lz_board.specs.Plays.{noted, noted_part, moved_part}
-use Rattle.lz_board.specs.Seats.{BoardId}
 use Rattle.lz_tie.specs.Holds.{InHold, IsTurn, MayTurn, Turned, HoldNotes, begins_with, what_of}
 use Rattle.lz_tie.proofs.Hold.NotedStep as step
 use Rattle.lz_tie.proofs.Hold.NotedStep.{NotedStep}

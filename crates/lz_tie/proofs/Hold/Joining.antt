@@ -1,22 +1,7 @@
 -- What a pass that joins the pen brings into a hold.
 use Rattle.std.proofs.Common.{◌≡◌, ◌+◌, ◌<◌, List, sym, ◌∙◌, subst, arith, Option}
-use Rattle.lz_disk.specs.Devices.{Device}
-use Rattle.lz_slot.specs.declared.command.Command.{Command}
-use Rattle.lz_list.specs.declared.publishing.Publishing.{Publishing}
-use Rattle.lz_list.specs.Traces.{Trace}
-use Rattle.lz_machine.specs.declared.event.Event.{Event}
-use Rattle.lz_machine.specs.declared.event.Outcome.{Outcome}
-use Rattle.lz_machine.specs.declared.caller.Progress.{Progress}
-use Rattle.lz_machine.specs.Orders.{Calling}
-use Rattle.lz_machine.specs.Yards.{Yard}
-use Rattle.lz_machine.specs.Table.{last_pin}
-use Rattle.lz_board.specs.declared.view.Note.{Note}
-use Rattle.lz_board.specs.declared.view.Part.{Part}
-use Rattle.lz_board.specs.Notes.{trace_of}
-use Rattle.lz_board.specs.Kept.{Knows, PinTold}
-use Rattle.lz_board.specs.Plays.{knowing, noted_part, moved_part}
-use Rattle.lz_board.specs.declared.pass.Pass.{Pass}
-use Rattle.lz_board.specs.Seats.{BoardId, IsAtHand}
+use Rattle.lz_tie.proofs.Vocabulary.{Device, Command, Publishing, Trace, Event, Outcome, Progress, Calling, Yard, last_pin, Note, Part, trace_of}
+use Rattle.lz_tie.proofs.Vocabulary.{Knows, PinTold, knowing, noted_part, moved_part, Pass, BoardId, IsAtHand}
 use Rattle.lz_board.proofs.Upkeep.PartUpkeep.{knows_knowing}
 use Rattle.lz_tie.specs.Holds.{IsLocked, InHold, IsTurn, Turned}
 

@@ -1,38 +1,22 @@
 -- One hold: what it plays may be played, and its notes are read as a run whose last state is the yard's again.
 use Rattle.std.proofs.Common.{◌≡◌, ◌≢◌, inl, ⊎_elim, ℕ, suc, ◌≤◌, ◌%◌, Bool, true, false, List, [], ◌∷◌, ◌++◌, map, length, refl, sym, ap, ◌∙◌, subst, arith, Option, Some, None, IsTrue, is_some}
 use mathlib.Core.Bool.{false≢true}
-use Rattle.lz_slot.specs.declared.command.Command.{Command}
-use Rattle.lz_slot.specs.Counted.{of_pass}
-use Rattle.lz_disk.specs.Images.{Medium}
-use Rattle.lz_disk.specs.Devices.{Device}
-use Rattle.lz_vault.specs.Vaults.{DeviceCall, NoCall, WriteAt, SyncAll, MayFail, medium_after}
-use Rattle.lz_list.specs.Words.{Words}
-use Rattle.lz_list.specs.Traces.{Trace}
-use Rattle.lz_machine.specs.declared.event.Event.{Event}
+use Rattle.lz_tie.proofs.Vocabulary.{Command, of_pass, Medium, Device, DeviceCall, NoCall, WriteAt, SyncAll, MayFail, medium_after, Words, Trace}
+use Rattle.lz_tie.proofs.Vocabulary.{Event, Outcome, Progress, Shape, Yard, IsInside, line, line_failed, line_call, line_publishes, pin_of, event_at}
+use Rattle.lz_tie.proofs.Vocabulary.{loaded, HasPass, State, Up, Caller, Turn, Point, run, MayStep, HasTurn, HasFault, Reached, first_point}
+use Rattle.lz_tie.proofs.Vocabulary.{caller_at, next_event, state_after, after_turn, after_fault, SameButPins, MayPlay, SameBut, hop_of, CallerSound}
+use Rattle.lz_tie.proofs.Vocabulary.{view_of, own_change, Told, Note, Load, Part, as_list, trace_of, steps_of, load_note, splice, Quiet, InOrder}
+use Rattle.lz_tie.proofs.Vocabulary.{AllShown, place, pin_after, shape_of_sizes, turned_at}
 use Rattle.lz_machine.specs.declared.event.Event.TheVariants.{SeePin}
-use Rattle.lz_machine.specs.declared.event.Outcome.{Outcome}
 use Rattle.lz_machine.specs.declared.event.Outcome.TheVariants.{Fault}
-use Rattle.lz_machine.specs.declared.caller.Progress.{Progress}
-use Rattle.lz_machine.specs.Yards.{Shape, Yard, IsInside}
-use Rattle.lz_machine.specs.Table.{line, line_failed, line_call, line_publishes, pin_of}
-use Rattle.lz_machine.specs.Calls.{event_at, loaded}
-use Rattle.lz_machine.specs.Orders.{HasPass}
-use Rattle.lz_machine.specs.Runs.{State, Up, Caller, Turn, Fails as FailsStep, Point, run, MayStep, HasTurn, HasFault, Reached, first_point, caller_at, next_event, state_after, after_turn, after_fault, SameButPins, MayPlay, shape_of as shape_in}
-use Rattle.lz_machine.specs.Laws.{SameBut, hop_of}
-use Rattle.lz_machine.specs.CallersSound.{CallerSound, view_of}
-use Rattle.lz_machine.specs.CallsStand.{own_change}
+use Rattle.lz_machine.specs.Runs.{Fails as FailsStep, shape_of as shape_in}
 use Rattle.lz_yard.specs.Steps.{Played as PlayedOver}
 use Rattle.lz_machine.proofs.Runs.Shape.{run_keeps_shape}
 use Rattle.lz_machine.proofs.Frames.OneActor.{caller_range}
 use Rattle.lz_machine.proofs.Theorem.Timeliness.{never_late}
 use Rattle.lz_machine.proofs.Runs.CallerEvent.{is_next}
-use Rattle.lz_yard.specs.declared.told.Told.{Told}
 use Rattle.lz_yard.proofs.Events.KeptFit.{fault_or_not}
 use Rattle.lz_board.specs.declared.view.What.TheVariants.{Played}
-use Rattle.lz_board.specs.declared.view.Note.{Note}
-use Rattle.lz_board.specs.declared.view.Load.{Load}
-use Rattle.lz_board.specs.declared.view.Part.{Part}
-use Rattle.lz_board.specs.Notes.{as_list, trace_of, steps_of, load_note, splice, Quiet, InOrder, AllShown, place, pin_after, shape_of_sizes, turned_at}
 use Rattle.lz_board.proofs.Upkeep.Splice.{steps_splice, pin_splice, trace_splice, turned_splice}
 use Rattle.lz_tie.specs.NotedRuns.{TellsTurn, TellsFault, TellsStep, TellsOf, ReadsAs, viewed, AreNext, SameButAllPins, IsTied, seen_event}
 use Rattle.lz_tie.specs.Holds.{Turned}

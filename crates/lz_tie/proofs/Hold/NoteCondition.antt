@@ -4,29 +4,13 @@ use Rattle.std.proofs.Common.{◌≡◌, ◌≢◌, ⊎_elim, ℕ, List, ◌∷�
 use mathlib.Core.Bool.{false≢true}
 use Rattle.std.proofs.lemmas.Bool.{eq-eqb, cases_eq, cases_lt}
 use Rattle.std.proofs.lemmas.List.{get_or_past}
-use Rattle.lz_slot.specs.Counted.{of_pass}
-use Rattle.lz_disk.specs.Devices.{Device}
-use Rattle.lz_disk.specs.Images.{Medium}
-use Rattle.lz_vault.specs.Vaults.{Vaulted}
-use Rattle.lz_allot.specs.Uses.{Use, Taken, use_of}
-use Rattle.lz_list.specs.declared.publishing.Publishing.{Publishing}
-use Rattle.lz_list.specs.declared.word.Word.{Word}
+use Rattle.lz_tie.proofs.Vocabulary.{of_pass, Device, Medium, Vaulted, Use, Taken, use_of, Publishing, Word, get, IsWord, Trace, Lawful, IsLoose}
+use Rattle.lz_tie.proofs.Vocabulary.{word_after, Actor, Shape, Yard, idle_actor, run, first_point, TraceSound, SlotStands, is_node, is_held, is_limbo}
+use Rattle.lz_tie.proofs.Vocabulary.{SlotsSound, Sizes, Note, Load, as_list, trace_of, splice, IsShared, Writes}
 use Rattle.lz_list.specs.declared.word.Word.TheVariants.{Head, Link, Key, Pin as PinOf, Halt}
-use Rattle.lz_list.specs.Words.{get}
-use Rattle.lz_list.specs.Lists.{IsWord}
 use Rattle.lz_list.proofs.Tables.WordTable.{length-table}
-use Rattle.lz_list.specs.Traces.{Trace, Lawful, IsLoose, word_after}
-use Rattle.lz_machine.specs.declared.actor.Actor.{Actor}
-use Rattle.lz_machine.specs.Yards.{Shape, Yard, idle_actor}
-use Rattle.lz_machine.specs.Runs.{run, first_point}
-use Rattle.lz_machine.specs.Sound.{TraceSound}
-use Rattle.lz_machine.specs.SlotsSound.{SlotStands, is_node, is_held, is_free, is_limbo, SlotsSound, is_out}
+use Rattle.lz_machine.specs.SlotsSound.{is_free, is_out}
 use Rattle.lz_machine.proofs.Theorem.Reached.{reached_sound, up_at}
-use Rattle.lz_board.specs.declared.view.Sizes.{Sizes}
-use Rattle.lz_board.specs.declared.view.Note.{Note}
-use Rattle.lz_board.specs.declared.view.Load.{Load}
-use Rattle.lz_board.specs.Notes.{as_list, trace_of, splice, IsShared}
-use Rattle.lz_board.specs.Noting.{Writes}
 use Rattle.lz_board.proofs.Upkeep.Splice.{trace_splice}
 use Rattle.lz_tie.specs.NotedRuns.{SameButAllPins, IsTied}
 use Rattle.lz_tie.specs.Holds.{sizes_of}

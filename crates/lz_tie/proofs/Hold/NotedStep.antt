@@ -1,17 +1,7 @@
 -- What a hold has once the step of its pass is noted, whichever event that plays.
 use Rattle.std.proofs.Common.{◌≡◌, ◌∷◌, ◌++◌, ℕ, suc, List, map, refl, sym, ap, ◌∙◌, subst, arith, eq-eqb, ne_eqb, if◌then◌else◌, Some, None}
-use Rattle.lz_disk.specs.Devices.{Device}
-use Rattle.lz_list.specs.Traces.{Trace, Lawful}
-use Rattle.lz_list.specs.Pinned.{IsQuiet}
-use Rattle.lz_machine.specs.Yards.{Yard}
-use Rattle.lz_yard.specs.declared.told.Told.{Told}
-use Rattle.lz_board.specs.declared.view.Sizes.{Sizes}
-use Rattle.lz_board.specs.declared.view.Note.{Note}
-use Rattle.lz_board.specs.declared.view.Part.{Part}
-use Rattle.lz_board.specs.Notes.{load_note, pin_after_what, stamped, trace_of}
-use Rattle.lz_board.specs.Noting.{MayNote, KeepsPin, MovesPin, Writes}
-use Rattle.lz_board.specs.Plays.{noted, noted_part, moved_part}
-use Rattle.lz_board.specs.Seats.{BoardId}
+use Rattle.lz_tie.proofs.Vocabulary.{Device, Trace, Lawful, IsQuiet, Yard, Told, Sizes, Note, Part, load_note, pin_after_what, stamped, trace_of}
+use Rattle.lz_tie.proofs.Vocabulary.{MayNote, KeepsPin, MovesPin, Writes, noted, noted_part, moved_part, BoardId}
 use Rattle.lz_board.proofs.Upkeep.PartUpkeep.{trace_noted, knows_noted, knows_moved, told_own}
 use Rattle.lz_tie.specs.Holds.{IsLocked, InHold, HoldNotes}
 use Rattle.lz_tie.proofs.Hold.Exchanges.{Exchange, IsExchange}

@@ -1,29 +1,12 @@
 -- One hold, from the step of the pass that has joined the pen to what the lock keeps and the pass has.
 use Rattle.std.proofs.Common.{◌≡◌, ◌≢◌, ◌<◌, ◌≤◌, ℕ, suc, Bool, true, false, List, [], ◌∷◌, ◌++◌, refl, sym, ap, ◌∙◌, subst, arith, ◌+◌, if◌then◌else◌, IsTrue, Option, None}
-use Rattle.lz_slot.specs.declared.command.Command.{Command}
-use Rattle.lz_slot.specs.declared.format.Format.{Format}
+use Rattle.lz_tie.proofs.Vocabulary.{Command, Format, Device, IsTimely, Publishing, Trace, Event, Outcome, Calling, mark_of_turn, reply_at, is_old}
+use Rattle.lz_tie.proofs.Vocabulary.{Yard, Pen, Sizes, What, Note, Part, Knows, Since, note_by, pin_after, shape_of_sizes, trace_of, found_note}
+use Rattle.lz_tie.proofs.Vocabulary.{knowing, BoardId, IsPenOf, notes}
 use Rattle.lz_slot.specs.declared.history.Mark.TheVariants.{Call}
-use Rattle.lz_disk.specs.Devices.{Device, IsTimely}
-use Rattle.lz_list.specs.declared.publishing.Publishing.{Publishing}
-use Rattle.lz_list.specs.Traces.{Trace}
-use Rattle.lz_machine.specs.declared.event.Event.{Event}
 use Rattle.lz_machine.specs.declared.event.Event.TheVariants.{Invoke, SeePin}
-use Rattle.lz_machine.specs.declared.event.Outcome.{Outcome}
 use Rattle.lz_machine.specs.declared.event.Outcome.TheVariants.{Fault, OldFile, Done}
-use Rattle.lz_machine.specs.Orders.{Calling}
-use Rattle.lz_machine.specs.Runs.{mark_of_turn, reply_at}
-use Rattle.lz_machine.specs.Table.{is_old}
-use Rattle.lz_machine.specs.Yards.{Yard}
-use Rattle.lz_board.specs.declared.board.Pen.{Pen}
-use Rattle.lz_board.specs.declared.view.Sizes.{Sizes}
-use Rattle.lz_board.specs.declared.view.What.{What}
 use Rattle.lz_board.specs.declared.view.What.TheVariants.{Called, Played}
-use Rattle.lz_board.specs.declared.view.Note.{Note}
-use Rattle.lz_board.specs.declared.view.Part.{Part}
-use Rattle.lz_board.specs.Kept.{Knows}
-use Rattle.lz_board.specs.Notes.{Since, note_by, pin_after, shape_of_sizes, trace_of}
-use Rattle.lz_board.specs.Plays.{found_note, knowing}
-use Rattle.lz_board.specs.Seats.{BoardId, IsPenOf, notes}
 use Rattle.lz_tie.specs.declared.playing.Turn.{Turn}
 use Rattle.lz_tie.specs.Held.{Began, IsNextOf, WentOn, found_for}
 use Rattle.lz_tie.specs.Holds.{HoldNotes, InHold, IsLocked, IsTurn, MayTurn, Turned, begins_with, what_of}

@@ -1,17 +1,8 @@
 -- The pen finds a pin word in a hold, and notes it.
 use Rattle.std.proofs.Common.{◌≡◌, ◌≢◌, ⊎_elim, ℕ, true, List, [], ◌∷◌, refl, sym, ap, ◌∙◌, subst, arith, eq-eqb, ne_eqb, le_refl, ◌≤◌, if◌then◌else◌}
 use Rattle.std.proofs.lemmas.Bool.{cases_eq}
-use Rattle.lz_disk.specs.Devices.{Device}
+use Rattle.lz_tie.proofs.Vocabulary.{Device, Yard, Calling, HasPass, Sizes, Note, Part, steps_of, pin_after, is_calling, PinTold, found_note, BoardId}
 use Rattle.lz_machine.specs.declared.event.Event.TheVariants.{SeePin}
-use Rattle.lz_machine.specs.Yards.{Yard}
-use Rattle.lz_machine.specs.Orders.{Calling, HasPass}
-use Rattle.lz_board.specs.declared.view.Sizes.{Sizes}
-use Rattle.lz_board.specs.declared.view.Note.{Note}
-use Rattle.lz_board.specs.declared.view.Part.{Part}
-use Rattle.lz_board.specs.Notes.{steps_of, pin_after}
-use Rattle.lz_board.specs.Kept.{is_calling, PinTold}
-use Rattle.lz_board.specs.Plays.{found_note}
-use Rattle.lz_board.specs.Seats.{BoardId}
 use Rattle.lz_board.proofs.Upkeep.Splice.{other_step}
 use Rattle.lz_board.proofs.Upkeep.PartUpkeep.{knows_found}
 use Rattle.lz_tie.specs.NotedRuns.{seen_event}

@@ -1,33 +1,16 @@
 -- The Invoke of a pass that has joined the pen, and the call that its note tells.
 use Rattle.std.proofs.Common.{◌≡◌, ◌≢◌, ℕ, ◌%◌, ◌≤◌, ◌==◌, false, List, [], ◌∷◌, length, refl, sym, ap, ◌∙◌, subst, arith, eq-eqb, Some, None, IsTrue}
-use Rattle.lz_slot.specs.declared.command.Command.{Command}
+use Rattle.lz_tie.proofs.Vocabulary.{Command, Device, medium_after, Word, get, set, Lawful, Course, Outcome, Shape, Yard, actor_at, changed_on}
+use Rattle.lz_tie.proofs.Vocabulary.{course, line_on, call_on, pin_of, published_on, MayPlay, with_words, invoked, Told, Sizes, Note, Part, note_by}
+use Rattle.lz_tie.proofs.Vocabulary.{trace_of, steps_of, splice, pin_after, is_calling, MayNote, Writes, noted, BoardId}
 use Rattle.lz_slot.proofs.Counted.{of_pass_same, length-set_of_pass}
-use Rattle.lz_disk.specs.Devices.{Device}
-use Rattle.lz_vault.specs.Vaults.{medium_after}
-use Rattle.lz_list.specs.declared.word.Word.{Word}
 use Rattle.lz_list.specs.declared.word.Word.TheVariants.{Pin as pin_at, Halt as halt_word}
-use Rattle.lz_list.specs.Words.{get, set}
-use Rattle.lz_list.specs.Traces.{Lawful}
-use Rattle.lz_machine.specs.declared.course.Course.{Course}
 use Rattle.lz_machine.specs.declared.course.Course.TheVariants.{Plays}
 use Rattle.lz_machine.specs.declared.event.Event.TheVariants.{Invoke}
-use Rattle.lz_machine.specs.declared.event.Outcome.{Outcome}
 use Rattle.lz_machine.specs.declared.event.Outcome.TheVariants.{Fault}
-use Rattle.lz_machine.specs.Yards.{Shape, Yard, actor_at}
-use Rattle.lz_machine.specs.Table.{changed_on, course, line_on, call_on, pin_of, published_on}
-use Rattle.lz_machine.specs.Runs.{MayPlay, with_words, invoked}
 use Rattle.lz_machine.proofs.Runs.Course.{invoke_plays}
-use Rattle.lz_yard.specs.declared.told.Told.{Told}
 use Rattle.lz_yard.specs.Steps.{Played as PlayedOver}
-use Rattle.lz_board.specs.declared.view.Sizes.{Sizes}
 use Rattle.lz_board.specs.declared.view.What.TheVariants.{Called}
-use Rattle.lz_board.specs.declared.view.Note.{Note}
-use Rattle.lz_board.specs.declared.view.Part.{Part}
-use Rattle.lz_board.specs.Notes.{note_by, trace_of, steps_of, splice, pin_after}
-use Rattle.lz_board.specs.Kept.{is_calling}
-use Rattle.lz_board.specs.Noting.{MayNote, Writes}
-use Rattle.lz_board.specs.Plays.{noted}
-use Rattle.lz_board.specs.Seats.{BoardId}
 use Rattle.lz_tie.specs.NotedRuns.{SameButAllPins, IsTied}
 use Rattle.lz_tie.specs.Holds.{sizes_of, IsLocked, InHold, MayTurn, begins_with}
 use Rattle.lz_tie.proofs.Hold.Exchanges.{Exchange, IsExchange}

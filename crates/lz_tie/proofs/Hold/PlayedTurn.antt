@@ -3,41 +3,23 @@ use Rattle.std.proofs.Common.{◌≡◌, ◌≢◌, ⊎_elim, ℕ, suc, ◌≤�
 use mathlib.Core.Bool.{false≢true}
 use Rattle.std.proofs.lemmas.Bool.{not-true}
 use Rattle.lz_slot.proofs.Counted.{of_pass_same, length-set_of_pass}
-use Rattle.lz_disk.specs.Devices.{Device}
-use Rattle.lz_allot.specs.Uses.{Taken, use_of}
-use Rattle.lz_list.specs.declared.word.Word.{Word}
+use Rattle.lz_tie.proofs.Vocabulary.{Device, Taken, use_of, Word, get, set, IsWord, Trace, Lawful, IsLoose, Event, Outcome, Course, Shape, Yard}
+use Rattle.lz_tie.proofs.Vocabulary.{actor_at, course, line, line_on, line_failed, line_publishes, published_on, outcome_of, yard_done, uses_after}
+use Rattle.lz_tie.proofs.Vocabulary.{actors_after, pin_of, last_pin, stays_out, pin_answered, event_at, Calling, HasPass, IsEventOf, IsReadyFor}
+use Rattle.lz_tie.proofs.Vocabulary.{MayPlay, with_words, Told, value_of, Sizes, Note, Part, note_by, stamped, as_list, own, trace_of, steps_of}
+use Rattle.lz_tie.proofs.Vocabulary.{load_note, splice, AllShown, place, pin_after, pin_after_what, pin_after_played, shape_of_sizes, is_calling}
+use Rattle.lz_tie.proofs.Vocabulary.{shows_played, Sighting, MayNote, MayPrepare, KeepsPin, MovesPin, Writes, noted, found_note, BoardId}
 use Rattle.lz_list.specs.declared.word.Word.TheVariants.{Head as head_at, Link as link_at, Key as key_at, Pin as pin_at, Halt as halt_word}
-use Rattle.lz_list.specs.Words.{get, set}
-use Rattle.lz_list.specs.Lists.{IsWord}
-use Rattle.lz_list.specs.Traces.{Trace, Lawful, IsLoose}
-use Rattle.lz_machine.specs.declared.event.Event.{Event}
 use Rattle.lz_machine.specs.declared.event.Event.TheVariants.{Pin, Answer, Reserve, Retire, SeePin}
-use Rattle.lz_machine.specs.declared.event.Outcome.{Outcome}
 use Rattle.lz_machine.specs.declared.event.Outcome.TheVariants.{Done, Fault}
-use Rattle.lz_machine.specs.declared.course.Course.{Course}
 use Rattle.lz_machine.specs.declared.course.Course.TheVariants.{Plays}
-use Rattle.lz_machine.specs.Yards.{Shape, Yard, actor_at}
-use Rattle.lz_machine.specs.Table.{course, line, line_on, line_failed, line_publishes, published_on, outcome_of, yard_done, uses_after, actors_after, pin_of, last_pin, stays_out, pin_answered}
-use Rattle.lz_machine.specs.Calls.{event_at}
-use Rattle.lz_machine.specs.Orders.{Calling, HasPass}
-use Rattle.lz_machine.specs.Ready.{IsEventOf, IsReadyFor}
-use Rattle.lz_machine.specs.Runs.{MayPlay, with_words}
 use Rattle.lz_machine.proofs.Frames.Outside.{answered_pin, worn_out}
 use Rattle.lz_machine.proofs.Runs.EventRange.{is_event}
 use Rattle.lz_machine.proofs.Runs.Course.{plays_needs}
 use Rattle.lz_machine.proofs.Theorem.Readiness.{is_invoke, ready}
-use Rattle.lz_yard.specs.declared.told.Told.{Told}
-use Rattle.lz_yard.specs.Steps.{Played as PlayedOver, value_of}
+use Rattle.lz_yard.specs.Steps.{Played as PlayedOver}
 use Rattle.lz_yard.proofs.Events.KeptFit.{fault_or_not}
-use Rattle.lz_board.specs.declared.view.Sizes.{Sizes}
 use Rattle.lz_board.specs.declared.view.What.TheVariants.{Played}
-use Rattle.lz_board.specs.declared.view.Note.{Note}
-use Rattle.lz_board.specs.declared.view.Part.{Part}
-use Rattle.lz_board.specs.Notes.{note_by, stamped, as_list, own, trace_of, steps_of, load_note, splice, AllShown, place, pin_after, pin_after_what, pin_after_played, shape_of_sizes}
-use Rattle.lz_board.specs.Kept.{is_calling, shows_played}
-use Rattle.lz_board.specs.Noting.{Sighting, MayNote, MayPrepare, KeepsPin, MovesPin, Writes}
-use Rattle.lz_board.specs.Plays.{noted, found_note}
-use Rattle.lz_board.specs.Seats.{BoardId}
 use Rattle.lz_board.proofs.Upkeep.Splice.{trace_splice, pin_splice}
 use Rattle.lz_tie.specs.NotedRuns.{AreNext, SameButAllPins, IsTied, seen_event}
 use Rattle.lz_tie.specs.Holds.{sizes_of, IsLocked, InHold, IsTurn, SeesPin, Turned}

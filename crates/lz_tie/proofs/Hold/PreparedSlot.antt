@@ -1,22 +1,13 @@
 -- The slot that an event prepares is the one in its actor's hand.
 use Rattle.std.proofs.Common.{◌≡◌, ℕ, Bool, true, false, List, ◌∷◌, refl, ap, ◌&&◌, Option, Some, None, is_some, unwrap_or}
 use mathlib.Core.Bool.{false≢true}
-use Rattle.lz_vault.specs.declared.vault.Stage.{Stage}
+use Rattle.lz_tie.proofs.Vocabulary.{Stage, Publishing, Trace, Course, Event, Yard, actor_at, cell_at, course, needs, published_on, publishes}
+use Rattle.lz_tie.proofs.Vocabulary.{settling, line_publishes, Sizes, Note, as_list, AllLeft, MayPrepare}
 use Rattle.lz_vault.specs.declared.vault.Stage.TheVariants.{Open}
-use Rattle.lz_list.specs.declared.publishing.Publishing.{Publishing}
 use Rattle.lz_list.specs.declared.publishing.Publishing.TheVariants.{KeyPrepared as key_prepared, LinkPrepared as link_prepared}
-use Rattle.lz_list.specs.Traces.{Trace}
-use Rattle.lz_machine.specs.declared.course.Course.{Course}
 use Rattle.lz_machine.specs.declared.course.Course.TheVariants.{Plays}
-use Rattle.lz_machine.specs.declared.event.Event.{Event}
 use Rattle.lz_machine.specs.declared.event.Event.TheVariants.{WriteKey, WriteOpen, Settle}
-use Rattle.lz_machine.specs.Yards.{Yard, actor_at, cell_at}
-use Rattle.lz_machine.specs.Table.{course, needs, published_on, publishes, settling, line_publishes}
 use Rattle.lz_machine.proofs.Runs.Course.{plays_needs}
-use Rattle.lz_board.specs.declared.view.Sizes.{Sizes}
-use Rattle.lz_board.specs.declared.view.Note.{Note}
-use Rattle.lz_board.specs.Notes.{as_list}
-use Rattle.lz_board.specs.Noting.{AllLeft, MayPrepare}
 
 -- the slot that is prepared
 abbrev pub prepared : List Publishing → Option ℕ

@@ -1,15 +1,7 @@
 -- A set that was halted has a dead vault, so its life is over for one of the reasons that a life has.
 use Rattle.std.proofs.Common.{◌≡◌, ◌⊎◌, ◌≤◌, ◌<◌, true, List, sym, ap, ◌∙◌}
-use Rattle.lz_slot.specs.declared.format.Format.{Format}
-use Rattle.lz_disk.specs.Devices.{Device}
-use Rattle.lz_vault.specs.Vaults.{Vaulted, last_sync}
-use Rattle.lz_list.specs.Traces.{halt_word}
-use Rattle.lz_machine.specs.Yards.{Yard}
-use Rattle.lz_machine.specs.Runs.{run, first_point}
+use Rattle.lz_tie.proofs.Vocabulary.{Format, Device, Vaulted, last_sync, halt_word, Yard, run, first_point, Note, trace_of, BoardId}
 use Rattle.lz_machine.proofs.Theorem.Reached.{reached_sound, up_at}
-use Rattle.lz_board.specs.declared.view.Note.{Note}
-use Rattle.lz_board.specs.Notes.{trace_of}
-use Rattle.lz_board.specs.Seats.{BoardId}
 use Rattle.lz_tie.specs.Holds.{IsLocked}
 use Rattle.lz_tie.specs.Lives.{LivesOn}
 use Rattle.lz_tie.proofs.Reading.TraceNotes.{trace_reads}

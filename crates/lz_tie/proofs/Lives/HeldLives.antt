@@ -1,24 +1,15 @@
 -- One hold: the file's format stays, and a vault dies only for want of a sync or because the device failed.
 use Rattle.std.proofs.Common.{◌≡◌, ◌≢◌, ◌⊎◌, inl, inr, ⊎_elim, ℕ, ◌+◌, ◌≤◌, ◌<◌, ◌==◌, Bool, true, false, List, not, ◌&&◌, refl, sym, ap, ◌∙◌, subst, arith, le_refl, if◌then◌else◌}
 use Rattle.std.proofs.lemmas.Bool.Decides.{nat_tests}
-use Rattle.lz_slot.specs.declared.format.Format.{Format}
-use Rattle.lz_disk.specs.Devices.{Device}
-use Rattle.lz_vault.specs.Vaults.{DeviceCall, SyncAll, syncs_after, last_sync, Vaulted}
+use Rattle.lz_tie.proofs.Vocabulary.{Format, Device, DeviceCall, SyncAll, syncs_after, last_sync, Vaulted, set, Course, Event, Outcome, Yard}
+use Rattle.lz_tie.proofs.Vocabulary.{actor_at, course, course_alive, call_of, is_played_dead, is_spent, is_sure, last_pin, line_on, needs, pin_of}
+use Rattle.lz_tie.proofs.Vocabulary.{with_words, Told, Note}
 use Rattle.lz_list.specs.declared.word.Word.TheVariants.{Pin as pin_at}
-use Rattle.lz_list.specs.Words.{set}
-use Rattle.lz_machine.specs.declared.course.Course.{Course}
 use Rattle.lz_machine.specs.declared.course.Course.TheVariants.{Refused, Dies, Plays}
-use Rattle.lz_machine.specs.declared.event.Event.{Event}
 use Rattle.lz_machine.specs.declared.event.Event.TheVariants.{Pin, Sync}
-use Rattle.lz_machine.specs.declared.event.Outcome.{Outcome}
 use Rattle.lz_machine.specs.declared.event.Outcome.TheVariants.{Worn, NotNow, Dead, Fault}
-use Rattle.lz_machine.specs.Yards.{Yard, actor_at}
-use Rattle.lz_machine.specs.Table.{course, course_alive, call_of, is_played_dead, is_spent, is_sure, last_pin, line_on, needs, pin_of}
-use Rattle.lz_machine.specs.Runs.{with_words}
-use Rattle.lz_yard.specs.declared.told.Told.{Told}
 use Rattle.lz_yard.specs.Steps.{Played as PlayedOver}
 use Rattle.lz_yard.proofs.Events.KeptFit.{fault_or_not}
-use Rattle.lz_board.specs.declared.view.Note.{Note}
 use Rattle.lz_tie.specs.Lives.{LivesOn, KeepsLife, faults_in}
 
 -- only a sync dies by itself, where none is left

@@ -1,22 +1,11 @@
 -- How many steps of the notes failed: a load is none of them, and a hold's step is one only where the device failed in it.
 use Rattle.std.proofs.Common.{◌≡◌, ◌<◌, ℕ, zero, suc, ◌+◌, ◌≤◌, List, [], ◌∷◌, ◌++◌, refl, sym, ap, ◌∙◌, subst, arith, replicate, Option, Some, None}
-use Rattle.lz_disk.specs.Devices.{Device}
-use Rattle.lz_list.specs.Traces.{Trace}
-use Rattle.lz_machine.specs.declared.event.Event.{Event}
-use Rattle.lz_machine.specs.declared.event.Outcome.{Outcome}
+use Rattle.lz_tie.proofs.Vocabulary.{Device, Trace, Event, Outcome, failed_in, told_device, State, Up, Service, Caller, Point, Transition, Calls}
+use Rattle.lz_tie.proofs.Vocabulary.{Turn, Fails, Looks, caller_at, first_point, run, Yard, What, Note, Load, Part, Sizes, insert_load}
+use Rattle.lz_tie.proofs.Vocabulary.{shape_of_sizes, splice, BoardId}
 use Rattle.lz_machine.specs.declared.event.Outcome.TheVariants.{Fault}
-use Rattle.lz_machine.specs.Halts.{failed_in, told_device}
-use Rattle.lz_machine.specs.Runs.{State, Up, Service, Caller, Point, Transition, Calls, Turn, Fails, Looks, caller_at, first_point, run}
-use Rattle.lz_machine.specs.Yards.{Yard}
 use Rattle.lz_machine.proofs.Theorem.DeviceFailures.{fails_once}
-use Rattle.lz_board.specs.declared.view.What.{What}
 use Rattle.lz_board.specs.declared.view.What.TheVariants.{Played, Found}
-use Rattle.lz_board.specs.declared.view.Note.{Note}
-use Rattle.lz_board.specs.declared.view.Load.{Load}
-use Rattle.lz_board.specs.declared.view.Part.{Part}
-use Rattle.lz_board.specs.declared.view.Sizes.{Sizes}
-use Rattle.lz_board.specs.Notes.{insert_load, shape_of_sizes, splice}
-use Rattle.lz_board.specs.Seats.{BoardId}
 use Rattle.lz_board.proofs.Upkeep.Splice.{at_place}
 use Rattle.lz_tie.specs.Holds.{HoldNotes, IsLocked}
 use Rattle.lz_tie.specs.Lives.{faults_in, faults_with}

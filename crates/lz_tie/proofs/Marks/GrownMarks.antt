@@ -1,26 +1,11 @@
 -- What notes show grows: loads that are put among them show nothing, and a hold's step puts its mark before all others.
 use Rattle.std.proofs.Common.{◌≡◌, ◌≢◌, ℕ, suc, ◌≤◌, List, [], ◌∷◌, ◌++◌, length, map, refl, sym, ap, ◌∙◌, subst, Option, Some, None}
-use Rattle.lz_slot.specs.declared.command.Command.{Command}
-use Rattle.lz_slot.specs.declared.format.Format.{Format}
+use Rattle.lz_tie.proofs.Vocabulary.{Command, Format, Publishing, Trace, Event, Outcome, Progress, Calling, mark_of_turn, reply_at, Shape, What, Note}
+use Rattle.lz_tie.proofs.Vocabulary.{Load, Part, Sizes, steps_of, note_by, load_note, insert_load, splice, Quiet, InOrder, place, shape_of_sizes}
+use Rattle.lz_tie.proofs.Vocabulary.{Knows, BoardId}
 use Rattle.lz_slot.specs.declared.history.Mark.TheVariants.{Call}
-use Rattle.lz_list.specs.declared.publishing.Publishing.{Publishing}
-use Rattle.lz_list.specs.Traces.{Trace}
-use Rattle.lz_machine.specs.declared.event.Event.{Event}
-use Rattle.lz_machine.specs.declared.event.Outcome.{Outcome}
-use Rattle.lz_machine.specs.declared.caller.Progress.{Progress}
 use Rattle.lz_machine.specs.declared.caller.Progress.TheVariants.{Answering}
-use Rattle.lz_machine.specs.Orders.{Calling}
-use Rattle.lz_machine.specs.Runs.{mark_of_turn, reply_at}
-use Rattle.lz_machine.specs.Yards.{Shape}
-use Rattle.lz_board.specs.declared.view.What.{What}
 use Rattle.lz_board.specs.declared.view.What.TheVariants.{Called, Played, Found}
-use Rattle.lz_board.specs.declared.view.Note.{Note}
-use Rattle.lz_board.specs.declared.view.Load.{Load}
-use Rattle.lz_board.specs.declared.view.Part.{Part}
-use Rattle.lz_board.specs.declared.view.Sizes.{Sizes}
-use Rattle.lz_board.specs.Notes.{steps_of, note_by, load_note, insert_load, splice, Quiet, InOrder, place, shape_of_sizes}
-use Rattle.lz_board.specs.Kept.{Knows}
-use Rattle.lz_board.specs.Seats.{BoardId}
 use Rattle.lz_board.proofs.Upkeep.Splice.{at_place, other_step, steps_insert_other, steps_splice, quiet_splice}
 use Rattle.lz_tie.specs.NotedRuns.{AreNext, IsHopAt}
 use Rattle.lz_tie.specs.Holds.{HasCall, HoldNotes}

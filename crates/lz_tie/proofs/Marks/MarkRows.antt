@@ -9,10 +9,8 @@ use Rattle.lz_list.specs.declared.word.Word.TheVariants.{Head, Link, Key, Halt a
 use Rattle.lz_machine.specs.declared.event.Event.TheVariants.{Pin, WriteOpen, Answer, Halt}
 use Rattle.lz_machine.specs.declared.event.Outcome.TheVariants.{Done, Fault, Dead}
 use Rattle.lz_machine.specs.declared.event.Reply.TheVariants.{Yes}
-use Rattle.lz_machine.specs.Yards.{Shape}
+use Rattle.lz_tie.proofs.Vocabulary.{Shape, Note, note_by, load_note, steps_of}
 use Rattle.lz_board.specs.declared.view.What.TheVariants.{Called, Played, Found}
-use Rattle.lz_board.specs.declared.view.Note.{Note}
-use Rattle.lz_board.specs.Notes.{note_by, load_note, steps_of}
 use Rattle.lz_tie.specs.Lives.{faults_in}
 use Rattle.lz_tie.specs.Marks.{calls_in, last_call_number, marks_in, Shows, AreOfPasses}
 use Rattle.lz_tie.specs.OwnCalls.{AsAnswered, AsRefused, SeenCall, calls_of, told}

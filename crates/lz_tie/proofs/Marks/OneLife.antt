@@ -1,16 +1,9 @@
 -- What notes show is one life: no stop, crash or open stands in it.
 use Rattle.std.proofs.Common.{◌≡◌, ℕ, suc, List, [], ◌∷◌, ◌++◌, refl, ap, Option, Some, None}
 use Rattle.lz_slot.specs.declared.history.Mark.TheVariants.{Call}
-use Rattle.lz_slot.specs.Histories.{History, Life, lives, with_mark}
-use Rattle.lz_slot.specs.Sets.{Keys}
-use Rattle.lz_machine.specs.declared.event.Reply.{Reply}
+use Rattle.lz_tie.proofs.Vocabulary.{History, Life, lives, with_mark, Keys, Reply, mark_of, mark_of_turn, Shape, What, Note, place, steps_of}
 use Rattle.lz_machine.specs.declared.event.Reply.TheVariants.{Yes}
-use Rattle.lz_machine.specs.Runs.{mark_of, mark_of_turn}
-use Rattle.lz_machine.specs.Yards.{Shape}
-use Rattle.lz_board.specs.declared.view.What.{What}
 use Rattle.lz_board.specs.declared.view.What.TheVariants.{Called, Played, Found}
-use Rattle.lz_board.specs.declared.view.Note.{Note}
-use Rattle.lz_board.specs.Notes.{place, steps_of}
 use Rattle.lz_tie.specs.Marks.{calls_in, last_call_number, reply_in, marks_with, marks_in}
 
 abbrev only_life : Keys → History → List Life

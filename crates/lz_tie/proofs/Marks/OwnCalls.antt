@@ -1,25 +1,10 @@
 -- A pass's calls in the history that notes show are those of its own steps.
 use Rattle.std.proofs.Common.{◌≡◌, ◌≢◌, ⊎_elim, ℕ, suc, ◌≤◌, Bool, true, false, List, [], ◌∷◌, ◌++◌, map, refl, sym, ap, ◌∙◌, subst, arith, eq-eqb, ne_eqb, ◌==◌, if◌then◌else◌, Option, Some, None}
 use Rattle.std.proofs.lemmas.Bool.{cases_eq}
-use Rattle.lz_slot.specs.declared.command.Command.{Command}
-use Rattle.lz_slot.specs.declared.format.Format.{Format}
-use Rattle.lz_slot.specs.Histories.{History}
-use Rattle.lz_list.specs.declared.publishing.Publishing.{Publishing}
-use Rattle.lz_list.specs.Traces.{Trace}
-use Rattle.lz_machine.specs.declared.event.Event.{Event}
-use Rattle.lz_machine.specs.declared.event.Outcome.{Outcome}
-use Rattle.lz_machine.specs.declared.event.Reply.{Reply}
+use Rattle.lz_tie.proofs.Vocabulary.{Command, Format, History, Publishing, Trace, Event, Outcome, Reply, mark_of, mark_of_turn, Shape, Moment, What}
+use Rattle.lz_tie.proofs.Vocabulary.{Note, Part, place, shape_of_sizes, steps_of, knowing, BoardId}
 use Rattle.lz_machine.specs.declared.event.Reply.TheVariants.{Yes}
-use Rattle.lz_machine.specs.Runs.{mark_of, mark_of_turn}
-use Rattle.lz_machine.specs.Yards.{Shape}
-use Rattle.lz_board.specs.declared.moment.Moment.{Moment}
-use Rattle.lz_board.specs.declared.view.What.{What}
 use Rattle.lz_board.specs.declared.view.What.TheVariants.{Called, Played, Found}
-use Rattle.lz_board.specs.declared.view.Note.{Note}
-use Rattle.lz_board.specs.declared.view.Part.{Part}
-use Rattle.lz_board.specs.Notes.{place, shape_of_sizes, steps_of}
-use Rattle.lz_board.specs.Plays.{knowing}
-use Rattle.lz_board.specs.Seats.{BoardId}
 use Rattle.lz_board.proofs.Upkeep.Splice.{own_step, other_step}
 use Rattle.lz_tie.specs.Marks.{calls_with, calls_in, number_with, last_call_number, reply_in, marks_in}
 use Rattle.lz_tie.specs.OwnCalls.{Ending, SeenCall, ended, calls_of, replied, told_with, told, ending_of, unnumbered, shown, TellsOwn}

@@ -2,25 +2,15 @@
 use Rattle.std.proofs.Common.{◌≡◌, ◌≢◌, ⊎_elim, ℕ, zero, suc, ◌≤◌, List, [], ◌∷◌, ◌++◌, length, refl, sym, ap, ◌∙◌, subst, arith, eq-eqb, ne_eqb, if◌then◌else◌, replicate, Option, Some, None}
 use Rattle.std.proofs.lemmas.Bool.{cases_eq}
 use Rattle.std.proofs.lemmas.Option.{same_Some, none-some}
-use Rattle.lz_slot.specs.declared.command.Command.{Command}
+use Rattle.lz_tie.proofs.Vocabulary.{Command, set_of_pass, Medium, Event, Outcome, Reply, Progress, Start, State, Up, Down, Service, Caller}
+use Rattle.lz_tie.proofs.Vocabulary.{Transition, Calls, Turn, Fails, Looks, Point, run, IsRun, MayStep, HasFault, first_point, caller_at, next_event}
+use Rattle.lz_tie.proofs.Vocabulary.{state_after, calls_made_after, marks_of, marks_of_turn, mark_of_turn, reply_at, moved_on, after_turn}
+use Rattle.lz_tie.proofs.Vocabulary.{after_fault, line, line_failed, progress_after, Shape, What, Note, place, steps_of}
 use Rattle.lz_slot.specs.declared.history.Mark.TheVariants.{Call}
-use Rattle.lz_slot.specs.Counted.{set_of_pass}
 use Rattle.lz_slot.proofs.Counted.{of_pass_same, of_pass_other}
-use Rattle.lz_disk.specs.Images.{Medium}
-use Rattle.lz_machine.specs.declared.event.Event.{Event}
-use Rattle.lz_machine.specs.declared.event.Outcome.{Outcome}
-use Rattle.lz_machine.specs.declared.event.Reply.{Reply}
-use Rattle.lz_machine.specs.declared.caller.Progress.{Progress}
-use Rattle.lz_machine.specs.Runs.{Start, State, Up, Down, Service, Caller, Transition, Calls, Turn, Fails, Looks, Point, run, IsRun, MayStep, HasFault, first_point, caller_at, next_event, state_after, calls_made_after, marks_of, marks_of_turn, mark_of_turn, reply_at, moved_on, after_turn, after_fault}
-use Rattle.lz_machine.specs.Table.{line, line_failed}
-use Rattle.lz_machine.specs.Calls.{progress_after}
-use Rattle.lz_machine.specs.Yards.{Shape}
 use Rattle.lz_machine.proofs.Frames.OneActor.{caller_range}
 use Rattle.lz_machine.proofs.Runs.CallerTable.{fault_no_reply}
-use Rattle.lz_board.specs.declared.view.What.{What}
 use Rattle.lz_board.specs.declared.view.What.TheVariants.{Called, Played, Found}
-use Rattle.lz_board.specs.declared.view.Note.{Note}
-use Rattle.lz_board.specs.Notes.{place, steps_of}
 use Rattle.lz_tie.specs.NotedRuns.{TellsTurn, TellsFault, TellsStep, TellsOne, TellsOf, ReadsAs, viewed}
 use Rattle.lz_tie.specs.Marks.{calls_with, calls_in, number_with, last_call_number, reply_in, marks_with, marks_in}
 use Rattle.lz_tie.proofs.Reading.CallPlaces.{Placed, place_reads, run_before}

@@ -1,23 +1,15 @@
 -- What lies under the lock has a history: the main theorem, over the run as which the notes are read.
 use Rattle.std.proofs.Common.{◌≡◌, inl, ℕ, List, ◌∷◌, [], length, sym, ap, ◌∙◌, subst, arith}
-use Rattle.lz_disk.specs.Devices.{Device}
-use Rattle.lz_disk.specs.Images.{Medium, IsImage}
-use Rattle.lz_slot.specs.Bytes.{Holds}
+use Rattle.lz_tie.proofs.Vocabulary.{Device, Medium, IsImage, Holds, History, Life, Runs, Fits, ChainTo, last_history, Keys, Same, after, reply}
+use Rattle.lz_tie.proofs.Vocabulary.{key_of, Trace, member, Lasts, State, Up, Service, Transition, Reached, Start, IsStart, run, IsRun, first_point}
+use Rattle.lz_tie.proofs.Vocabulary.{start_keys, Shape, Yard, first_trace, Note, shape_of_sizes, trace_of, BoardId}
 use Rattle.lz_slot.proofs.Sets.{after_same}
-use Rattle.lz_slot.specs.Histories.{History, Life, Runs, Fits, ChainTo, last_history}
-use Rattle.lz_slot.specs.Sets.{Keys, Same, after, reply, key_of}
-use Rattle.lz_list.specs.Traces.{Trace, member}
-use Rattle.lz_machine.specs.Lasts.{Lasts}
-use Rattle.lz_machine.specs.Runs.{State, Up, Service, Transition, Reached, Start, IsStart, run, IsRun, first_point, start_keys, shape_of as shape_in}
-use Rattle.lz_machine.specs.Yards.{Shape, Yard, first_trace}
+use Rattle.lz_machine.specs.Runs.{shape_of as shape_in}
 use Rattle.lz_machine.proofs.Ledger.Membership.{upto_all}
 use Rattle.lz_machine.proofs.Open.FirstPoint.{one_set}
 use Rattle.lz_machine.proofs.Open.FirstState.{opened_up}
 use Rattle.lz_machine.proofs.Runs.Shape.{run_keeps_shape}
 use Rattle.lz_machine.proofs.Theorem.Reached.{every_history, what_lasts}
-use Rattle.lz_board.specs.declared.view.Note.{Note}
-use Rattle.lz_board.specs.Notes.{shape_of_sizes, trace_of}
-use Rattle.lz_board.specs.Seats.{BoardId}
 use Rattle.lz_tie.specs.NotedRuns.{ReadsAs}
 use Rattle.lz_tie.specs.Holds.{sizes_of, IsLocked}
 use Rattle.lz_tie.specs.Marks.{marks_in}

@@ -1,22 +1,11 @@
 -- A call that was answered is the newest that its pass's own steps tell, with its reply.
 use Rattle.std.proofs.Common.{◌≡◌, ℕ, List, [], ◌∷◌, ◌++◌, refl, ap, ◌∙◌, append_assoc, Option, Some, None}
-use Rattle.lz_slot.specs.declared.command.Command.{Command}
-use Rattle.lz_slot.specs.declared.format.Format.{Format}
-use Rattle.lz_machine.specs.declared.caller.Progress.{Progress}
+use Rattle.lz_tie.proofs.Vocabulary.{Command, Format, Progress, Event, Outcome, Reply, progress_after, reply_at, Shape, What, Note, Part, note_by}
+use Rattle.lz_tie.proofs.Vocabulary.{unless_replied, place, placed, shape_of_sizes}
 use Rattle.lz_machine.specs.declared.caller.Progress.TheVariants.{Answering}
-use Rattle.lz_machine.specs.declared.event.Event.{Event}
 use Rattle.lz_machine.specs.declared.event.Event.TheVariants.{Answer}
-use Rattle.lz_machine.specs.declared.event.Outcome.{Outcome}
 use Rattle.lz_machine.specs.declared.event.Outcome.TheVariants.{Done}
-use Rattle.lz_machine.specs.declared.event.Reply.{Reply}
-use Rattle.lz_machine.specs.Calls.{progress_after}
-use Rattle.lz_machine.specs.Runs.{reply_at}
-use Rattle.lz_machine.specs.Yards.{Shape}
-use Rattle.lz_board.specs.declared.view.What.{What}
 use Rattle.lz_board.specs.declared.view.What.TheVariants.{Called, Played}
-use Rattle.lz_board.specs.declared.view.Note.{Note}
-use Rattle.lz_board.specs.declared.view.Part.{Part}
-use Rattle.lz_board.specs.Notes.{note_by, unless_replied, place, placed, shape_of_sizes}
 use Rattle.lz_tie.specs.Answers.{IsWithin, AreWithin, IsOneCall, Answers}
 use Rattle.lz_tie.specs.Marks.{reply_in}
 use Rattle.lz_tie.specs.OwnCalls.{told_with, told}

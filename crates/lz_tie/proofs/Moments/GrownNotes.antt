@@ -1,8 +1,6 @@
 -- Notes grow by one hold after the other.
 use Rattle.std.proofs.Common.{ℕ, List, [], ◌∷◌, ◌++◌, refl, sym, ap, ◌∙◌, append_assoc}
-use Rattle.lz_board.specs.declared.view.Note.{Note}
-use Rattle.lz_board.specs.Notes.{as_list, shape_of_sizes, trace_of}
-use Rattle.lz_board.specs.Seats.{BoardId}
+use Rattle.lz_tie.proofs.Vocabulary.{Note, as_list, shape_of_sizes, trace_of, BoardId}
 use Rattle.lz_tie.specs.Marks.{marks_in, marks_with}
 use Rattle.lz_tie.specs.Moments.{ExplainsFrom, GrowsTo}
 

@@ -1,24 +1,11 @@
 -- One hold: what a crash might have left in it is left by the notes before it or by those after it.
 use Rattle.std.proofs.Common.{◌≡◌, ◌⊎◌, ◌≤◌, inl, inr, ⊎_elim, ℕ, List, [], ◌∷◌, ◌++◌, length, refl, sym, ap, ◌∙◌, subst, le_refl, IsTrue}
-use Rattle.lz_disk.specs.Images.{IsImage}
-use Rattle.lz_disk.specs.Devices.{Device, IsTimely}
+use Rattle.lz_tie.proofs.Vocabulary.{IsImage, Device, IsTimely, LeavesEither, Event, Outcome, Shape, Yard, Told, Sizes, Load, Note, Part, as_list}
+use Rattle.lz_tie.proofs.Vocabulary.{splice, steps_of, shape_of_sizes, trace_of, found_note, noted, Pen, BoardId, IsPenOf, notes}
 use Rattle.lz_disk.proofs.Moments.{leaves_then, leaves_more}
-use Rattle.lz_vault.specs.Vaults.{LeavesEither}
-use Rattle.lz_machine.specs.declared.event.Event.{Event}
 use Rattle.lz_machine.specs.declared.event.Event.TheVariants.{Invoke}
-use Rattle.lz_machine.specs.declared.event.Outcome.{Outcome}
-use Rattle.lz_machine.specs.Yards.{Shape, Yard}
-use Rattle.lz_yard.specs.declared.told.Told.{Told}
 use Rattle.lz_yard.specs.Steps.{Played as PlayedOver}
 use Rattle.lz_yard.proofs.Events.KeptFit.{fault_or_not}
-use Rattle.lz_board.specs.declared.view.Sizes.{Sizes}
-use Rattle.lz_board.specs.declared.view.Load.{Load}
-use Rattle.lz_board.specs.declared.view.Note.{Note}
-use Rattle.lz_board.specs.declared.view.Part.{Part}
-use Rattle.lz_board.specs.Notes.{as_list, splice, steps_of, shape_of_sizes, trace_of}
-use Rattle.lz_board.specs.Plays.{found_note, noted}
-use Rattle.lz_board.specs.declared.board.Pen.{Pen}
-use Rattle.lz_board.specs.Seats.{BoardId, IsPenOf, notes}
 use Rattle.lz_board.proofs.Upkeep.Splice.{trace_splice}
 use Rattle.lz_tie.specs.NotedRuns.{AreNext}
 use Rattle.lz_tie.specs.Holds.{IsLocked, InHold, MayTurn}

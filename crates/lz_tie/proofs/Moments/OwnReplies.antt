@@ -1,10 +1,7 @@
 -- A reply that a pass has among its own steps stays.
 use Rattle.std.proofs.Common.{◌≡◌, ◌≢◌, ⊎_elim, ℕ, List, [], ◌∷◌, ◌++◌, map, sym, ap, ◌∙◌, subst}
 use Rattle.std.proofs.lemmas.Bool.{cases_eq}
-use Rattle.lz_disk.specs.Devices.{Device}
-use Rattle.lz_board.specs.declared.view.Note.{Note}
-use Rattle.lz_board.specs.Notes.{shape_of_sizes, steps_of}
-use Rattle.lz_board.specs.Seats.{BoardId}
+use Rattle.lz_tie.proofs.Vocabulary.{Device, Note, shape_of_sizes, steps_of, BoardId}
 use Rattle.lz_board.proofs.Upkeep.Splice.{other_step, own_step}
 use Rattle.lz_tie.specs.Moments.{IsReply, OwnRepliesStay, RepliesStay, Stays}
 use Rattle.lz_tie.specs.OwnCalls.{shown, told}

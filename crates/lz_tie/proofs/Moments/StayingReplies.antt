@@ -1,15 +1,8 @@
 -- A reply that was noted stays over each later hold.
 use Rattle.std.proofs.Common.{◌≡◌, ◌≤◌, ⊎_elim, ℕ, List, [], ◌∷◌, ◌++◌, length, refl, sym, ap, ◌∙◌, subst, append_assoc, arith, IsTrue}
-use Rattle.lz_disk.specs.Devices.{Device, IsTimely}
-use Rattle.lz_disk.specs.Images.{IsImage}
-use Rattle.lz_vault.specs.Vaults.{LeavesEither}
-use Rattle.lz_machine.specs.Yards.{Shape}
-use Rattle.lz_board.specs.declared.view.Load.{Load}
-use Rattle.lz_board.specs.declared.view.Note.{Note}
-use Rattle.lz_board.specs.declared.view.What.{What}
+use Rattle.lz_tie.proofs.Vocabulary.{Device, IsTimely, IsImage, LeavesEither, Shape, Load, Note, What, as_list, steps_of, insert_load, splice, Quiet}
+use Rattle.lz_tie.proofs.Vocabulary.{InOrder, place, shape_of_sizes, stamp_of, trace_of, BoardId}
 use Rattle.lz_board.specs.declared.view.What.TheVariants.{Played}
-use Rattle.lz_board.specs.Notes.{as_list, steps_of, insert_load, splice, Quiet, InOrder, place, shape_of_sizes, stamp_of, trace_of}
-use Rattle.lz_board.specs.Seats.{BoardId}
 use Rattle.lz_board.proofs.Upkeep.Splice.{at_place, other_step, quiet_splice, steps_splice, trace_insert}
 use Rattle.lz_tie.specs.Marks.{marks_in}
 use Rattle.lz_tie.specs.NotedRuns.{AreNext, IsHopAt}

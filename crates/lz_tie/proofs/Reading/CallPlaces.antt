@@ -2,25 +2,15 @@
 use Rattle.std.proofs.Common.{◌≡◌, ◌≢◌, ⊎_elim, ℕ, zero, suc, ◌≤◌, List, [], ◌∷◌, ◌++◌, length, refl, sym, ap, ◌∙◌, subst, arith, replicate, Option, Some, None}
 use Rattle.std.proofs.lemmas.Bool.{cases_eq}
 use Rattle.std.proofs.lemmas.List.{length-replicate}
-use Rattle.lz_slot.specs.declared.command.Command.{Command}
-use Rattle.lz_slot.specs.Counted.{set_of_pass}
+use Rattle.lz_tie.proofs.Vocabulary.{Command, set_of_pass, Medium, Event, Outcome, Reply, Progress, Shape, Yard, actor_at, line, line_failed, course}
+use Rattle.lz_tie.proofs.Vocabulary.{progress_after, begun, Start, State, Up, Service, Caller, Transition, Calls, Turn, Fails, Looks, Point, run}
+use Rattle.lz_tie.proofs.Vocabulary.{IsRun, MayStep, first_point, caller_at, next_event, state_after, reply_at, moved_on, after_turn, after_fault}
+use Rattle.lz_tie.proofs.Vocabulary.{looked, invoked, What, Note, steps_of, place, placed, unless_replied}
 use Rattle.lz_slot.proofs.Counted.{of_pass_same, of_pass_other, length-set_of_pass}
-use Rattle.lz_disk.specs.Images.{Medium}
-use Rattle.lz_machine.specs.declared.event.Event.{Event}
-use Rattle.lz_machine.specs.declared.event.Outcome.{Outcome}
 use Rattle.lz_machine.specs.declared.event.Outcome.TheVariants.{Fault}
-use Rattle.lz_machine.specs.declared.event.Reply.{Reply}
-use Rattle.lz_machine.specs.declared.caller.Progress.{Progress}
-use Rattle.lz_machine.specs.Yards.{Shape, Yard, actor_at}
-use Rattle.lz_machine.specs.Table.{line, line_failed, course}
-use Rattle.lz_machine.specs.Calls.{progress_after, begun}
-use Rattle.lz_machine.specs.Runs.{Start, State, Up, Service, Caller, Transition, Calls, Turn, Fails, Looks, Point, run, IsRun, MayStep, first_point, caller_at, next_event, state_after, reply_at, moved_on, after_turn, after_fault, looked, invoked}
 use Rattle.lz_machine.proofs.Runs.Shape.{line_keeps_shape}
 use Rattle.lz_machine.proofs.Frames.OneActor.{caller_range}
-use Rattle.lz_board.specs.declared.view.What.{What}
 use Rattle.lz_board.specs.declared.view.What.TheVariants.{Played, Found}
-use Rattle.lz_board.specs.declared.view.Note.{Note}
-use Rattle.lz_board.specs.Notes.{steps_of, place, placed, unless_replied}
 use Rattle.lz_board.proofs.Upkeep.Splice.{own_step, other_step}
 use Rattle.lz_tie.specs.NotedRuns.{TellsTurn, TellsFault, TellsStep, TellsOne, TellsOf, ReadsAs, viewed}
 

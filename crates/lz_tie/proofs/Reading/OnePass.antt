@@ -1,29 +1,16 @@
 -- In a set of one pass nothing is published but for it, and so it has seen the whole trace.
 use Rattle.std.proofs.Common.{◌≡◌, ◌⊎◌, inl, inr, ⊎_elim, ℕ, ◌≤◌, List, [], ◌∷◌, ◌++◌, length, length-append, refl, sym, ap, ◌∙◌, subst, arith, append_assoc, Option, Some, None}
-use Rattle.lz_disk.specs.Images.{Medium}
-use Rattle.lz_disk.specs.Devices.{Device}
-use Rattle.lz_list.specs.declared.publishing.Publishing.{Publishing}
-use Rattle.lz_list.specs.Traces.{Trace}
-use Rattle.lz_vault.specs.declared.vault.Stage.{Stage}
+use Rattle.lz_tie.proofs.Vocabulary.{Medium, Device, Publishing, Trace, Stage, Actor, Course, Event, Shape, Yard, actor_at, cell_at, course}
+use Rattle.lz_tie.proofs.Vocabulary.{line_publishes, published_on, publishes, settling, Start, State, Up, Service, Caller, Transition, Calls, Turn}
+use Rattle.lz_tie.proofs.Vocabulary.{Fails, run, IsRun, first_point, caller_at, next_event, Sizes, What, Note, Part, Extends, as_list, trace_of}
+use Rattle.lz_tie.proofs.Vocabulary.{Quiet, Knows, BoardId}
 use Rattle.lz_vault.specs.declared.vault.Stage.TheVariants.{Closed, Open}
-use Rattle.lz_machine.specs.declared.actor.Actor.{Actor}
-use Rattle.lz_machine.specs.declared.course.Course.{Course}
 use Rattle.lz_machine.specs.declared.course.Course.TheVariants.{Plays}
-use Rattle.lz_machine.specs.declared.event.Event.{Event}
 use Rattle.lz_machine.specs.declared.event.Event.TheVariants.{Link, Mark, Settle, Unlink}
-use Rattle.lz_machine.specs.Yards.{Shape, Yard, actor_at, cell_at}
-use Rattle.lz_machine.specs.Table.{course, line_publishes, published_on, publishes, settling}
-use Rattle.lz_machine.specs.Runs.{Start, State, Up, Service, Caller, Transition, Calls, Turn, Fails, run, IsRun, first_point, caller_at, next_event, shape_of as shape_in}
+use Rattle.lz_machine.specs.Runs.{shape_of as shape_in}
 use Rattle.lz_machine.proofs.Frames.OneActor.{caller_range}
 use Rattle.lz_machine.proofs.Runs.Shape.{run_keeps_shape}
-use Rattle.lz_board.specs.declared.view.Sizes.{Sizes}
-use Rattle.lz_board.specs.declared.view.What.{What}
 use Rattle.lz_board.specs.declared.view.What.TheVariants.{Found}
-use Rattle.lz_board.specs.declared.view.Note.{Note}
-use Rattle.lz_board.specs.declared.view.Part.{Part}
-use Rattle.lz_board.specs.Notes.{Extends, as_list, trace_of, Quiet}
-use Rattle.lz_board.specs.Kept.{Knows}
-use Rattle.lz_board.specs.Seats.{BoardId}
 use Rattle.lz_board.proofs.Upkeep.Growth.{extends_both, extends_trans}
 use Rattle.lz_board.proofs.Upkeep.Splice.{low_or_not, least_load}
 use Rattle.lz_tie.specs.OnePass.{AreOwn, OnlyOwn}

@@ -1,22 +1,13 @@
 -- What the open call of a pass that is inside may rely on, by the notes: with the trace at which the pass went in, and the
 -- trace as it is.
 use Rattle.std.proofs.Common.{◌≡◌, ℕ, ◌%◌, ◌≤◌, true, List, [], ◌∷◌, ◌++◌, map, length, refl, sym, ap, ◌∙◌, subst, Option, Some, None, is_some}
-use Rattle.lz_slot.specs.declared.command.Command.{Command}
-use Rattle.lz_disk.specs.Images.{Medium}
-use Rattle.lz_list.specs.Traces.{Trace}
+use Rattle.lz_tie.proofs.Vocabulary.{Command, Medium, Trace, Progress, Shape, pin_of, CallerSound, view_of, own_change, Start, IsStart, Up, Service}
+use Rattle.lz_tie.proofs.Vocabulary.{Transition, run, IsRun, first_point, caller_at, Note, Load, trace_of, load_note, place, placed, pin_after}
+use Rattle.lz_tie.proofs.Vocabulary.{turned_at}
 use Rattle.lz_machine.specs.declared.event.Event.TheVariants.{Hop}
 use Rattle.lz_machine.specs.declared.event.Outcome.TheVariants.{Value}
-use Rattle.lz_machine.specs.declared.caller.Progress.{Progress}
-use Rattle.lz_machine.specs.Yards.{Shape}
-use Rattle.lz_machine.specs.Table.{pin_of}
-use Rattle.lz_machine.specs.CallersSound.{CallerSound, view_of}
-use Rattle.lz_machine.specs.CallsStand.{own_change}
-use Rattle.lz_machine.specs.Runs.{Start, IsStart, Up, Service, Transition, run, IsRun, first_point, caller_at}
 use Rattle.lz_machine.proofs.Theorem.TraceOutside.{calls_stand}
 use Rattle.lz_board.specs.declared.view.What.TheVariants.{Played}
-use Rattle.lz_board.specs.declared.view.Note.{Note}
-use Rattle.lz_board.specs.declared.view.Load.{Load}
-use Rattle.lz_board.specs.Notes.{trace_of, load_note, place, placed, pin_after, turned_at}
 use Rattle.lz_tie.specs.NotedRuns.{ReadsAs}
 use Rattle.lz_tie.proofs.Reading.TraceNotes.{trace_reads}
 use Rattle.lz_tie.proofs.Reading.PinWords.{pin_in_state, pin_reads}

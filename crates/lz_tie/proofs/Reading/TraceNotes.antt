@@ -1,11 +1,8 @@
 -- What notes tell of the run that they are read as.
 use Rattle.std.proofs.Common.{◌≡◌, ℕ, zero, suc, List, [], ◌∷◌, ◌++◌, refl, sym, ap, ◌∙◌, replicate, Option, Some, None}
-use Rattle.lz_list.specs.Traces.{Trace}
-use Rattle.lz_machine.specs.Runs.{State, Up, Down, Service, Caller, Transition, Calls, Turn, Fails, Looks, Point, run, caller_at, trace_after, turn_publishes}
-use Rattle.lz_board.specs.declared.view.What.{What}
+use Rattle.lz_tie.proofs.Vocabulary.{Trace, State, Up, Down, Service, Caller, Transition, Calls, Turn, Fails, Looks, Point, run, caller_at}
+use Rattle.lz_tie.proofs.Vocabulary.{trace_after, turn_publishes, What, Note, as_list, trace_of}
 use Rattle.lz_board.specs.declared.view.What.TheVariants.{Found}
-use Rattle.lz_board.specs.declared.view.Note.{Note}
-use Rattle.lz_board.specs.Notes.{as_list, trace_of}
 use Rattle.lz_tie.specs.NotedRuns.{TellsTurn, TellsFault, TellsStep, TellsOne, TellsOf, NoteTells, ReadsAs}
 
 -- looks publish nothing

@@ -1,20 +1,13 @@
 -- The trace at which a pass of a run went in is that before the last change of its pin word in the notes.
 use Rattle.std.proofs.Common.{◌≡◌, ◌≢◌, ◌⊎◌, inl, inr, ⊎_elim, ℕ, zero, suc, ◌+◌, ◌%◌, ◌≤◌, ◌==◌, Bool, true, false, List, [], ◌∷◌, ◌++◌, refl, sym, ap, ◌∙◌, subst, arith, eq-eqb, ne_eqb, replicate, if◌then◌else◌}
 use Rattle.std.proofs.lemmas.Bool.{cases_eq}
-use Rattle.lz_disk.specs.Images.{Medium}
-use Rattle.lz_list.specs.Traces.{Trace}
-use Rattle.lz_machine.specs.declared.event.Event.{Event}
+use Rattle.lz_tie.proofs.Vocabulary.{Medium, Trace, Event, Outcome, Start, IsStart, State, Up, Down, Service, Transition, Looks, Point, run, IsRun}
+use Rattle.lz_tie.proofs.Vocabulary.{first_point, is_out, trace_outside, What, Note, trace_of, pin_after_played, pin_after_what, pin_after, turned_at}
+use Rattle.lz_tie.proofs.Vocabulary.{IsStep}
 use Rattle.lz_machine.specs.declared.event.Event.TheVariants.{Pin, Answer}
-use Rattle.lz_machine.specs.declared.event.Outcome.{Outcome}
 use Rattle.lz_machine.specs.declared.event.Outcome.TheVariants.{Done}
-use Rattle.lz_machine.specs.Runs.{Start, IsStart, State, Up, Down, Service, Transition, Looks, Point, run, IsRun, first_point}
-use Rattle.lz_machine.specs.CallsStand.{is_out, trace_outside}
 use Rattle.lz_machine.proofs.Theorem.TraceOutside.{out_now}
-use Rattle.lz_board.specs.declared.view.What.{What}
 use Rattle.lz_board.specs.declared.view.What.TheVariants.{Called, Played, Found}
-use Rattle.lz_board.specs.declared.view.Note.{Note}
-use Rattle.lz_board.specs.Notes.{trace_of, pin_after_played, pin_after_what, pin_after, turned_at}
-use Rattle.lz_board.specs.Noting.{IsStep}
 use Rattle.lz_tie.specs.NotedRuns.{TellsOf, TellsOne, TellsLooks, ReadsAs}
 use Rattle.lz_tie.proofs.Reading.CallPlaces.{place_reads, run_before}
 use Rattle.lz_tie.proofs.Reading.TraceNotes.{looks_trace, trace_reads}

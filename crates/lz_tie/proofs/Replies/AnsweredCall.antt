@@ -2,31 +2,17 @@
 -- may make the next call.
 use Rattle.std.proofs.Common.{◌≡◌, ℕ, ◌%◌, ◌==◌, if◌then◌else◌, suc, true, false, List, [], ◌∷◌, ◌++◌, map, length, refl, sym, ap, ◌∙◌, subst, append_assoc, Option, Some, None, is_some}
 use Rattle.std.proofs.lemmas.List.Elements.{filter-append}
-use Rattle.lz_slot.specs.declared.command.Command.{Command}
+use Rattle.lz_tie.proofs.Vocabulary.{Command, Format, HasMembers, Counts, Publishing, Trace, Begins, Lawful, member, Outcome, Reply, Shape, IsInside}
+use Rattle.lz_tie.proofs.Vocabulary.{is_old, last_pin, View, Relies, is_before_pin, side_of, own_change, Sizes, Note, Part, as_list, trace_of}
+use Rattle.lz_tie.proofs.Vocabulary.{note_by, stamped, load_note, own, is_for, splice, place, placed, shape_of_sizes, pin_after_what, Changes}
+use Rattle.lz_tie.proofs.Vocabulary.{BoardId}
 use Rattle.lz_slot.specs.declared.command.Command.TheVariants.{Add, Remove, Has}
-use Rattle.lz_slot.specs.declared.format.Format.{Format}
-use Rattle.lz_slot.specs.Sets.{HasMembers}
-use Rattle.lz_allot.specs.declared.counts.Counts.{Counts}
-use Rattle.lz_list.specs.declared.publishing.Publishing.{Publishing}
-use Rattle.lz_list.specs.Traces.{Trace, Begins, Lawful, member}
 use Rattle.lz_list.proofs.Traces.WalkEnd.{begins_before}
 use Rattle.lz_machine.specs.declared.event.Event.TheVariants.{Answer}
-use Rattle.lz_machine.specs.declared.event.Outcome.{Outcome}
 use Rattle.lz_machine.specs.declared.event.Outcome.TheVariants.{Done}
-use Rattle.lz_machine.specs.declared.event.Reply.{Reply}
 use Rattle.lz_machine.specs.declared.event.Reply.TheVariants.{Yes, No, Full, Worn, OldFile, Halted, Device}
 use Rattle.lz_machine.specs.declared.caller.Progress.TheVariants.{Answering}
-use Rattle.lz_machine.specs.Yards.{Shape, IsInside}
-use Rattle.lz_machine.specs.Table.{is_old, last_pin}
-use Rattle.lz_machine.specs.CallersSound.{View, Relies, is_before_pin, side_of}
-use Rattle.lz_machine.specs.CallsStand.{own_change}
 use Rattle.lz_board.specs.declared.view.What.TheVariants.{Played}
-use Rattle.lz_board.specs.declared.view.Sizes.{Sizes}
-use Rattle.lz_board.specs.declared.view.Note.{Note}
-use Rattle.lz_board.specs.declared.view.Part.{Part}
-use Rattle.lz_board.specs.Notes.{as_list, trace_of, note_by, stamped, load_note, own, is_for, splice, place, placed, shape_of_sizes, pin_after_what}
-use Rattle.lz_board.specs.Glances.{Changes}
-use Rattle.lz_board.specs.Seats.{BoardId}
 use Rattle.lz_board.proofs.Upkeep.Splice.{trace_splice}
 use Rattle.lz_tie.specs.OnePass.{OnlyOwn}
 use Rattle.lz_tie.proofs.Reading.OwnTraces.{own_since}

@@ -7,10 +7,9 @@ use Rattle.std.proofs.lemmas.Map.Keys.{IsDistinct-push}
 use Rattle.std.proofs.lemmas.Map.Made.{length-le_from_is_member}
 use Rattle.std.proofs.lemmas.Bool.{cases_Bool, cases_eq, and_parts, not-true, or_cases, or_left, or_right}
 use Rattle.std.proofs.lemmas.Bool.Decides.{nat_tests}
-use Rattle.lz_slot.specs.Sets.{Keys, Same, members}
+use Rattle.lz_tie.proofs.Vocabulary.{Keys, Same, members, Trace, has_key, bucket_of, chain_of, key_word, next_link, member, Lawful}
 use Rattle.lz_slot.proofs.Sets.{members_among}
 use Rattle.lz_list.specs.declared.publishing.Publishing.TheVariants.{Linked as linked}
-use Rattle.lz_list.specs.Traces.{Trace, has_key, bucket_of, chain_of, key_word, next_link, member, Lawful}
 use Rattle.lz_list.proofs.Chains.TraceChain.{words_show_chain}
 use Rattle.lz_list.proofs.Traces.Absence.{unlinked_is_settled}
 use Rattle.lz_list.proofs.Traces.TraceWords.{node_of_key}

@@ -1,14 +1,10 @@
 -- What is told of keys that nobody else changes is, key by key, what a plain set tells.
 use Rattle.std.proofs.Common.{◌≡◌, inl, inr, ℕ, ◌==◌, if◌then◌else◌, Bool, true, false, List, [], ◌∷◌, ◌++◌, map, refl, sym, ap, ◌∙◌, subst, eq-eqb, true≢false}
 use Rattle.std.proofs.lemmas.Bool.Decides.{eqb_tells}
-use Rattle.lz_slot.specs.declared.command.Command.{Command}
+use Rattle.lz_tie.proofs.Vocabulary.{Command, Format, Keys, Same, after, key_of, moved, replies, reply, set_after, Trace, member, Reply}
 use Rattle.lz_slot.specs.declared.command.Command.TheVariants.{Add}
-use Rattle.lz_slot.specs.declared.format.Format.{Format}
-use Rattle.lz_slot.specs.Sets.{Keys, Same, after, key_of, moved, replies, reply, set_after}
 use Rattle.lz_slot.proofs.Sets.{after_at, after_same, moved_other}
 use Rattle.lz_list.specs.declared.publishing.Publishing.TheVariants.{Linked as linked, Marked as marked}
-use Rattle.lz_list.specs.Traces.{Trace, member}
-use Rattle.lz_machine.specs.declared.event.Reply.{Reply}
 use Rattle.lz_machine.specs.declared.event.Reply.TheVariants.{Yes, No, Full, Worn, OldFile, Halted, Device}
 use Rattle.lz_tie.specs.KeyByKey.{AreFor, Untouched, KeyRow, IsKeyAnswer, ServedKey, about, SameBut, PlainCalls, OwnKeysArePlain, answered_by, answered_in, PlainCallsAreReplies}
 use Rattle.lz_tie.specs.Sessions.{AnsweredCalls, cuts_off, NoneCut}

@@ -1,8 +1,7 @@
 -- The changes of a key in a trace: whose they are, and where they stand.
 use Rattle.std.proofs.Common.{◌≡◌, ◌⊎◌, inl, inr, ℕ, suc, [], ◌∷◌, ◌++◌, length, refl, sym, subst, arith}
-use Rattle.lz_list.specs.declared.publishing.Publishing.{Publishing}
+use Rattle.lz_tie.proofs.Vocabulary.{Publishing, Trace, Begins}
 use Rattle.lz_list.specs.declared.publishing.Publishing.TheVariants.{Linked as linked, Marked as marked}
-use Rattle.lz_list.specs.Traces.{Trace, Begins}
 use Rattle.lz_board.proofs.Upkeep.Growth.{begins_extends, extends_of, extends_length}
 use Rattle.lz_tie.specs.KeyByKey.{AreFor, ChangedFor}
 use Rattle.lz_tie.specs.LoneClient.{IsChange}

@@ -1,31 +1,18 @@
 -- The turn of an Answer: it is done, publishes nothing, and leaves the pass outside.
 use Rattle.std.proofs.Common.{◌≡◌, ◌≢◌, ⊎_elim, ℕ, suc, ◌%◌, ◌==◌, if◌then◌else◌, List, [], length, refl, sym, ap, ◌∙◌, subst, arith, eq-eqb, Option, Some, None}
 use Rattle.std.proofs.lemmas.Bool.Decides.{nat_tests}
-use Rattle.lz_slot.specs.declared.command.Command.{Command}
-use Rattle.lz_vault.specs.Vaults.{NoCall}
-use Rattle.lz_list.specs.declared.publishing.Publishing.{Publishing}
-use Rattle.lz_list.specs.Traces.{Trace}
-use Rattle.lz_machine.specs.declared.course.Course.{Course}
+use Rattle.lz_tie.proofs.Vocabulary.{Command, NoCall, Publishing, Trace, Course, Outcome, Reply, Progress, Yard, actor_at, IsInside, course, line}
+use Rattle.lz_tie.proofs.Vocabulary.{line_on, call_on, published_on, last_pin, reply_at, HasTurn, Relies, View, view_of, own_change, Note, Part}
+use Rattle.lz_tie.proofs.Vocabulary.{trace_of, pin_after_what, pin_after_played}
 use Rattle.lz_machine.specs.declared.course.Course.TheVariants.{Refused}
 use Rattle.lz_machine.specs.declared.event.Event.TheVariants.{Answer}
-use Rattle.lz_machine.specs.declared.event.Outcome.{Outcome}
 use Rattle.lz_machine.specs.declared.event.Outcome.TheVariants.{Done, NotNow, Fault}
-use Rattle.lz_machine.specs.declared.event.Reply.{Reply}
 use Rattle.lz_machine.specs.declared.event.Reply.TheVariants.{Worn}
-use Rattle.lz_machine.specs.declared.caller.Progress.{Progress}
 use Rattle.lz_machine.specs.declared.caller.Progress.TheVariants.{Answering}
-use Rattle.lz_machine.specs.Yards.{Yard, actor_at, IsInside}
-use Rattle.lz_machine.specs.Table.{course, line, line_on, call_on, published_on, last_pin}
-use Rattle.lz_machine.specs.Runs.{reply_at, HasTurn}
-use Rattle.lz_machine.specs.CallersSound.{Relies, View, view_of}
-use Rattle.lz_machine.specs.CallsStand.{own_change}
 use Rattle.lz_machine.proofs.Runs.Course.{answer_plays}
 use Rattle.lz_machine.proofs.Alone.Halt.{refusals_are_right}
 use Rattle.lz_machine.proofs.Theorem.Timeliness.{never_late}
 use Rattle.lz_board.specs.declared.view.What.TheVariants.{Played}
-use Rattle.lz_board.specs.declared.view.Note.{Note}
-use Rattle.lz_board.specs.declared.view.Part.{Part}
-use Rattle.lz_board.specs.Notes.{trace_of, pin_after_what, pin_after_played}
 use Rattle.lz_tie.specs.Holds.{Turned}
 use Rattle.lz_tie.proofs.Hold.NoteCondition.{listed_none}
 

@@ -3,22 +3,12 @@ use Rattle.std.proofs.Common.{◌≡◌, ◌⊎◌, ⊎_elim, inl, inr, ℕ, if�
 use mathlib.Core.Bool.{false≢true}
 use Rattle.std.specs.Cmp.{both_ways}
 use Rattle.std.proofs.lemmas.Option.{none-some}
-use Rattle.lz_slot.specs.declared.command.Command.{Command}
+use Rattle.lz_tie.proofs.Vocabulary.{Command, Format, Trace, Reply, Progress, first_progress, is_old, Shape, What, Note, Part, note_by, place, placed}
+use Rattle.lz_tie.proofs.Vocabulary.{shape_of_sizes}
 use Rattle.lz_slot.specs.declared.command.Command.TheVariants.{Add, Remove, Has}
-use Rattle.lz_slot.specs.declared.format.Format.{Format}
-use Rattle.lz_list.specs.Traces.{Trace}
-use Rattle.lz_machine.specs.declared.event.Reply.{Reply}
 use Rattle.lz_machine.specs.declared.event.Reply.TheVariants.{OldFile}
-use Rattle.lz_machine.specs.declared.caller.Progress.{Progress}
 use Rattle.lz_machine.specs.declared.caller.Progress.TheVariants.{Answering}
-use Rattle.lz_machine.specs.Calls.{first_progress}
-use Rattle.lz_machine.specs.Table.{is_old}
-use Rattle.lz_machine.specs.Yards.{Shape}
-use Rattle.lz_board.specs.declared.view.What.{What}
 use Rattle.lz_board.specs.declared.view.What.TheVariants.{Called, Played}
-use Rattle.lz_board.specs.declared.view.Note.{Note}
-use Rattle.lz_board.specs.declared.view.Part.{Part}
-use Rattle.lz_board.specs.Notes.{note_by, place, placed, shape_of_sizes}
 use Rattle.lz_tie.specs.Answers.{Promises, IsWithin, AreWithin, IsOneCall, Answers}
 use Rattle.lz_tie.specs.OneCaller.{tells_old}
 

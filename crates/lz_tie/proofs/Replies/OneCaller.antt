@@ -1,18 +1,10 @@
 -- In a set of one pass each answer is that of the plain set: it is that of its key, and no other key was changed.
 use Rattle.std.proofs.Common.{◌≡◌, inl, inr, ℕ, List, [], ◌∷◌, sym, ◌∙◌}
-use Rattle.lz_slot.specs.declared.command.Command.{Command}
+use Rattle.lz_tie.proofs.Vocabulary.{Command, Format, Keys, key_of, Trace, Lawful, Reply, Shape, Note, shape_of_sizes, Changes}
 use Rattle.lz_slot.specs.declared.command.Command.TheVariants.{Add}
-use Rattle.lz_slot.specs.declared.format.Format.{Format}
-use Rattle.lz_slot.specs.Sets.{Keys, key_of}
 use Rattle.lz_list.specs.declared.publishing.Publishing.TheVariants.{Linked as linked, Marked as marked, Unlinked as unlinked}
-use Rattle.lz_list.specs.Traces.{Trace, Lawful}
 use Rattle.lz_list.proofs.Traces.Hindsight.{lawful_begins}
-use Rattle.lz_machine.specs.declared.event.Reply.{Reply}
 use Rattle.lz_machine.specs.declared.event.Reply.TheVariants.{Yes, Full, Worn, OldFile, Halted, Device}
-use Rattle.lz_machine.specs.Yards.{Shape}
-use Rattle.lz_board.specs.declared.view.Note.{Note}
-use Rattle.lz_board.specs.Notes.{shape_of_sizes}
-use Rattle.lz_board.specs.Glances.{Changes}
 use Rattle.lz_tie.specs.OnePass.{AreOwn, OnlyOwn}
 use Rattle.lz_tie.specs.Answers.{Added, MayHaveChanged, Promises}
 use Rattle.lz_tie.specs.OneCaller.{keys_in, HasRoom, PlainRow, OneCallerIsPlain}

@@ -3,21 +3,12 @@ use Rattle.std.proofs.Common.{◌≡◌, ◌⊎◌, inl, inr, ℕ, ◌==◌, not
 use Rattle.std.proofs.lemmas.Bool.Decides.{eqb_tells}
 use Rattle.std.proofs.lemmas.List.{append_cancel_right}
 use Rattle.std.proofs.lemmas.List.Elements.{filter-append}
-use Rattle.lz_slot.specs.declared.command.Command.{Command}
+use Rattle.lz_tie.proofs.Vocabulary.{Command, Format, key_of, moved, Publishing, Trace, Begins, Lawful, member, Reply, Shape, Note, own, is_for}
+use Rattle.lz_tie.proofs.Vocabulary.{shape_of_sizes, Changes, Between, Rests}
 use Rattle.lz_slot.specs.declared.command.Command.TheVariants.{Add, Remove, Has}
-use Rattle.lz_slot.specs.declared.format.Format.{Format}
-use Rattle.lz_slot.specs.Sets.{key_of, moved}
-use Rattle.lz_list.specs.declared.publishing.Publishing.{Publishing}
 use Rattle.lz_list.specs.declared.publishing.Publishing.TheVariants.{Linked as linked, Marked as marked, Unlinked as unlinked}
-use Rattle.lz_list.specs.Traces.{Trace, Begins, Lawful, member}
 use Rattle.lz_list.proofs.Traces.Hindsight.{lawful_begins}
-use Rattle.lz_machine.specs.declared.event.Reply.{Reply}
 use Rattle.lz_machine.specs.declared.event.Reply.TheVariants.{Yes, No, Full, Worn, OldFile, Halted, Device}
-use Rattle.lz_machine.specs.Yards.{Shape}
-use Rattle.lz_board.specs.declared.view.Note.{Note}
-use Rattle.lz_board.specs.Notes.{own, is_for, shape_of_sizes}
-use Rattle.lz_board.specs.Glances.{Changes, Between}
-use Rattle.lz_board.specs.Ways.{Rests}
 use Rattle.lz_board.proofs.Upkeep.Growth.{extends_of}
 use Rattle.lz_tie.specs.Answers.{Added, Removed, WasCut, MayHaveChanged, Promises}
 use Rattle.lz_tie.specs.KeyByKey.{AreFor, OnlyOwnOf, KeyRow, OneKeyIsPlain}

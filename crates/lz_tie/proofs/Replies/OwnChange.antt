@@ -4,12 +4,8 @@ use Rattle.std.proofs.lemmas.Bool.Decides.{nat_tests}
 use Rattle.std.proofs.lemmas.List.{append_cancel_right}
 use Rattle.std.proofs.lemmas.List.Elements.{filter-append}
 use Rattle.std.proofs.lemmas.Option.{none-some, same_Some}
-use Rattle.lz_list.specs.declared.publishing.Publishing.{Publishing}
+use Rattle.lz_tie.proofs.Vocabulary.{Publishing, Trace, Begins, own_change, own, is_for, Changes}
 use Rattle.lz_list.specs.declared.publishing.Publishing.TheVariants.{Linked as linked, Marked as marked}
-use Rattle.lz_list.specs.Traces.{Trace, Begins}
-use Rattle.lz_machine.specs.CallsStand.{own_change}
-use Rattle.lz_board.specs.Notes.{own, is_for}
-use Rattle.lz_board.specs.Glances.{Changes}
 use Rattle.lz_board.proofs.Upkeep.Growth.{extends_trans, extends_both, begins_of, extends_of}
 
 -- a linking or a marking for pass p

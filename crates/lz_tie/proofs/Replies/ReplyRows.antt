@@ -3,18 +3,13 @@
 use Rattle.std.proofs.Common.{◌≡◌, ⊎_elim, inl, inr, ℕ, suc, true, false, ◌∷◌, length, sym, ap, ◌∙◌, subst, arith, ◌⊎◌}
 use mathlib.Core.Bool.{false≢true}
 use Rattle.std.proofs.lemmas.Bool.Decides.{nat_tests}
-use Rattle.lz_list.specs.declared.publishing.Publishing.{Publishing}
+use Rattle.lz_tie.proofs.Vocabulary.{Publishing, Trace, Begins, Lawful, member, linking, linking_in, is_settled, is_removed, SettledYes, SettledNo}
+use Rattle.lz_tie.proofs.Vocabulary.{upto, RestsYes, RestsNo, IsSettledChange, own_change, Changes, Rests}
 use Rattle.lz_list.specs.declared.publishing.Publishing.TheVariants.{Linked as linked, Marked as marked, Unlinked as unlinked}
-use Rattle.lz_list.specs.Traces.{Trace, Begins, Lawful, member, linking, linking_in, is_settled, is_removed, SettledYes, SettledNo}
 use Rattle.lz_list.proofs.Traces.Hindsight.{lawful_begins}
 use Rattle.lz_list.proofs.Traces.WalkEnd.{begins_before}
 use Rattle.lz_list.proofs.Traces.NodeBits.{node}
-use Rattle.lz_machine.specs.Kept.{upto}
-use Rattle.lz_machine.specs.CallersSound.{RestsYes, RestsNo, IsSettledChange}
-use Rattle.lz_machine.specs.CallsStand.{own_change}
 use Rattle.lz_machine.proofs.Ledger.Reply.{upto_is}
-use Rattle.lz_board.specs.Glances.{Changes}
-use Rattle.lz_board.specs.Ways.{Rests}
 use Rattle.lz_tie.specs.Answers.{Added, Removed}
 use Rattle.lz_tie.specs.UnderWay.{HasLinked, HasUnlinked}
 use Rattle.lz_tie.proofs.Replies.OwnChange.{OwnChange, own_stands, one_is, two_are, IsChangeOf}

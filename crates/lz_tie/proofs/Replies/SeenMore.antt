@@ -1,17 +1,9 @@
 -- What a pass has seen after a call goes on from what it had seen, with the own changes of its command.
 use Rattle.std.proofs.Common.{ℕ, inr, List, [], ◌∷◌, refl}
-use Rattle.lz_slot.specs.declared.command.Command.{Command}
+use Rattle.lz_tie.proofs.Vocabulary.{Command, Format, Trace, Reply, Shape, Note, Part, Changes, Extends}
 use Rattle.lz_slot.specs.declared.command.Command.TheVariants.{Add, Remove, Has}
-use Rattle.lz_slot.specs.declared.format.Format.{Format}
 use Rattle.lz_list.specs.declared.publishing.Publishing.TheVariants.{Linked as linked, Marked as marked, Unlinked as unlinked}
-use Rattle.lz_list.specs.Traces.{Trace}
-use Rattle.lz_machine.specs.declared.event.Reply.{Reply}
 use Rattle.lz_machine.specs.declared.event.Reply.TheVariants.{Yes, Full, Halted, Device}
-use Rattle.lz_machine.specs.Yards.{Shape}
-use Rattle.lz_board.specs.declared.view.Note.{Note}
-use Rattle.lz_board.specs.declared.view.Part.{Part}
-use Rattle.lz_board.specs.Glances.{Changes}
-use Rattle.lz_board.specs.Notes.{Extends}
 use Rattle.lz_tie.specs.Answers.{Answers, MayHaveChanged, Promises}
 use Rattle.lz_tie.proofs.Calls.OwnChanges.{none_cut}
 

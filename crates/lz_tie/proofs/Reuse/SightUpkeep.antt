@@ -1,18 +1,8 @@
 -- What the notes show of pin words stays shown, and a slot that passes have left stays left while it stands on no chain.
 use Rattle.std.proofs.Common.{◌≡◌, inl, inr, ⊎_elim, ℕ, ◌%◌, ◌≤◌, true, List, [], ◌∷◌, ◌++◌, length, refl, sym, ap, ◌∙◌, subst, true≢false, Option, Some, None}
-use Rattle.lz_slot.specs.Counted.{of_pass}
-use Rattle.lz_allot.specs.Uses.{Use, Free, Taken, Limbo}
-use Rattle.lz_allot.specs.declared.sight.Sight.{Sight}
+use Rattle.lz_tie.proofs.Vocabulary.{of_pass, Use, Free, Taken, Limbo, Sight, Publishing, Trace, IsLoose, IsAway, Sizes, Note, Load, as_list}
+use Rattle.lz_tie.proofs.Vocabulary.{trace_of, load_note, insert_load, splice, pin_after, pin_after_what, shows, Sighting, HasLeft, AllLeft}
 use Rattle.lz_allot.specs.declared.sight.Sight.TheVariants.{Unseen, Inside, Left}
-use Rattle.lz_list.specs.declared.publishing.Publishing.{Publishing}
-use Rattle.lz_list.specs.Traces.{Trace, IsLoose}
-use Rattle.lz_machine.specs.Limbo.{IsAway}
-use Rattle.lz_board.specs.declared.view.Sizes.{Sizes}
-use Rattle.lz_board.specs.declared.view.Note.{Note}
-use Rattle.lz_board.specs.declared.view.Load.{Load}
-use Rattle.lz_board.specs.Notes.{as_list, trace_of, load_note, insert_load, splice, pin_after, pin_after_what}
-use Rattle.lz_board.specs.Kept.{shows}
-use Rattle.lz_board.specs.Noting.{Sighting, HasLeft, AllLeft}
 use Rattle.lz_board.proofs.Upkeep.Splice.{at_place, trace_insert, trace_splice, pin_insert}
 use Rattle.lz_tie.specs.Reuse.{SightTold, UseTold}
 

@@ -5,19 +5,12 @@ use Rattle.std.specs.List.{list_all}
 use Rattle.std.proofs.lemmas.Bool.{cases_eq}
 use Rattle.std.proofs.lemmas.Bool.Decides.{eqb_tells}
 use Rattle.std.proofs.lemmas.List.{length-replicate}
-use Rattle.lz_slot.specs.Counted.{of_pass, set_of_pass}
+use Rattle.lz_tie.proofs.Vocabulary.{of_pass, set_of_pass, Sight, Use, Free, Limbo, use_of, has_left, collect_at, see_pin_at, sight_after, is_outside}
+use Rattle.lz_tie.proofs.Vocabulary.{Trace, IsLoose, IsAway, Sizes, Note, as_list, trace_of, pin_after, Sighting}
 use Rattle.lz_slot.proofs.Counted.{of_pass_same, of_pass_other, length-set_of_pass}
-use Rattle.lz_allot.specs.declared.sight.Sight.{Sight}
 use Rattle.lz_allot.specs.declared.sight.Sight.TheVariants.{Unseen, Inside, Left}
-use Rattle.lz_allot.specs.Uses.{Use, Free, Limbo, use_of, has_left, collect_at, see_pin_at, sight_after, is_outside}
-use Rattle.lz_list.specs.Traces.{Trace, IsLoose}
-use Rattle.lz_machine.specs.Limbo.{IsAway}
 use Rattle.lz_machine.proofs.Frames.Limbo.{away_new}
 use Rattle.lz_machine.proofs.Frames.Uses.{left_of}
-use Rattle.lz_board.specs.declared.view.Sizes.{Sizes}
-use Rattle.lz_board.specs.declared.view.Note.{Note}
-use Rattle.lz_board.specs.Notes.{as_list, trace_of, pin_after}
-use Rattle.lz_board.specs.Noting.{Sighting}
 use Rattle.lz_tie.specs.Reuse.{SightTold, UseTold}
 
 -- the use of a slot after one was set

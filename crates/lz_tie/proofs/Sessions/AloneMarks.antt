@@ -2,22 +2,10 @@
 use Rattle.std.proofs.Common.{◌≡◌, ◌⊎◌, inl, inr, ⊎_elim, ℕ, suc, List, [], ◌∷◌, ◌++◌, length, refl, sym, ap, ◌∙◌, subst, eq-eqb, if◌then◌else◌, Option, Some, None}
 use Rattle.std.proofs.lemmas.Bool.{cases_eq}
 use Rattle.std.proofs.lemmas.Option.{none-some}
-use Rattle.lz_slot.specs.declared.command.Command.{Command}
-use Rattle.lz_slot.specs.declared.format.Format.{Format}
+use Rattle.lz_tie.proofs.Vocabulary.{Command, Format, Publishing, Progress, Event, Outcome, Reply, progress_after, mark_of_turn, reply_at, Shape}
+use Rattle.lz_tie.proofs.Vocabulary.{Moment, What, Note, unless_replied, place, placed, steps_of}
 use Rattle.lz_slot.specs.declared.history.Mark.TheVariants.{Call}
-use Rattle.lz_list.specs.declared.publishing.Publishing.{Publishing}
-use Rattle.lz_machine.specs.declared.caller.Progress.{Progress}
-use Rattle.lz_machine.specs.declared.event.Event.{Event}
-use Rattle.lz_machine.specs.declared.event.Outcome.{Outcome}
-use Rattle.lz_machine.specs.declared.event.Reply.{Reply}
-use Rattle.lz_machine.specs.Calls.{progress_after}
-use Rattle.lz_machine.specs.Runs.{mark_of_turn, reply_at}
-use Rattle.lz_machine.specs.Yards.{Shape}
-use Rattle.lz_board.specs.declared.moment.Moment.{Moment}
-use Rattle.lz_board.specs.declared.view.What.{What}
 use Rattle.lz_board.specs.declared.view.What.TheVariants.{Called, Played, Found}
-use Rattle.lz_board.specs.declared.view.Note.{Note}
-use Rattle.lz_board.specs.Notes.{unless_replied, place, placed, steps_of}
 use Rattle.lz_board.proofs.Upkeep.Splice.{own_step, other_step}
 use Rattle.lz_tie.specs.Marks.{calls_in, last_call_number, reply_in, marks_with, marks_in}
 use Rattle.lz_tie.specs.OwnCalls.{replied, told_with, told}

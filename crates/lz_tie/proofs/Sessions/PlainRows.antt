@@ -1,16 +1,11 @@
 -- A reply of the plain set: what it leaves, and what a history makes of it.
 use Rattle.std.proofs.Common.{◌≡◌, ◌⊎◌, inl, inr, ⊎_elim, ℕ, false, true, ◌∷◌, sym, ◌∙◌}
 use mathlib.Core.Bool.{false≢true, true≢false}
-use Rattle.lz_slot.specs.declared.command.Command.{Command}
+use Rattle.lz_tie.proofs.Vocabulary.{Command, History, Keys, Same, after, Reply, mark_of, has_cut, IsPlain}
 use Rattle.lz_slot.specs.declared.command.Command.TheVariants.{Add, Remove, Has}
 use Rattle.lz_slot.specs.declared.history.Mark.TheVariants.{Call}
-use Rattle.lz_slot.specs.Histories.{History}
-use Rattle.lz_slot.specs.Sets.{Keys, Same, after}
 use Rattle.lz_slot.proofs.Sets.{after_same}
-use Rattle.lz_machine.specs.declared.event.Reply.{Reply}
 use Rattle.lz_machine.specs.declared.event.Reply.TheVariants.{Yes, No, Full, Worn, OldFile, Halted, Device}
-use Rattle.lz_machine.specs.Runs.{mark_of}
-use Rattle.lz_machine.specs.Alone.{has_cut, IsPlain}
 use Rattle.lz_tie.specs.OneCaller.{PlainRow}
 use Rattle.lz_tie.specs.Sessions.{cuts_off}
 

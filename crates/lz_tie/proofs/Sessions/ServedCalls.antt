@@ -1,17 +1,9 @@
 -- The calls that a pass made one after the other, as its steps tell them, and as a history of no other calls shows them.
 use Rattle.std.proofs.Common.{◌≡◌, ⊎_elim, ℕ, suc, true, false, List, [], ◌∷◌, ◌++◌, length, refl, sym, ap, ◌∙◌, subst, arith, Option, Some}
 use Rattle.std.proofs.lemmas.Bool.{cases_Bool}
-use Rattle.lz_slot.specs.declared.command.Command.{Command}
-use Rattle.lz_slot.specs.declared.format.Format.{Format}
-use Rattle.lz_slot.specs.Histories.{History, Fits}
-use Rattle.lz_slot.specs.Sets.{Keys}
-use Rattle.lz_machine.specs.declared.event.Reply.{Reply}
-use Rattle.lz_machine.specs.Alone.{has_cut, IsPlain}
+use Rattle.lz_tie.proofs.Vocabulary.{Command, Format, History, Fits, Keys, Reply, has_cut, IsPlain, Sizes, Part, shape_of_sizes}
 use Rattle.lz_machine.proofs.Alone.Answered.{reply_ends, served_reply}
 use Rattle.lz_machine.proofs.Alone.Service.{Ended, served}
-use Rattle.lz_board.specs.declared.view.Sizes.{Sizes}
-use Rattle.lz_board.specs.declared.view.Part.{Part}
-use Rattle.lz_board.specs.Notes.{shape_of_sizes}
 use Rattle.lz_tie.specs.Answers.{Answers}
 use Rattle.lz_tie.specs.OneCaller.{IsPlainAnswer, PlainRow, keys_in}
 use Rattle.lz_tie.specs.OwnCalls.{told}

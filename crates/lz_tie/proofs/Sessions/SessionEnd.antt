@@ -1,14 +1,6 @@
 -- What is left once a session has ended.
 use Rattle.std.proofs.Common.{◌≡◌, ℕ, List, [], sym, ap, ◌∙◌, subst}
-use Rattle.lz_slot.specs.declared.format.Format.{Format}
-use Rattle.lz_slot.specs.Histories.{History, Fits}
-use Rattle.lz_slot.specs.Sets.{Same}
-use Rattle.lz_machine.specs.Alone.{IsPlain}
-use Rattle.lz_list.specs.Traces.{Trace}
-use Rattle.lz_board.specs.declared.view.Note.{Note}
-use Rattle.lz_board.specs.declared.view.Part.{Part}
-use Rattle.lz_board.specs.Notes.{shape_of_sizes}
-use Rattle.lz_board.specs.Seats.{BoardId}
+use Rattle.lz_tie.proofs.Vocabulary.{Format, History, Fits, Same, IsPlain, Trace, Note, Part, shape_of_sizes, BoardId}
 use Rattle.lz_tie.specs.Marks.{marks_in}
 use Rattle.lz_tie.specs.OneCaller.{keys_in}
 use Rattle.lz_tie.specs.OwnCalls.{told}

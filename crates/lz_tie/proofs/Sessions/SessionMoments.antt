@@ -1,22 +1,10 @@
 -- What might have been left at a moment of a session: by then some first ones of its calls were done, and the next one may have
 -- been under way.
 use Rattle.std.proofs.Common.{◌≡◌, ◌⊎◌, inl, inr, ⊎_elim, ℕ, suc, List, [], ◌∷◌, ◌++◌, length, refl, sym, ap, ◌∙◌, subst, append_assoc, Option, Some, None}
-use Rattle.lz_slot.specs.declared.command.Command.{Command}
-use Rattle.lz_slot.specs.declared.format.Format.{Format}
-use Rattle.lz_slot.specs.declared.history.Mark.{Mark}
+use Rattle.lz_tie.proofs.Vocabulary.{Command, Format, Mark, History, Fits, Keys, Reply, IsPlain, mark_of, Shape, Trace, Note, Part, shape_of_sizes}
+use Rattle.lz_tie.proofs.Vocabulary.{BoardId}
 use Rattle.lz_slot.specs.declared.history.Mark.TheVariants.{Call}
-use Rattle.lz_slot.specs.Histories.{History, Fits}
-use Rattle.lz_slot.specs.Sets.{Keys}
-use Rattle.lz_machine.specs.declared.event.Reply.{Reply}
-use Rattle.lz_machine.specs.Alone.{IsPlain}
-use Rattle.lz_machine.specs.Runs.{mark_of}
-use Rattle.lz_machine.specs.Yards.{Shape}
 use Rattle.lz_machine.proofs.Alone.Service.{served_open}
-use Rattle.lz_list.specs.Traces.{Trace}
-use Rattle.lz_board.specs.declared.view.Note.{Note}
-use Rattle.lz_board.specs.declared.view.Part.{Part}
-use Rattle.lz_board.specs.Notes.{shape_of_sizes}
-use Rattle.lz_board.specs.Seats.{BoardId}
 use Rattle.lz_tie.specs.Marks.{marks_with, marks_in}
 use Rattle.lz_tie.specs.Moments.{ExplainsBegun}
 use Rattle.lz_tie.specs.OneCaller.{keys_in}

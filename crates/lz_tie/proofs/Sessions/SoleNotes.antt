@@ -1,15 +1,6 @@
 -- In a set of one pass the notes are its steps and what the pen found.
 use Rattle.std.proofs.Common.{◌≡◌, inl, inr, ⊎_elim, ℕ, List, [], ◌∷◌, sym, ap, ◌∙◌, subst, arith}
-use Rattle.lz_disk.specs.Devices.{Device}
-use Rattle.lz_machine.specs.Yards.{Yard}
-use Rattle.lz_board.specs.declared.view.Sizes.{Sizes}
-use Rattle.lz_board.specs.declared.view.Note.{Note}
-use Rattle.lz_board.specs.declared.view.Part.{Part}
-use Rattle.lz_board.specs.Notes.{shape_of_sizes}
-use Rattle.lz_board.specs.Kept.{Knows}
-use Rattle.lz_board.specs.Plays.{knowing}
-use Rattle.lz_board.specs.Seats.{BoardId}
-use Rattle.lz_list.specs.Traces.{Trace}
+use Rattle.lz_tie.proofs.Vocabulary.{Device, Yard, Sizes, Note, Part, shape_of_sizes, Knows, knowing, BoardId, Trace}
 use Rattle.lz_tie.specs.Holds.{IsLocked}
 use Rattle.lz_tie.specs.OwnCalls.{told}
 use Rattle.lz_tie.specs.Sessions.{TellsAlone, marks_alone}

@@ -4,31 +4,18 @@ use mathlib.Core.Bool.{false≢true}
 use Rattle.std.specs.List.{list_any}
 use Rattle.std.proofs.lemmas.Bool.{cases_Bool, cases_eq}
 use Rattle.std.proofs.lemmas.List.Folds.{list_any-append}
-use Rattle.lz_disk.specs.Images.{Medium}
-use Rattle.lz_allot.specs.Uses.{is_outside}
-use Rattle.lz_list.specs.declared.word.Word.{Word}
+use Rattle.lz_tie.proofs.Vocabulary.{Medium, is_outside, Word, Publishing, Words, get, Trace, word_after, Course, Shape, Yard, actor_at, course, line}
+use Rattle.lz_tie.proofs.Vocabulary.{line_on, line_publishes, published_on, pin_of, event_at, loaded, Start, IsStart, State, Up, Down, Service}
+use Rattle.lz_tie.proofs.Vocabulary.{Caller, Transition, Calls, Turn, Fails, Looks, CrashesIn, Point, run, IsRun, MayStep, first_point, caller_at}
+use Rattle.lz_tie.proofs.Vocabulary.{next_event, HasTurn, is_of, SameBut, KeepsRun, next_hop, hop_of, hop_of_caller, TraceSound, Sizes, What, Note}
+use Rattle.lz_tie.proofs.Vocabulary.{Load, as_list, trace_of, steps_of, Extends, load_note, insert_load, Quiet, IsShared, Shown, place}
 use Rattle.lz_list.specs.declared.word.Word.TheVariants.{Head, Link, Key, Pin as PinOf, Halt}
-use Rattle.lz_list.specs.declared.publishing.Publishing.{Publishing}
-use Rattle.lz_list.specs.Words.{Words, get}
-use Rattle.lz_list.specs.Traces.{Trace, word_after}
 use Rattle.lz_list.proofs.Tables.WordTable.{table_at}
-use Rattle.lz_machine.specs.declared.course.Course.{Course}
 use Rattle.lz_machine.specs.declared.course.Course.TheVariants.{Refused, Plays}
 use Rattle.lz_machine.specs.declared.event.Event.TheVariants.{Hop}
 use Rattle.lz_machine.specs.declared.event.Outcome.TheVariants.{Value, Fault, NotNow}
-use Rattle.lz_machine.specs.Yards.{Shape, Yard, actor_at}
-use Rattle.lz_machine.specs.Table.{course, line, line_on, line_publishes, published_on, pin_of}
-use Rattle.lz_machine.specs.Calls.{event_at, loaded}
-use Rattle.lz_machine.specs.Runs.{Start, IsStart, State, Up, Down, Service, Caller, Transition, Calls, Turn, Fails, Looks, CrashesIn, Point, run, IsRun, MayStep, first_point, caller_at, next_event, HasTurn}
-use Rattle.lz_machine.specs.Laws.{is_of, SameBut, KeepsRun, next_hop, hop_of, hop_of_caller}
-use Rattle.lz_machine.specs.Sound.{TraceSound}
 use Rattle.lz_machine.proofs.Theorem.Reached.{reached_sound, walks_move, up_at}
-use Rattle.lz_board.specs.declared.view.Sizes.{Sizes}
-use Rattle.lz_board.specs.declared.view.What.{What}
 use Rattle.lz_board.specs.declared.view.What.TheVariants.{Called, Played, Found}
-use Rattle.lz_board.specs.declared.view.Note.{Note}
-use Rattle.lz_board.specs.declared.view.Load.{Load}
-use Rattle.lz_board.specs.Notes.{as_list, trace_of, steps_of, Extends, load_note, insert_load, Quiet, IsShared, Shown, place}
 use Rattle.lz_board.proofs.Upkeep.Splice.{at_place, other_step}
 use Rattle.lz_tie.specs.NotedRuns.{TellsTurn, TellsFault, TellsStep, TellsLooks, TellsOf, NoteTells, ReadsAs, viewed, IsHopAt}
 use Rattle.lz_tie.proofs.Reading.TraceNotes.{trace_reads}

@@ -1,11 +1,7 @@
 -- Notes with all loads of a pass put in are read as a run that differs in the pass's call alone.
 use Rattle.std.proofs.Common.{◌≡◌, ℕ, ◌≤◌, List, [], ◌∷◌, ◌++◌, length, refl, sym, ap, ◌∙◌, subst, arith}
-use Rattle.lz_machine.specs.Runs.{Start, IsStart, State, Up, Down, Transition, Turn, Point, run, IsRun, first_point}
-use Rattle.lz_machine.specs.Laws.{SameBut}
-use Rattle.lz_board.specs.declared.view.Sizes.{Sizes}
-use Rattle.lz_board.specs.declared.view.Note.{Note}
-use Rattle.lz_board.specs.declared.view.Load.{Load}
-use Rattle.lz_board.specs.Notes.{trace_of, steps_of, splice, Quiet, InOrder, Shown, AllShown, place}
+use Rattle.lz_tie.proofs.Vocabulary.{Start, IsStart, State, Up, Down, Transition, Turn, Point, run, IsRun, first_point, SameBut, Sizes, Note, Load}
+use Rattle.lz_tie.proofs.Vocabulary.{trace_of, steps_of, splice, Quiet, InOrder, Shown, AllShown, place}
 use Rattle.lz_board.proofs.Upkeep.Splice.{trace_splice, steps_splice, quiet_splice, least_load}
 use Rattle.lz_tie.specs.NotedRuns.{ReadsAs, AreNext, IsHopAt}
 use Rattle.lz_tie.proofs.Splicing.LoadInsertion.{insert_reads}

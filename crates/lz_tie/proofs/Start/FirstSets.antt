@@ -1,18 +1,9 @@
 -- A set begins with the members that the text holds which its open read, and such a text explains what was seen before the first call.
 use Rattle.std.proofs.Common.{◌≡◌, inl, ℕ, List, [], ◌∷◌, refl, sym, ap, ◌∙◌, subst, le_refl, append-nil, IsTrue}
-use Rattle.lz_slot.specs.Sets.{Keys, Same}
-use Rattle.lz_slot.specs.Histories.{Runs}
-use Rattle.lz_slot.specs.Bytes.{Holds}
+use Rattle.lz_tie.proofs.Vocabulary.{Keys, Same, Runs, Holds, Device, IsImage, at_rest, Yard, first_trace, opened_service, OpensYard, Note, sizes_in}
+use Rattle.lz_tie.proofs.Vocabulary.{opened_by, BoardId}
 use Rattle.lz_slot.proofs.Files.HeldSets.{holds_same_set}
-use Rattle.lz_disk.specs.Devices.{Device}
-use Rattle.lz_disk.specs.Images.{IsImage, at_rest}
-use Rattle.lz_machine.specs.Yards.{Yard, first_trace}
-use Rattle.lz_machine.specs.Runs.{opened_service}
 use Rattle.lz_machine.proofs.Open.FirstPoint.{one_set}
-use Rattle.lz_yard.specs.Filling.{OpensYard}
-use Rattle.lz_board.specs.declared.view.Note.{Note}
-use Rattle.lz_board.specs.Opened.{sizes_in, opened_by}
-use Rattle.lz_board.specs.Seats.{BoardId}
 use Rattle.lz_board.proofs.Start.FirstWords.{opens_text}
 use Rattle.lz_tie.specs.Holds.{sizes_of}
 use Rattle.lz_tie.specs.RunningSets.{Explains, members_of}

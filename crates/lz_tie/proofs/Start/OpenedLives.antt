@@ -1,9 +1,7 @@
 -- A set's life as it begins: its vault isn't dead.
 use Rattle.std.proofs.Common.{ℕ, [], refl, sym, ◌∙◌, arith}
 use mathlib.Core.Bool.{false≢true}
-use Rattle.lz_disk.specs.Devices.{Device}
-use Rattle.lz_machine.specs.Yards.{Yard}
-use Rattle.lz_yard.specs.Filling.{OpensYard}
+use Rattle.lz_tie.proofs.Vocabulary.{Device, Yard, OpensYard}
 use Rattle.lz_tie.specs.Lives.{LivesOn}
 
 -- since the open was done

@@ -2,21 +2,11 @@
 use Rattle.std.proofs.Common.{◌≡◌, ◌≢◌, inl, Bool, false, List, [], length, zero, suc, refl, sym, ap, ◌∙◌, subst, ℕ, Some, None, is_some, IsTrue, replicate}
 use Rattle.std.proofs.lemmas.List.{length-replicate}
 use mathlib.Core.Bool.{false≢true}
-use Rattle.lz_slot.specs.Counted.{of_pass}
-use Rattle.lz_disk.specs.Devices.{Device}
-use Rattle.lz_disk.specs.Images.{Medium, at_rest}
-use Rattle.lz_allot.specs.Uses.{Use, Free, Taken, Limbo, use_of}
-use Rattle.lz_list.specs.Traces.{Trace}
+use Rattle.lz_tie.proofs.Vocabulary.{of_pass, Device, Medium, at_rest, Use, Free, Taken, Limbo, use_of, Trace, Yard, opened_yard, first_trace}
+use Rattle.lz_tie.proofs.Vocabulary.{idle_actor, slots_read, IsStart, opened_service, OpensYard, Sizes, Note, sizes_in, opened_by, AreOpened, BoardId}
 use Rattle.lz_list.proofs.Tables.WordTable.{length-table}
-use Rattle.lz_machine.specs.Yards.{Yard, opened_yard, first_trace, idle_actor, slots_read}
-use Rattle.lz_machine.specs.Runs.{IsStart, opened_service}
 use Rattle.lz_machine.proofs.Frames.Limbo.{away_new}
 use Rattle.lz_machine.proofs.Open.FoundSlots.{no_limbo_read}
-use Rattle.lz_yard.specs.Filling.{OpensYard}
-use Rattle.lz_board.specs.declared.view.Sizes.{Sizes}
-use Rattle.lz_board.specs.declared.view.Note.{Note}
-use Rattle.lz_board.specs.Opened.{sizes_in, opened_by, AreOpened}
-use Rattle.lz_board.specs.Seats.{BoardId}
 use Rattle.lz_board.proofs.Start.FirstWords.{opens_text}
 use Rattle.lz_tie.specs.NotedRuns.{IsTied}
 use Rattle.lz_tie.specs.Holds.{sizes_of, IsLocked}

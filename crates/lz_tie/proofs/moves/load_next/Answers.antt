@@ -1,5 +1,4 @@
-use Rattle.lz_board.specs.Seats.{id_of, part}
-use Rattle.lz_machine.specs.Orders.{shape_with}
+use Rattle.lz_tie.proofs.Vocabulary.{id_of, part, shape_with}
 use Rattle.lz_tie.proofs.Calls.CallLoad.{load_place}
 use Rattle.lz_tie.proofs.Calls.CountedMoves.{takes_value, counted_load}
 use Rattle.lz_tie.proofs.moves.load_next.Goals as goal

@@ -1,11 +1,7 @@
 use Rattle.std.proofs.Common.{◌≤◌, ℕ, sym, ap, ◌∙◌, subst}
-use Rattle.lz_list.specs.Hops.{told}
+use Rattle.lz_tie.proofs.Vocabulary.{told, progress_after, Calling, IsLoading, MayTake, shape_with, id_of, part, with_look}
 use Rattle.lz_machine.specs.declared.event.Event.TheVariants.{Hop}
 use Rattle.lz_machine.specs.declared.event.Outcome.TheVariants.{Value}
-use Rattle.lz_machine.specs.Calls.{progress_after}
-use Rattle.lz_machine.specs.Orders.{Calling, IsLoading, MayTake, shape_with}
-use Rattle.lz_board.specs.Seats.{id_of, part}
-use Rattle.lz_caller.specs.Walking.{with_look}
 use Rattle.lz_tie.proofs.Calls.CountedMoves.{counted_load, shared_word, takes_value}
 use Rattle.lz_tie.proofs.Calls.WalkedLoad as walked
 use Rattle.lz_tie.proofs.moves.walk_on.Goals as goal

@@ -1,11 +1,5 @@
 use Rattle.std.proofs.Common.{◌≡◌, ◌≢◌, ℕ, ◌<◌, sym, ap, ◌∙◌, subst, rules}
-use Rattle.lz_disk.specs.Devices.{Device}
-use Rattle.lz_board.specs.declared.board.Pen.{Pen}
-use Rattle.lz_board.specs.declared.pass.Pass.{Pass}
-use Rattle.lz_board.specs.declared.view.Note.{Note}
-use Rattle.lz_board.specs.Notes.{note_by, stamped}
-use Rattle.lz_board.specs.Plays.{noted}
-use Rattle.lz_board.specs.Seats.{IsAtHand, carried, id_of, notes}
+use Rattle.lz_tie.proofs.Vocabulary.{Device, Pen, Pass, Note, note_by, stamped, noted, IsAtHand, carried, id_of, notes}
 use Rattle.lz_list.specs.declared.word.Word.TheVariants.{Pin as pin_at}
 use Rattle.lz_tie.specs.Holds.{InHold, HoldNotes, what_of}
 use Rattle.lz_tie.proofs.Hold.CoveredSync.{spares}

@@ -2,9 +2,7 @@ use Rattle.std.proofs.Common.{◌≢◌, ℕ, List, sym, ap, subst}
 use mathlib.Core.Bool.{false≢true}
 use Rattle.lz_machine.specs.declared.event.Event.TheVariants.{Answer, SeePin}
 use Rattle.lz_machine.proofs.Theorem.Readiness.{is_invoke}
-use Rattle.lz_board.specs.declared.view.Note.{Note}
-use Rattle.lz_board.specs.declared.view.Part.{Part}
-use Rattle.lz_board.specs.Seats.{BoardId, IsPenOf, carried, id_of, notes, part}
+use Rattle.lz_tie.proofs.Vocabulary.{Note, Part, BoardId, IsPenOf, carried, id_of, notes, part}
 use Rattle.lz_tie.specs.Held.{WentOn}
 use Rattle.lz_tie.specs.Holds.{IsLocked}
 use Rattle.lz_tie.proofs.Calls.CountedMoves.{answers_so, end_shows, next_answer, plain_so, then_idle}

@@ -1,12 +1,6 @@
 use Rattle.std.proofs.Common.{◌≡◌, ◌≤◌, ◌∷◌, ℕ, List, refl, sym, ap, ◌∙◌, subst}
-use Rattle.lz_slot.specs.Limits.{largest_key}
-use Rattle.lz_machine.specs.declared.event.Outcome.{Outcome}
-use Rattle.lz_caller.specs.Begun.{begun_after}
-use Rattle.lz_board.specs.declared.view.Note.{Note}
-use Rattle.lz_board.specs.declared.view.Part.{Part}
-use Rattle.lz_board.specs.Notes.{trace_of}
-use Rattle.lz_board.specs.Plays.{found_note}
-use Rattle.lz_board.specs.Seats.{BoardId, IsPenOf, carried, id_of, notes, part}
+use Rattle.lz_tie.proofs.Vocabulary.{largest_key, Outcome, begun_after, Note, Part, trace_of, found_note, BoardId, IsPenOf, carried, id_of, notes}
+use Rattle.lz_tie.proofs.Vocabulary.{part}
 use Rattle.lz_tie.specs.Held.{Began}
 use Rattle.lz_tie.specs.Holds.{IsIdle, IsLocked}
 use Rattle.lz_tie.proofs.Calls.CountedMoves.{counted_new}

@@ -1,8 +1,5 @@
 use Rattle.std.proofs.Common.{◌≡◌, ◌⊎◌, ◌≤◌, ◌<◌, sym, subst}
-use Rattle.lz_vault.specs.Vaults.{last_sync}
-use Rattle.lz_list.specs.Traces.{halt_word}
-use Rattle.lz_board.specs.Notes.{trace_of}
-use Rattle.lz_board.specs.Seats.{notes}
+use Rattle.lz_tie.proofs.Vocabulary.{last_sync, halt_word, trace_of, notes}
 use Rattle.lz_tie.specs.Moments.{ExplainedSince}
 use Rattle.lz_tie.proofs.Moments.HeldMoments.{since_explained}
 use Rattle.lz_tie.proofs.Lives.HaltedVault.{over_halted}

@@ -1,8 +1,5 @@
 use Rattle.std.proofs.Common.{◌+◌, ◌≤◌, subst, arith}
-use Rattle.lz_machine.specs.Halts.{HaltLasts, told_device}
-use Rattle.lz_machine.specs.Marks.{IsTold}
-use Rattle.lz_board.specs.Notes.{shape_of_sizes}
-use Rattle.lz_board.specs.Seats.{notes}
+use Rattle.lz_tie.proofs.Vocabulary.{HaltLasts, told_device, IsTold, shape_of_sizes, notes}
 use Rattle.lz_tie.specs.Holds.{IsLocked}
 use Rattle.lz_tie.specs.Marks.{AreOfPasses, marks_in}
 use Rattle.lz_tie.specs.RunningSets.{HasHistory}

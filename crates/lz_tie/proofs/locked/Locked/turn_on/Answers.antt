@@ -1,11 +1,6 @@
 use Rattle.std.proofs.Common.{◌≡◌, ℕ, List, sym, ap, ◌∙◌, subst}
-use Rattle.lz_machine.specs.declared.event.Event.{Event}
+use Rattle.lz_tie.proofs.Vocabulary.{Event, hop_of, Note, Part, IsWalkable, BoardId, IsPenOf, carried, id_of, notes, part}
 use Rattle.lz_machine.specs.declared.event.Event.TheVariants.{Sync}
-use Rattle.lz_machine.specs.Laws.{hop_of}
-use Rattle.lz_board.specs.declared.view.Note.{Note}
-use Rattle.lz_board.specs.declared.view.Part.{Part}
-use Rattle.lz_board.specs.Addresses.{IsWalkable}
-use Rattle.lz_board.specs.Seats.{BoardId, IsPenOf, carried, id_of, notes, part}
 use Rattle.lz_tie.specs.declared.locked.Locked.TheInside.{Inside}
 use Rattle.lz_tie.specs.Held.{SparesDevice, WentOn}
 use Rattle.lz_tie.specs.Holds.{IsLocked}

@@ -1,8 +1,5 @@
 use Rattle.std.proofs.Common.{◌≡◌, ◌∙◌, sym, subst}
-use Rattle.lz_board.specs.declared.view.Part.{Part}
-use Rattle.lz_board.specs.Notes.{Extends, steps_of, trace_of}
-use Rattle.lz_board.specs.Kept.{Knows}
-use Rattle.lz_board.specs.Seats.{BoardId, id_of, notes, part}
+use Rattle.lz_tie.proofs.Vocabulary.{Part, Extends, steps_of, trace_of, Knows, BoardId, id_of, notes, part}
 use Rattle.lz_tie.specs.OwnCalls.{TellsOwn}
 use Rattle.lz_tie.specs.Sessions.{TellsAlone}
 use Rattle.lz_tie.proofs.Marks.OwnCalls.{tells_own}
