@@ -1,9 +1,9 @@
 //! What a frame asks for.
-ghost use Rattle.std.specs.Prelude.{◌≡◌, ◌≤◌, ◌<◌, IfOk, Some, map, length, true};
+ghost use Rattle.std.specs.Prelude.{◌≡◌, ◌≤◌, ◌<◌, IfOk, None, Some, map, length, true};
 ghost use Rattle.lz_slot.specs.Limits.{last_room};
-ghost use Rattle.lz_resp.specs.Commands.{in_subset, in_named, in_unnamed, is_saving, item_by, item_of, may_shut_down, requests_of, room_by, sections_in, selected_after, selected_by, with_value};
+ghost use Rattle.lz_resp.specs.Commands.{in_subset, in_named, in_unnamed, is_saving, item_by, item_of, item_with, may_shut_down, no_key, requests_of, room_by, sections_in, selected_after, selected_by, with_value, wrong_count};
 ghost use Rattle.lz_resp.specs.Keys.{IsThere, IsRoom, subset_of};
-ghost use Rattle.lz_resp.specs.Names.{takes};
+ghost use Rattle.lz_resp.specs.Names.{name_of, takes};
 
 use crate::command::{Command, command_of, is_word};
 use crate::errors::{no_room, unknown, wrong_count};
@@ -19,29 +19,44 @@ use crate::text::{Text, bulk, error};
 use crate::words::{after, word};
 use std::alloc::{AllocError, Global};
 
-/// What a frame of some words comes to, where this is selected, and what is selected after it.
+/// What a frame of some words comes to, and what is selected after it.
 pub(crate) fn item_of(
     alloc: Global,
-    selected: Selected,
+    selected: &mut Selected,
     words: &[&[u8]],
-) -> Result<(Item, Selected), AllocError>
+) -> Result<Item, AllocError>
     requires some { 0 < length words.now }
-    requires range { IsRoom selected }
-    ensures item { IfOk result (λ p. p.0 ≡ item_of selected (map (λ word. word.now) words.now)) }
-    ensures selected { IfOk result (λ p. p.1 ≡ selected_after selected (map (λ word. word.now) words.now)) }
-    ensures range { IfOk result (λ p. IsRoom p.1) }
+    requires range { IsRoom selected.old }
+    ensures item { IfOk result (λ item. item ≡ item_of selected.old (map (λ word. word.now) words.now)) }
+    ensures selected { selected.new ≡ selected_after selected.old (map (λ word. word.now) words.now) }
+    ensures range { IsRoom selected.new }
 {
     let Some(command) = command_of(word(words, 0)) else {
-        return Ok((Item::Says(unknown(alloc, words)?), selected));
+        return no_command(alloc, words);
     };
     if !command.takes(words.len()) {
-        return Ok((
-            Item::Says(wrong_count(alloc, command.name().as_bytes())?),
-            selected,
-        ));
+        return not_taken(alloc, command);
     }
-    let item = item_by(alloc, command, selected, words)?;
-    Ok((item, selected_by(command, selected, words)))
+    let before = *selected;
+    *selected = selected_by(command, before, words);
+    item_by(alloc, command, before, words)
+}
+
+// The reply to a word that names no command.
+#[inline(never)]
+fn no_command(alloc: Global, words: &[&[u8]]) -> Result<Item, AllocError>
+    requires { 0 < length words.now }
+    ensures { IfOk result (λ item. item ≡ item_with None Selected.Nameless (map (λ word. word.now) words.now)) }
+{
+    Ok(Item::Says(unknown(alloc, words)?))
+}
+
+// The reply to a frame that the command doesn't take.
+#[inline(never)]
+fn not_taken(alloc: Global, command: Command) -> Result<Item, AllocError>
+    ensures { IfOk result (λ item. item ≡ Item.Says (wrong_count (name_of command))) }
+{
+    Ok(Item::Says(wrong_count(alloc, command.name().as_bytes())?))
 }
 
 // What a frame that the command takes comes to.
@@ -114,7 +129,7 @@ fn in_unnamed(
     in_subset(alloc, form, selected.unnamed(), members)
 }
 
-// Members of a subset.
+// Members of a subset. Most frames have one.
 #[inline(always)]
 fn in_subset(
     alloc: Global,
@@ -125,38 +140,30 @@ fn in_subset(
     requires { IsThere (subset_of subset) }
     ensures { IfOk result (λ item. item ≡ in_subset form (Some (subset_of subset.entry)) (map (λ word. word.now) members.now)) }
 {
+    if let [member] = members {
+        return match subset.key_of(member) {
+            Some(key) => Ok(Item::Asks(form, Requests::one(form.request(key)))),
+            None => no_key(alloc),
+        };
+    }
     match requests_of(alloc, form, subset, members)? {
         Some(requests) => Ok(Item::Asks(form, requests)),
-        None => {
-            let text = error(alloc, b"value is not an integer or out of range")?;
-            Ok(Item::Says(text))
-        }
+        None => no_key(alloc),
     }
+}
+
+// The reply to a member that is no key.
+#[inline(never)]
+fn no_key(alloc: Global) -> Result<Item, AllocError>
+    ensures { IfOk result (λ item. item ≡ Item.Says no_key) }
+{
+    let text = error(alloc, b"value is not an integer or out of range")?;
+    Ok(Item::Says(text))
 }
 
 // A request for each member, unless one is no key.
-#[inline(always)]
-fn requests_of(
-    alloc: Global,
-    form: Form,
-    subset: Subset,
-    members: &[&[u8]],
-) -> Result<Option<Requests>, AllocError>
-    requires { IsThere (subset_of subset) }
-    ensures { IfOk result (λ requests. requests ≡ requests_of form (subset_of subset.entry) (map (λ word. word.now) members.now)) }
-{
-    if let [member] = members {
-        return match subset.key_of(member) {
-            Some(key) => Ok(Some(Requests::one(form.request(key)))),
-            None => Ok(None),
-        };
-    }
-    requests_of_many(alloc, form, subset, members)
-}
-
-// The same of any members.
 #[inline(never)]
-fn requests_of_many(
+fn requests_of(
     alloc: Global,
     form: Form,
     subset: Subset,

@@ -234,7 +234,8 @@ fn add_frame(
     if words.is_empty() {
         return Ok(Next::Goes(selected, count));
     }
-    let (item, next) = item_of(alloc, selected, words)?;
+    let mut next = selected;
+    let item = item_of(alloc, &mut next, words)?;
     let goes = goes_on(&item);
     items.reserve(1)?;
     items.push_back_reserved(item);
