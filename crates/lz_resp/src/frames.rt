@@ -120,6 +120,9 @@ fn read_piece(
     ensures kept { OnErr result (kept.new.items ≡ kept.old.items) }
     ensures items { OnErr result ((more : List Item) × (items.new.items ≡ items.old.items ++ more)) }
 {
+    if kept.is_empty() {
+        return read_whole(alloc, selected, kept, piece, items);
+    }
     let before = kept.len();
     kept.extend_from_slice(piece)?;
     match add_items(alloc, selected, kept.as_slice(), items) {
@@ -133,6 +136,30 @@ fn read_piece(
             Err(error)
         }
     }
+}
+
+// The same where nothing was kept: the frames are read where they stand.
+fn read_whole(
+    alloc: Global,
+    selected: Selected,
+    kept: &mut Vec<u8>,
+    piece: &[u8],
+    items: &mut VecDeque<Item>,
+) -> Result<Option<Selected>, AllocError>
+    requires range { IsRoom selected }
+    requires none { kept.old.items ≡ [] }
+    ensures ok { IfOk result (λ next. (more : List Item) × Reads (record { selected = selected; text = piece.now }) more (option_map (λ left. record { selected = left; text = kept.new.items }) next) × (items.new.items ≡ items.old.items ++ more)) }
+    ensures range { IfOk result (λ next. IfSome next (λ left. IsRoom left)) }
+    ensures waits { IfOk result (λ next. IfSome next (λ left. (step left kept.new.items ≡ waits) × (length kept.new.items ≤ most_frame))) }
+    ensures kept { OnErr result (kept.new.items ≡ kept.old.items) }
+    ensures items { OnErr result ((more : List Item) × (items.new.items ≡ items.old.items ++ more)) }
+{
+    let Some((next, used)) = add_items(alloc, selected, piece, items)? else {
+        return Ok(None);
+    };
+    let (_, rest) = piece.split_at(used);
+    kept.extend_from_slice(rest)?;
+    Ok(Some(next))
 }
 
 // Takes so many bytes off the front.
