@@ -4,7 +4,7 @@ use Rattle.std.proofs.lemmas.List.Elements.{All-cons, All-head, All-nil, All-tai
 use Rattle.std.proofs.lemmas.Option.{slice_get_read}
 use Rattle.lz_list.specs.Traces.{Trace, Begins}
 use Rattle.lz_resp.specs.declared.scan.Scan.{Scan}
-use Rattle.lz_serve.specs.Clients.{Asker, Askers, ComesAfter, HasSeenIn, HaveSeenIn, IsAskedBy, IsAwaited, IsHeard, IsHeardAt, IsHeardOf, IsNext, IsOwn, IsOwnOf, Keeps, KeepsAwaited, KeepsHeard, KeepsLinesOf, KeepsOwn, KeepsReplies, KeepsSeen, OnlyLeave, TellsPageAt, TellsPageOf}
+use Rattle.lz_serve.specs.Clients.{Asker, Askers, ChangesAt, ComesAfter, HasSeenIn, HaveSeenIn, IsAskedBy, IsAwaited, IsHeard, IsHeardAt, IsHeardOf, IsNext, IsOwn, IsOwnOf, Keeps, KeepsAwaited, KeepsHeard, KeepsLinesOf, KeepsOwn, KeepsReplies, KeepsSeen, OnlyLeave, TakesScan, TellsPageAt, TellsPageOf}
 use Rattle.lz_serve.specs.Grants.{Posed}
 
 pub from_nothing : (known : Trace) → Begins [] known
@@ -28,6 +28,11 @@ keeps_then a b c one two = record {
 pub some_kept : (a b : Askers) (token : ℕ) (r : Option Posed) → Keeps a b → IfSome r (λ q. IsAwaited a token q) → IfSome r (λ q. IsAwaited b token q)
 some_kept a b token None keeps is = tt
 some_kept a b token (Some q) keeps is = keeps.awaited token q is
+
+-- where one doesn't wait for a page any more
+pub takes_keeps : (a b : Askers) (token : ℕ) → TakesScan a b token → Keeps a b
+takes_keeps a b token taken =
+    subst (Keeps a) (sym taken.same) (record { awaited = λ t q is. record { admitted = is.admitted; own = is.own }; heard = λ t q is heard. heard; seen = λ known are. are })
 
 -- where no client has come or changed
 
@@ -95,7 +100,7 @@ only_seen admitted known None seen = tt
 only_seen admitted known (Some a) seen = seen.1
 
 module _ {X : Type 0} (f : X → Option Asker) where
-  client_there : (places : List X) (at : ℕ) (p : X) → slice_get places at ≡ Some p → slice_get (map f places) at ≡ Some (f p)
+  pub client_there : (places : List X) (at : ℕ) (p : X) → slice_get places at ≡ Some p → slice_get (map f places) at ≡ Some (f p)
   client_there [] at p is = absurd (cc)
   client_there (x ∷ places) zero p is = let same : x ≡ p = cc in ap (λ (y : X). Some (f y)) same
   client_there (x ∷ places) (suc at) p is = client_there places at p is
@@ -142,20 +147,24 @@ module _ {X : Type 0} (f : X → Option Asker) where
   other_at (p ∷ places) (suc at) new zero other = refl
   other_at (p ∷ places) (suc at) new (suc token) other = other_at places at new token (λ same. other (ap suc same))
 
-  abbrev pub at_places : ℕ → List ℕ → List X → Askers
-  at_places n queue places = record { admitted = n; clients = map f places; queue = queue }
+  abbrev pub at_places : ℕ → List ℕ → List ℕ → List X → Askers
+  at_places n queue scans places = record { admitted = n; clients = map f places; queue = queue; scans = scans }
+
+  -- no other client has changed, as its owner sees it
+  pub changes_at : (a : Askers) (n : ℕ) {queue scans : List ℕ} (places : List X) (at : ℕ) (new : X) → at_places n queue scans places ≡ a → ChangesAt at a (at_places n queue scans (set places at new))
+  changes_at a n {queue} {scans} places at new view_is = subst (λ (b : Askers). ChangesAt at b (at_places n queue scans (set places at new))) view_is (λ t other. other_at places at new t other)
 
   -- where others wait for their turn
-  pub keeps_here : (a : Askers) (n : ℕ) {queue later : List ℕ} (places : List X) → at_places n queue places ≡ a → Keeps a (at_places n later places)
-  keeps_here a n {queue} {later} places view_is =
-      subst (λ (b : Askers). Keeps b (at_places n later places)) view_is (record { awaited = λ token q is. record { admitted = is.admitted; own = is.own }; heard = λ token q is heard. heard; seen = λ known are. are })
+  pub keeps_here : (a : Askers) (n : ℕ) {queue later scans : List ℕ} (places : List X) → at_places n queue scans places ≡ a → Keeps a (at_places n later scans places)
+  keeps_here a n {queue} {later} {scans} places view_is =
+      subst (λ (b : Askers). Keeps b (at_places n later scans places)) view_is (record { awaited = λ token q is. record { admitted = is.admitted; own = is.own }; heard = λ token q is heard. heard; seen = λ known are. are })
 
   -- the client of a place leaves
-  pub leaves_at : (a : Askers) (n : ℕ) {queue later : List ℕ} (places : List X) (at : ℕ) (new : X) → at_places n queue places ≡ a → f new ≡ None → OnlyLeave a (at_places n later (set places at new))
-  leaves_at a n {queue} {later} places at new view_is gone =
-      subst (λ (b : Askers). OnlyLeave b (at_places n later (set places at new))) view_is (record { admitted = refl; stay = λ token x is. left_there places at new token x gone is })
+  pub leaves_at : (a : Askers) (n : ℕ) {queue later scans : List ℕ} (places : List X) (at : ℕ) (new : X) → at_places n queue scans places ≡ a → f new ≡ None → OnlyLeave a (at_places n later scans (set places at new))
+  leaves_at a n {queue} {later} {scans} places at new view_is gone =
+      subst (λ (b : Askers). OnlyLeave b (at_places n later scans (set places at new))) view_is (record { admitted = refl; stay = λ token x is. left_there places at new token x gone is })
 
-  module _ (a : Askers) (n : ℕ) {queue : List ℕ} (places : List X) (at : ℕ) (old : X) (view_is : at_places n queue places ≡ a) (within : at < length places) (here : old ≡ get_or places at old) where
+  module _ (a : Askers) (n : ℕ) {queue scans : List ℕ} (places : List X) (at : ℕ) (old : X) (view_is : at_places n queue scans places ≡ a) (within : at < length places) (here : old ≡ get_or places at old) where
     there : slice_get places at ≡ Some old
     there = slice_get_read places (length places) at old refl within here
 
@@ -184,15 +193,15 @@ module _ {X : Type 0} (f : X → Option Asker) where
         subst (λ (b : Askers). HasSeenIn b.admitted known (f old)) view_is (one_there (HasSeenIn n known) places at old there (subst (λ (b : Askers). HaveSeenIn b known) (sym view_is) are))
 
     module _ (new : X) where
-      pub keeps_awaited : {later : List ℕ} → KeepsOwn (f old) (f new) → KeepsAwaited a (at_places n later (set places at new))
+      pub keeps_awaited : {later : List ℕ} → KeepsOwn (f old) (f new) → KeepsAwaited a (at_places n later scans (set places at new))
       keeps_awaited {later} own token q is =
           let mine = subst (λ (b : Askers). IsAwaited b token q) (sym view_is) is in record { admitted = mine.admitted; own = so_there (λ (c : Option Asker). IsOwnOf c q) places at old new token there (λ _. own q) mine.own }
 
-      pub keeps_heard : (later : List ℕ) → KeepsHeard (f old) (f new) → KeepsReplies a (at_places n later (set places at new))
+      pub keeps_heard : (later : List ℕ) → KeepsHeard (f old) (f new) → KeepsReplies a (at_places n later scans (set places at new))
       keeps_heard later keeps token q is heard =
           so_there (λ (c : Option Asker). IsHeardOf c q) places at old new token there (λ same was. keeps q (own_here q (subst (λ (m : ℕ). IsAwaited a m q) same is)) was) (subst (λ (b : Askers). IsHeardAt b token q) (sym view_is) heard)
 
-      pub keeps_at : {later : List ℕ} → KeepsOwn (f old) (f new) → KeepsHeard (f old) (f new) → KeepsSeen (f old) (f new) → Keeps a (at_places n later (set places at new))
+      pub keeps_at : {later : List ℕ} → KeepsOwn (f old) (f new) → KeepsHeard (f old) (f new) → KeepsSeen (f old) (f new) → Keeps a (at_places n later scans (set places at new))
       keeps_at {later} own heard seen = record {
         awaited = keeps_awaited own;
         heard = keeps_heard later heard;
@@ -204,7 +213,7 @@ module _ {X : Type 0} (f : X → Option Asker) where
       seen_at known seen are = all_there (HasSeenIn n known) (HasSeenIn n known) (λ c is. is) places at old new there (seen n) (subst (λ (b : Askers). HaveSeenIn b known) (sym view_is) are)
 
       -- a question that the client of this place puts is awaited here
-      pub asked_at : {later : List ℕ} → (q : Posed) (known : Trace) → KeepsSeen (f old) (f new) → HaveSeenIn a known → IsAskedBy (f new) q → IsAwaited (at_places n later (set places at new)) at q
+      pub asked_at : {later : List ℕ} → (q : Posed) (known : Trace) → KeepsSeen (f old) (f new) → HaveSeenIn a known → IsAskedBy (f new) q → IsAwaited (at_places n later scans (set places at new)) at q
       asked_at {later} q known seen are asked = record { admitted = numbered (f new) asked (seen n known mine); own = one_so (λ (c : Option Asker). IsOwnOf c q) places at new (of_asked (f new) asked) }
         where
           mine : HasSeenIn n known (f old)
@@ -218,13 +227,13 @@ module _ {X : Type 0} (f : X → Option Asker) where
           of_asked None is = tt
           of_asked (Some x) is = is.1
 
-      pub some_asked : (later : List ℕ) (r : Option Posed) (known : Trace) → KeepsSeen (f old) (f new) → HaveSeenIn a known → IfSome r (λ q. IsAskedBy (f new) q) → IfSome r (λ q. IsAwaited (at_places n later (set places at new)) at q)
+      pub some_asked : (later : List ℕ) (r : Option Posed) (known : Trace) → KeepsSeen (f old) (f new) → HaveSeenIn a known → IfSome r (λ q. IsAskedBy (f new) q) → IfSome r (λ q. IsAwaited (at_places n later scans (set places at new)) at q)
       some_asked later None known seen are asked = tt
       some_asked later (Some q) known seen are asked = asked_at q known seen are asked
 
-  module _ (a : Askers) (n : ℕ) {queue later : List ℕ} (places : List X) (at : ℕ) (old new : X) (client : Asker) (view_is : at_places n queue places ≡ a) (within : at < length places) (here : old ≡ get_or places at old) where
+  module _ (a : Askers) (n : ℕ) {queue later scans : List ℕ} (places : List X) (at : ℕ) (old new : X) (client : Asker) (view_is : at_places n queue scans places ≡ a) (within : at < length places) (here : old ≡ get_or places at old) where
     -- a client is admitted, with a number of its own
-    pub admits_at : f new ≡ Some client → client.connection ≡ n + 1 → client.seen ≡ [] → Keeps a (at_places (n + 1) later (set places at new))
+    pub admits_at : f new ≡ Some client → client.connection ≡ n + 1 → client.seen ≡ [] → Keeps a (at_places (n + 1) later scans (set places at new))
     admits_at is numbered unseen = record {
       awaited = λ token q awaited.
           let mine = subst (λ (b : Askers). IsAwaited b token q) (sym view_is) awaited in

@@ -22,6 +22,7 @@ pub mod Desks
 pub mod Meetings
 pub mod InTurn
 pub mod ClientRows
+pub mod TextsTold
 pub mod TurnRows
 pub mod OwnLines
 pub mod OwnLinesRows

@@ -1,5 +1,5 @@
 -- Worked exchanges that ask for a page.
-use Rattle.std.proofs.Common.{◌≡◌, ℕ, true, false, List, [], ◌∷◌, All, Ok, Err, Some, None, refl, sym, ap, ◌∙◌, subst, arith, codes, lit<}
+use Rattle.std.proofs.Common.{◌≡◌, ℕ, zero, suc, true, false, List, [], ◌∷◌, All, Ok, Err, Some, None, refl, sym, ap, ◌∙◌, subst, arith, codes, lit<}
 use Rattle.std.proofs.lemmas.List.Elements.{All-head}
 use Rattle.std.specs.Fmt.{digits}
 use Rattle.lz_list.specs.Traces.{Begins, Trace}
@@ -8,8 +8,9 @@ use Rattle.lz_proto.specs.declared.end.End.TheVariants.{Done, Quit}
 use Rattle.lz_resp.specs.declared.scan.Scan.{Scan}
 use Rattle.lz_board.specs.declared.answer.GlanceFault.TheVariants as fault
 use Rattle.lz_board.specs.declared.page.Page.{Page}
+use Rattle.lz_board.specs.declared.pass.Pass.{Pass}
 use Rattle.lz_board.specs.Seats.{part}
-use Rattle.lz_serve.specs.Clients.{Asker, Askers, AwaitsPage, TellsPage, TellsPageAt}
+use Rattle.lz_serve.specs.Clients.{Asker, Askers, AwaitsNoPage, AwaitsNoneAt, AwaitsPage, AwaitsPageAt, ChangesAt, MayTellPage, TakesScan, TellsPage, TellsPageAt, left, listed, nobody}
 use Rattle.lz_serve.specs.Conversations.{IsPageFor, IsTold}
 use Rattle.lz_serve.specs.Exchanges.{lists}
 use Rattle.lz_serve.specs.Grants.{Grant}
@@ -56,6 +57,38 @@ told awaits there = lit< tt
 lost : TellsPage (lister (turn.Lists first ∷ [])) first (record (lister (turn.Lists first ∷ [])) { lost = true })
 lost awaits there = absurd (cc)
 
+-- the second place's client waits for a page
+abbrev at_second : List Turn → Askers
+at_second turns = record { admitted = 1; clients = None ∷ Some (lister turns) ∷ []; queue = []; scans = [] }
+
+abbrev waits : List Turn → Askers
+waits turns = record (at_second turns) { scans = 1 ∷ [] }
+
+-- it was told it
+told_there : TellsPageAt (at_second (turn.Lists first ∷ [])) 1 first (at_second [])
+told_there awaits there = lit< tt
+
+no_other : ChangesAt 1 (waits (turn.Lists first ∷ [])) (at_second [])
+no_other zero other = refl
+no_other (suc zero) other = absurd (other refl)
+no_other (suc (suc t)) other = refl
+
+page_told : (p q : Pass) → MayTellPage (waits (turn.Lists first ∷ [])) (at_second []) p q
+page_told p q = listed 1 first refl (record { awaited = asks_it; told = told_there; others = no_other })
+  where
+    asks_it : AwaitsPageAt (waits (turn.Lists first ∷ [])) 1 first
+    asks_it = (refl, refl, refl)
+
+-- a page was listed for none where none awaits one
+awaits_none : AwaitsNoPage (lister [])
+awaits_none scan awaits = let its = awaits.2 in absurd (cc)
+
+none_there : (p : Pass) → MayTellPage (waits []) (at_second []) p p
+none_there p = left 1 (record { stood = refl; same = refl }) awaits_none refl
+
+none_waits : (p : Pass) → MayTellPage (at_second (turn.Lists first ∷ [])) (at_second (turn.Lists first ∷ [])) p p
+none_waits p = nobody refl refl refl
+
 -- What must not hold.
 
 nothing_begun : (e : Publishing) → Begins (e ∷ []) [] → ⊥
@@ -98,12 +131,62 @@ untold : TellsPage (lister (turn.Lists first ∷ [])) first (lister (turn.Lists 
 untold tells = let fewer = tells (refl, refl, refl) refl in absurd (omega (arith, fewer))
 
 -- at the second place none was told
-abbrev at_second : List Turn → Askers
-at_second turns = record { admitted = 1; clients = None ∷ Some (lister turns) ∷ []; queue = [] }
-
 untold_there : TellsPageAt (at_second (turn.Lists first ∷ [])) 1 first (at_second (turn.Lists first ∷ [])) → ⊥
 untold_there tells = untold tells
 
--- (that it was holds)
-told_there : TellsPageAt (at_second (turn.Lists first ∷ [])) 1 first (at_second [])
-told_there awaits there = lit< tt
+-- who awaits one awaits none
+awaits_and_not : AwaitsNoneAt (at_second (turn.Lists first ∷ [])) 1 → ⊥
+awaits_and_not none = none first (refl, refl, refl)
+
+-- nobody awaits one
+nobody_awaits : AwaitsPageAt (at_second (turn.Lists first ∷ [])) 0 first → ⊥
+nobody_awaits awaits = awaits
+
+which : (token : ℕ) → 1 ∷ [] ≡ token ∷ [] → token ≡ 1
+which token is = cc
+
+-- a page was listed for one that waited, and told to nobody
+told_to_nobody : (p q : Pass) → MayTellPage (waits (turn.Lists first ∷ [])) (at_second (turn.Lists first ∷ [])) p q → ⊥
+told_to_nobody p q (nobody none same kept) = absurd (cc)
+told_to_nobody p q (left token taken none kept) = awaits_and_not (subst (AwaitsNoneAt (waits (turn.Lists first ∷ []))) (which token taken.stood) none)
+told_to_nobody p q (listed token scan stood paged) =
+    let awaited = subst (λ (t : ℕ). AwaitsPageAt (waits (turn.Lists first ∷ [])) t scan) (which token stood) paged.awaited in
+    let told = subst (λ (t : ℕ). TellsPageAt (waits (turn.Lists first ∷ [])) t scan (at_second (turn.Lists first ∷ []))) (which token stood) paged.told in
+    let fewer = told awaited refl in
+    absurd (omega (arith, fewer))
+
+-- it was told to the first, where the second waited
+abbrev both : List Turn → List Turn → List ℕ → Askers
+both one two scans = record { admitted = 2; clients = Some (lister one) ∷ Some (lister two) ∷ []; queue = []; scans = scans }
+
+told_to_another : (p q : Pass) → MayTellPage (both (turn.Lists first ∷ []) (turn.Lists first ∷ []) (1 ∷ [])) (both [] (turn.Lists first ∷ []) []) p q → ⊥
+told_to_another p q (nobody none same kept) = absurd (cc)
+told_to_another p q (left token taken none kept) =
+    let same = ap (λ (a : Askers). a.clients) taken.same in
+    let one : lister [] ≡ lister (turn.Lists first ∷ []) = cc in
+    let turns = ap (λ (a : Asker). a.turns) one in
+    absurd (cc)
+told_to_another p q (listed token scan stood paged) =
+    let others = subst (λ (t : ℕ). ChangesAt t (both (turn.Lists first ∷ []) (turn.Lists first ∷ []) (1 ∷ [])) (both [] (turn.Lists first ∷ []) [])) (which token stood) paged.others in
+    let same = others 0 (λ is. absurd (omega (arith, is))) in
+    let one : lister [] ≡ lister (turn.Lists first ∷ []) = cc in
+    let turns = ap (λ (a : Asker). a.turns) one in
+    absurd (cc)
+
+-- who awaited none has left
+left_for_nothing : (p q : Pass) → MayTellPage (waits []) (record (at_second []) { clients = None ∷ None ∷ [] }) p q → ⊥
+left_for_nothing p q (nobody none same kept) = absurd (cc)
+left_for_nothing p q (left token taken none kept) = let same = ap (λ (a : Askers). a.clients) taken.same in absurd (cc)
+left_for_nothing p q (listed token scan stood paged) =
+    let awaited = subst (λ (t : ℕ). AwaitsPageAt (waits []) t scan) (which token stood) paged.awaited in
+    awaits_none scan awaited
+
+-- where none waits the pass has seen more
+listed_for_none : (p q : Pass) → (q ≡ p → ⊥) → MayTellPage (at_second []) (at_second []) p q → ⊥
+listed_for_none p q other (nobody none same kept) = other kept
+listed_for_none p q other (left token taken none kept) = other kept
+listed_for_none p q other (listed token scan stood paged) = absurd (cc)
+
+-- who waits no more still stands there
+not_taken : TakesScan (waits []) (waits []) 1 → ⊥
+not_taken taken = let stood = taken.stood in absurd (cc)

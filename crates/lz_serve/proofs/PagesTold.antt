@@ -1,15 +1,17 @@
 -- Pages that were told, and the clients that awaited them.
-use Rattle.std.proofs.Common.{◌≡◌, ◌<◌, ◌≤◌, ℕ, Bool, true, false, IfSome, List, ◌∷◌, Option, Some, None, drop, length, slice_get, refl, sym, ap, ◌∙◌, arith}
+use Rattle.std.proofs.Common.{◌≡◌, ◌<◌, ◌≤◌, ◌++◌, ℕ, zero, suc, Bool, true, false, IfSome, IsSomeAnd, List, [], ◌∷◌, Option, Some, None, drop, get_or, length, map, slice_get, refl, sym, ap, ◌∙◌, subst, arith}
+use Rattle.std.proofs.lemmas.Option.{slice_get_past, slice_get_read}
 use mathlib.Core.Bool.{true≢false}
 use Rattle.lz_list.specs.Traces.{Trace}
 use Rattle.lz_proto.specs.declared.end.End.TheVariants.{Done}
+use Rattle.lz_board.specs.declared.pass.Pass.{Pass}
 use Rattle.lz_resp.specs.declared.scan.Scan.{Scan}
 use Rattle.lz_serve.specs.declared.turn.Turn.{Turn}
 use Rattle.lz_serve.specs.declared.turn.Turn.TheVariants as turn
-use Rattle.lz_serve.specs.Clients.{Asker, Askers, OnlyLeave, TellsPage, TellsPageOf}
+use Rattle.lz_serve.specs.Clients.{Asker, Askers, AwaitsNoPage, AwaitsPage, AwaitsPageAt, ChangesAt, MayTellPage, OnlyLeave, TakesScan, TellsPage, TellsPageAt, TellsPageOf, listed}
 use Rattle.lz_serve.specs.Conversations.{Paged, Talk}
 use Rattle.lz_serve.specs.Listings.{Listing}
-use Rattle.lz_serve.proofs.Crowds.{leave_so}
+use Rattle.lz_serve.proofs.Crowds.{client_there, leave_so}
 
 -- a page that was listed for the first exchange is told, and fewer wait
 pub page_told : (told : Bool) (l : Listing) (old new : Talk) → (told ≡ true → (old.turns ≡ turn.Lists l.scan ∷ drop 1 old.turns) × (old.ended ≡ Done) × Paged l old new)
@@ -40,3 +42,57 @@ none_was scan (Some client) = tt
 pub leave_paged : (was : Option Asker) (scan : Scan) (a b : Askers) (token : ℕ) → OnlyLeave a b → IfSome (slice_get a.clients token) (TellsPageOf was scan) → IfSome (slice_get b.clients token) (TellsPageOf was scan)
 leave_paged None scan a b token leave paged = none_was scan (slice_get b.clients token)
 leave_paged (Some x) scan a b token leave paged = leave_so (TellsPage x scan) a b token leave paged
+
+-- a client that has left awaits nothing
+left_told : (was : Option Asker) (scan : Scan) → TellsPageOf was scan None
+left_told None scan = tt
+left_told (Some a) scan = tt
+
+gone_told : (was : Option Asker) (scan : Scan) (o : Option (Option Asker)) → IfSome o (λ client. client ≡ None) → IfSome o (TellsPageOf was scan)
+gone_told was scan None gone = tt
+gone_told was scan (Some client) gone = subst (TellsPageOf was scan) (sym gone) (left_told was scan)
+
+gone_told_at : (o : Option (Option Asker)) (scan : Scan) (b : Askers) (token : ℕ) → IfSome (slice_get b.clients token) (λ client. client ≡ None) → IfSome o (λ was. IfSome (slice_get b.clients token) (TellsPageOf was scan))
+gone_told_at None scan b token gone = tt
+gone_told_at (Some was) scan b token gone = gone_told was scan (slice_get b.clients token) gone
+
+pub gone_paged : (a b : Askers) (token : ℕ) (scan : Scan) → IfSome (slice_get b.clients token) (λ client. client ≡ None) → TellsPageAt a token scan b
+gone_paged a b token scan gone = gone_told_at (slice_get a.clients token) scan b token gone
+
+-- one that waited for a page, which it awaits, was told it, is lost or has left
+pub one_listed : (a b c : Askers) (token : ℕ) (awaited : Option Scan) (scan told : Scan) {before after : Pass} → TakesScan a b token → IfSome awaited (AwaitsPageAt a token) → awaited ≡ Some scan → told ≡ scan → TellsPageAt b token told c → ChangesAt token b c → c.scans ≡ b.scans
+    → MayTellPage a c before after
+one_listed a b c token awaited scan told taken asks some same paged others scans =
+    listed token scan (taken.stood ∙ ap (λ (l : List ℕ). l ++ token ∷ []) (sym scans)) (record {
+      awaited = subst (λ (r : Option Scan). IfSome r (AwaitsPageAt a token)) some asks;
+      told = subst (λ (x : Askers). TellsPageAt x token scan c) taken.same (subst (λ (s : Scan). TellsPageAt b token s c) same paged);
+      others = subst (λ (x : Askers). ChangesAt token x c) taken.same others;
+    })
+
+-- what the client of a place awaits
+module _ {X : Type 0} (f : X → Option Asker) (clients : List (Option Asker)) (places xs : List X) (at : ℕ) (same : xs ≡ places) (are : map f places ≡ clients) where
+  there : (p : X) → at < length xs → p ≡ get_or xs at p → slice_get clients at ≡ Some (f p)
+  there p within here = ap (λ (l : List (Option Asker)). slice_get l at) (sym (ap (λ (l : List X). map f l) same ∙ are)) ∙ client_there f xs at p (slice_get_read xs (length xs) at p refl within here)
+
+  pub awaits_here : (p : X) (r : Option Scan) → at < length xs → p ≡ get_or xs at p → IfSome r (λ scan. IsSomeAnd (f p) (λ a. AwaitsPage a scan)) → IfSome r (λ scan. IsSomeAnd (slice_get clients at) (λ client. IsSomeAnd client (λ a. AwaitsPage a scan)))
+  awaits_here p r within here = subst (λ (o : Option (Option Asker)). IfSome r (λ scan. IsSomeAnd o (λ client. IsSomeAnd client (λ a. AwaitsPage a scan)))) (sym (there p within here))
+
+  pub awaits_none_here : (p : X) → at < length xs → p ≡ get_or xs at p → IfSome (f p) AwaitsNoPage → IfSome (slice_get clients at) (λ client. IfSome client AwaitsNoPage)
+  awaits_none_here p within here = subst (λ (o : Option (Option Asker)). IfSome o (λ client. IfSome client AwaitsNoPage)) (sym (there p within here))
+
+nobody_there : {X : Type 0} (f : X → Option Asker) (places : List X) (at : ℕ) → slice_get places at ≡ None → slice_get (map f places) at ≡ None
+nobody_there f [] at is = refl
+nobody_there f (x ∷ places) zero is = absurd (cc)
+nobody_there f (x ∷ places) (suc at) is = nobody_there f places at is
+
+pub nobody_here : {X : Type 0} (f : X → Option Asker) (clients : List (Option Asker)) (places xs : List X) (at : ℕ) → xs ≡ places → map f places ≡ clients → length xs ≤ at → IfSome (slice_get clients at) (λ client. IfSome client AwaitsNoPage)
+nobody_here {X} f clients places xs at same are past =
+    subst (λ (o : Option (Option Asker)). IfSome o (λ client. IfSome client AwaitsNoPage))
+    (sym (ap (λ (l : List (Option Asker)). slice_get l at) (sym (ap (λ (l : List X). map f l) same ∙ are)) ∙ nobody_there f xs at (slice_get_past xs at past))) tt
+
+-- who awaits what is the same where the clients are
+pub awaits_same : (old new : List (Option Asker)) (token : ℕ) (r : Option Scan) → new ≡ old → IfSome r (λ scan. IsSomeAnd (slice_get new token) (λ client. IsSomeAnd client (λ a. AwaitsPage a scan))) → IfSome r (λ scan. IsSomeAnd (slice_get old token) (λ client. IsSomeAnd client (λ a. AwaitsPage a scan)))
+awaits_same old new token r same = subst (λ (l : List (Option Asker)). IfSome r (λ scan. IsSomeAnd (slice_get l token) (λ client. IsSomeAnd client (λ a. AwaitsPage a scan)))) same
+
+pub awaits_none_same : (old new : List (Option Asker)) (token : ℕ) → new ≡ old → IfSome (slice_get new token) (λ client. IfSome client AwaitsNoPage) → IfSome (slice_get old token) (λ client. IfSome client AwaitsNoPage)
+awaits_none_same old new token same = subst (λ (l : List (Option Asker)). IfSome (slice_get l token) (λ client. IfSome client AwaitsNoPage)) same

@@ -6,10 +6,10 @@ use Rattle.lz_resp.specs.declared.query.Query.{Query}
 use Rattle.lz_resp.specs.declared.scan.Scan.{Scan}
 use Rattle.lz_board.specs.declared.pass.Pass.{Pass}
 use Rattle.lz_serve.specs.Askings.{Asked}
-use Rattle.lz_serve.specs.Clients.{Asker, Askers, ComesAfter, HasNoneAt, HasTold, IsInTurn, KeepsLinesOf, Remains, Turned}
+use Rattle.lz_serve.specs.Clients.{Asker, Askers, ComesAfter, HasNoneAt, HasTold, HasToldTexts, IsInTurn, KeepsLinesOf, Remains, Turned}
 use Rattle.lz_serve.specs.Desks.{GoesAnew}
 use Rattle.lz_serve.specs.Grants.{Posed}
-use Rattle.lz_serve.specs.Conversations.{IsReady}
+use Rattle.lz_serve.specs.Conversations.{IsReady, IsText}
 use Rattle.lz_serve.specs.Lines.{awaited, replied}
 use Rattle.lz_serve.specs.Queues.{is_in}
 use Rattle.lz_serve.specs.declared.turn.Turn.{Turn}
@@ -19,7 +19,7 @@ use Rattle.lz_serve.proofs.ClientRows.{asks, asks_on, has_line, its_own, posed, 
 
 -- the first client has no line left
 abbrev one : Pass → Askers
-one p = record { admitted = 2; clients = Some (asks p []) ∷ None ∷ []; queue = 1 ∷ [] }
+one p = record { admitted = 2; clients = Some (asks p []) ∷ None ∷ []; queue = 1 ∷ []; scans = [] }
 
 no_line : (p : Pass) → HasNoneAt (one p) 0
 no_line p line = let none = line.waits in absurd (cc)
@@ -76,6 +76,19 @@ page_to_come p scan there = (λ goes first is ready. unready first is ready, λ 
     unready : (first : Turn) → turn.Lists scan ∷ [] ≡ first ∷ [] → IsReady first (awaited (Add 5) ∷ []) → ⊥
     unready first is ready = let lists : turn.Lists scan ≡ first = cc in subst (λ (t : Turn). IsReady t (awaited (Add 5) ∷ [])) (sym lists) ready
 
+-- its texts were told where a page or a line is in front of the next one
+texts_told : (p : Pass) (scan : Scan) → HasToldTexts (record (asks p []) { turns = turn.Lists scan ∷ turn.Says [] ∷ [] })
+texts_told p scan there = (λ goes first is text. none first is text, λ goes query is. absurd (cc))
+  where
+    none : (first : Turn) → turn.Lists scan ∷ turn.Says [] ∷ [] ≡ first ∷ turn.Says [] ∷ [] → IsText first → ⊥
+    none first is text = let lists : turn.Lists scan ≡ first = cc in subst IsText (sym lists) text
+
+lines_first : (p : Pass) → HasToldTexts (record (asks p []) { turns = turn.Asks Line 1 ∷ turn.Says [] ∷ [] })
+lines_first p there = (λ goes first is text. none first is text, λ goes query is. absurd (cc))
+  where
+    none : (first : Turn) → turn.Asks Line 1 ∷ turn.Says [] ∷ [] ≡ first ∷ turn.Says [] ∷ [] → IsText first → ⊥
+    none first is text = let asks : turn.Asks Line 1 ≡ first = cc in subst IsText (sym asks) text
+
 -- its next line comes after its first one
 abbrev second : Pass → Posed
 second p = record (posed 1 p) { line = 2 }
@@ -123,6 +136,16 @@ untold p told = (told refl).0 refl (turn.Asks Line 1) refl (Yes ∷ [], lit≤ t
 
 unanswered : (p : Pass) (query : Query) → HasTold (record (asks p []) { turns = turn.Tells query ∷ [] }) → ⊥
 unanswered p query told = (told refl).1 refl query refl
+
+-- a text is in front, or what ends the session, or what the service itself knows is asked for
+unsaid : (p : Pass) → HasToldTexts (record (asks p []) { turns = turn.Says [] ∷ [] }) → ⊥
+unsaid p told = (told refl).0 refl (turn.Says []) refl tt
+
+not_ended : (p : Pass) → HasToldTexts (record (asks p []) { turns = turn.Ends [] ∷ [] }) → ⊥
+not_ended p told = (told refl).0 refl (turn.Ends []) refl tt
+
+query_waits : (p : Pass) (query : Query) → HasToldTexts (record (asks p []) { turns = turn.Tells query ∷ [] }) → ⊥
+query_waits p query told = (told refl).1 refl query refl
 
 -- a line comes after itself
 again : (p : Pass) → ComesAfter (Some (asks p [])) (posed 1 p) → ⊥

@@ -12,7 +12,7 @@ use Rattle.lz_serve.specs.declared.turn.Turn.TheVariants as turn
 use Rattle.lz_proto.specs.declared.request.Request.{Request}
 use Rattle.lz_proto.specs.declared.end.End.{End}
 use Rattle.lz_proto.specs.declared.end.End.TheVariants.{Done}
-use Rattle.lz_serve.specs.Conversations.{IsReady}
+use Rattle.lz_serve.specs.Conversations.{IsReady, IsText}
 use Rattle.lz_serve.specs.Grants.{Posed, key_asked}
 use Rattle.lz_serve.specs.Lines.{IsFree, StandsAt}
 use Rattle.lz_serve.specs.Queues.{is_in}
@@ -102,6 +102,14 @@ HasNoReady a = a.ended ≡ Done → (first : Turn) → a.turns ≡ first ∷ dro
 abbrev pub HasNoQuery : Asker → Type 0
 HasNoQuery a = a.ended ≡ Done → (query : Query) → a.turns ≡ turn.Tells query ∷ drop 1 a.turns → ⊥
 
+-- nor one that is a text, which asks for nothing
+abbrev pub HasNoText : Asker → Type 0
+HasNoText a = a.ended ≡ Done → (first : Turn) → a.turns ≡ first ∷ drop 1 a.turns → IsText first → ⊥
+
+-- It has told each exchange that asks for no key, up to one that does or a page, unless it is lost.
+abbrev pub HasToldTexts : Asker → Type 0
+HasToldTexts a = a.lost ≡ false → HasNoText a × HasNoQuery a
+
 -- It has told each exchange that may be told, unless it is lost. (A page is told once a pass has listed it.)
 abbrev pub HasTold : Asker → Type 0
 HasTold a = a.lost ≡ false → HasNoReady a × HasNoQuery a
@@ -113,6 +121,10 @@ TellsOf old q new = (IsHeardOf old q → ⊥) → IfSome new HasTold
 -- it goes on, and its first exchange asks for this page
 abbrev pub AwaitsPage : Asker → Scan → Type 0
 AwaitsPage a scan = (a.lost ≡ false) × (a.ended ≡ Done) × (a.turns ≡ turn.Lists scan ∷ drop 1 a.turns)
+
+-- it awaits none
+abbrev pub AwaitsNoPage : Asker → Type 0
+AwaitsNoPage a = (scan : Scan) → AwaitsPage a scan → ⊥
 
 -- where it awaited this page, that exchange was told, unless it is lost
 abbrev pub TellsPage : Asker → Scan → Asker → Type 0
@@ -138,11 +150,13 @@ IsAskedBy client q = IsSomeAnd client (λ a. (q.connection ≡ a.connection) × 
 abbrev pub ComesAfter : Option Asker → Posed → Type 0
 ComesAfter client question = (q : Posed) → IsOwnOf client q → q.connection ≡ question.connection → q.line < question.line
 
--- How many clients were admitted; the client at each place, if it has one; and the places, by their tokens, that wait for their turn.
+-- How many clients were admitted; the client at each place, if it has one; and the places, by their tokens, that wait for their turn, and
+-- those that wait for a page.
 pub record Askers : Type 0 where
   pub admitted : ℕ
   pub clients : List (Option Asker)
   pub queue : List ℕ
+  pub scans : List ℕ
 
 -- each is of a connection that was admitted, and all that it has seen was seen here
 abbrev pub HaveSeenIn : Askers → Trace → Type 0
@@ -168,6 +182,36 @@ TellsAt old token q new = (IsHeardAt old token q → ⊥) → IfSome (slice_get 
 -- where the client at this place awaited this page, it was told, unless it is lost or has left
 abbrev pub TellsPageAt : Askers → ℕ → Scan → Askers → Type 0
 TellsPageAt old token scan new = IfSome (slice_get old.clients token) (λ was. IfSome (slice_get new.clients token) (λ client. TellsPageOf was scan client))
+
+-- a client is at this place, and awaits this page
+abbrev pub AwaitsPageAt : Askers → ℕ → Scan → Type 0
+AwaitsPageAt a token scan = IsSomeAnd (slice_get a.clients token) (λ client. IsSomeAnd client (λ b. AwaitsPage b scan))
+
+-- none that awaits a page is there
+abbrev pub AwaitsNoneAt : Askers → ℕ → Type 0
+AwaitsNoneAt a token = IfSome (slice_get a.clients token) (λ client. IfSome client AwaitsNoPage)
+
+-- no client but the one at this place has come, changed or left
+abbrev pub ChangesAt : ℕ → Askers → Askers → Type 0
+ChangesAt token old new = (t : ℕ) → t ≢ token → slice_get new.clients t ≡ slice_get old.clients t
+
+-- A client at this place awaited this page: it was told it, unless it is lost or has left. No other has changed.
+pub record IsPaged (old new : Askers) (token : ℕ) (scan : Scan) : Type 0 where
+  pub awaited : AwaitsPageAt old token scan
+  pub told : TellsPageAt old token scan new
+  pub others : ChangesAt token old new
+
+-- The one at this place doesn't wait for a page any more, and nothing else has changed.
+pub record TakesScan (old new : Askers) (token : ℕ) : Type 0 where
+  pub stood : old.scans ≡ new.scans ++ token ∷ []
+  pub same : new ≡ record old { scans = new.scans }
+
+-- A pass, as it was and as it is, may have listed a page for one of those that wait for one, which waits no more then. Where none waits, or
+-- that one awaited none, it listed nothing.
+pub data MayTellPage (old new : Askers) (before after : Pass) : Type 0 where
+  nobody : old.scans ≡ [] → new ≡ old → after ≡ before → MayTellPage old new before after
+  left : (token : ℕ) → TakesScan old new token → AwaitsNoneAt old token → after ≡ before → MayTellPage old new before after
+  listed : (token : ℕ) (scan : Scan) → old.scans ≡ new.scans ++ token ∷ [] → IsPaged old new token scan → MayTellPage old new before after
 
 -- the client at this place, if there is one, has no line for a pass
 abbrev pub HasNoneAt : Askers → ℕ → Type 0

@@ -112,10 +112,11 @@ IsReady (turn.Lists scan) under = ⊥
 IsReady (turn.Tells query) under = ⊥
 IsReady other under = ⊤
 
--- the exchange asks for keys
-abbrev pub AsksKeys : Turn → Type 0
-AsksKeys (turn.Asks wording count) = ⊤
-AsksKeys other = ⊥
+-- the exchange is a text, and asks for nothing
+abbrev pub IsText : Turn → Type 0
+IsText (turn.Says text) = ⊤
+IsText (turn.Ends text) = ⊤
+IsText other = ⊥
 
 -- a piece more of the client's text has come
 abbrev pub Fed : List ℕ → Talk → Talk → Type 0

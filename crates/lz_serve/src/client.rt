@@ -3,7 +3,7 @@ ghost use Rattle.std.specs.Prelude.{◌≡◌, ◌<◌, ◌≤◌, ◌++◌, [],
 ghost use Rattle.lz_list.specs.Traces.{Begins};
 ghost use Rattle.lz_board.specs.Seats.{part};
 ghost use Rattle.lz_proto.specs.declared.end.End.TheVariants.{Done};
-ghost use Rattle.lz_serve.specs.Clients.{HasLine, HasNoQuery, HasNoReady, HasTold, IsHeard, IsOwn, KeepsLines, KeepsOwn, TellsOf};
+ghost use Rattle.lz_serve.specs.Clients.{HasLine, HasNoQuery, HasNoReady, HasNoText, HasTold, HasToldTexts, IsHeard, IsOwn, KeepsLines, KeepsOwn, TellsOf};
 ghost use Rattle.lz_serve.specs.Grants.{Grant, IsGrant, IsLater, Posed};
 ghost use Rattle.lz_serve.specs.Streams.{IsFresh};
 
@@ -174,18 +174,28 @@ impl<S: Stream> Client<S> {
 
     /// Tells the exchanges at the front that ask for no key.
     pub(crate) fn tell_texts<O: Observer>(&mut self, observer: &O)
-        ensures { KeepsLines self.old self.new }
+        ensures lines { KeepsLines self.old self.new }
+        ensures told { HasToldTexts self.new }
     {
-        'turns: for _ in 0..u64::MAX {
-            if !self.talk.has_text() || !self.tell_text() && !self.tell_query(observer) {
-                return;
-            }
-        }
+        'turns: while self.tell_next(observer) {}
     }
 
-    // Tells the first exchange, if it asks nothing, and says whether it did.
+    // Tells the first exchange, if it asks for no key, and says whether it did.
+    fn tell_next<O: Observer>(&mut self, observer: &O) -> bool
+        ensures lines { KeepsLines self.old self.new }
+        ensures fewer { result ≡ true → length self.new.turns < length self.old.turns }
+        ensures same { result ≡ false → self.new.turns ≡ self.old.turns }
+        ensures told { result ≡ false → HasToldTexts self.new }
+    {
+        self.tell_text() || self.tell_query(observer)
+    }
+
+    // Tells the first exchange, if it is a text, and says whether it did.
     fn tell_text(&mut self) -> bool
-        ensures { KeepsLines self.old self.new }
+        ensures lines { KeepsLines self.old self.new }
+        ensures fewer { result ≡ true → length self.new.turns < length self.old.turns }
+        ensures same { result ≡ false → self.new.turns ≡ self.old.turns }
+        ensures rests { result ≡ false → self.new.lost ≡ false → (self.new ≡ self.old) × HasNoText self.old }
     {
         if self.lost {
             return false;

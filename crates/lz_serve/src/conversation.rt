@@ -3,7 +3,7 @@ ghost use Rattle.std.specs.Prelude.{◌≡◌, ◌≢◌, ◌↔◌, ◌⊎◌, 
 ghost use Rattle.lz_resp.specs.declared.query.Query.{Query as AQuery};
 ghost use Rattle.lz_serve.specs.declared.line.Line.{Line as ALine};
 ghost use Rattle.lz_serve.specs.declared.turn.Turn.{Turn as ATurn};
-ghost use Rattle.lz_serve.specs.Conversations.{AsksKeys, Fed, Finished, IsOver, IsReady, Noted, Queried, Rests, Told, nothing_yet};
+ghost use Rattle.lz_serve.specs.Conversations.{Fed, Finished, IsOver, IsReady, IsText, Noted, Queried, Rests, Told, nothing_yet};
 ghost use Rattle.lz_serve.specs.Grants.{key_asked};
 ghost use Rattle.lz_serve.specs.Lines.{IsFree, StandsAt, awaited, replied};
 
@@ -168,6 +168,8 @@ impl Conversation {
     pub fn tell_text(&mut self) -> Result<bool, AllocError>
         ensures told { IfOk result (λ told. told ≡ true → (turn : ATurn) × (self.old.turns ≡ turn ∷ drop 1 self.old.turns) × (self.old.ended ≡ End.Done) × Told turn self.old self.new) }
         ensures none { IfOk result (λ told. told ≡ false → self.new ≡ self.old) }
+        ensures rests { IfOk result (λ told. told ≡ false → self.old.ended ≡ End.Done → (turn : ATurn) → self.old.turns ≡ turn ∷ drop 1 self.old.turns → IsText turn → ⊥) }
+        ensures err { OnErr result (self.new ≡ record self.old { unsent = self.new.unsent }) }
         ensures others { self.new ≡ record self.old { turns = self.new.turns; unsent = self.new.unsent; ended = self.new.ended } }
     {
         match self.exchanges.first() {
@@ -181,16 +183,6 @@ impl Conversation {
         ensures { IsTrue result ↔ (self.now.turns ≡ []) }
     {
         self.exchanges.are_told()
-    }
-
-    /// Whether the first exchange that wasn't told asks for no key.
-    pub fn has_text(&self) -> bool
-        ensures { result ≡ false → (turn : ATurn) → self.now.turns ≡ turn ∷ drop 1 self.now.turns → AsksKeys turn }
-    {
-        match self.exchanges.first() {
-            Some(Turn::Says(_) | Turn::Lists(_) | Turn::Tells(_) | Turn::Ends(_)) => true,
-            Some(Turn::Asks(_, _)) | None => false,
-        }
     }
 
     /// What the first exchange that wasn't told asks of the service itself, if it does.

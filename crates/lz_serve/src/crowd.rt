@@ -2,7 +2,7 @@
 ghost use Rattle.std.specs.Prelude.{◌≡◌, ◌≤◌, ◌↔◌, ◌⊎◌, [], All, IfOk, IfSome, IsTrue, None, false, length, slice_get, true};
 ghost use Rattle.lz_list.specs.Traces.{Begins};
 ghost use Rattle.lz_board.specs.Seats.{part};
-ghost use Rattle.lz_serve.specs.Clients.{HasNoneAt, HaveSeenIn, IsAwaited, IsHeardAt, IsInTurn, IsNext, Keeps, KeepsAwaited, OnlyLeave, TakesTurn, TellsAt, Turned};
+ghost use Rattle.lz_serve.specs.Clients.{ChangesAt, HasNoneAt, HaveSeenIn, IsAwaited, IsHeardAt, IsInTurn, IsNext, Keeps, KeepsAwaited, OnlyLeave, TakesTurn, TellsAt, Turned};
 ghost use Rattle.lz_serve.specs.Grants.{Promises};
 ghost use Rattle.lz_serve.specs.Queues.{queued};
 ghost use Rattle.lz_serve.specs.Streams.{IsFresh};
@@ -53,14 +53,14 @@ impl<S: Stream> Model for Crowd<S> {
 
     ghost Value = { Askers };
 
-    ghost view = { λ c. record { admitted = c.admitted; clients = map (λ place. place.client) c.places.items; queue = c.queue } };
+    ghost view = { λ c. record { admitted = c.admitted; clients = map (λ place. place.client) c.places.items; queue = c.queue; scans = c.scans.items } };
 }
 
 impl<S: Stream> Crowd<S> {
     /// Room for so many clients at once.
     pub fn new(alloc: Global, most: usize) -> Result<Crowd<S>, AllocError>
         ensures places { IfOk result (λ crowd. length crowd.clients ≡ most) }
-        ensures empty { IfOk result (λ crowd. (crowd.admitted ≡ 0) × (crowd.queue ≡ [])) }
+        ensures empty { IfOk result (λ crowd. (crowd.admitted ≡ 0) × (crowd.queue ≡ []) × (crowd.scans ≡ [])) }
         ensures seen { IfOk result (λ crowd. HaveSeenIn crowd []) }
     {
         let mut places = Vec::with_capacity(alloc, most)?;
@@ -331,7 +331,9 @@ impl<S: Stream> Crowd<S> {
     // A client is to be tended to, if it wasn't. There is room for it.
     fn put_back(&mut self, token: usize, is_back: bool)
         ensures leave { OnlyLeave self.old self.new }
+        ensures others { ChangesAt token self.old self.new }
         ensures queue { self.new.queue ≡ self.old.queue }
+        ensures scans { self.new.scans ≡ self.old.scans }
     {
         if is_back && self.back.push(token).is_err() {
             self.close(token);
@@ -341,7 +343,9 @@ impl<S: Stream> Crowd<S> {
     // Closes a connection, where there is one. Its token may be had again.
     fn close(&mut self, token: usize)
         ensures leave { OnlyLeave self.old self.new }
+        ensures others { ChangesAt token self.old self.new }
         ensures queue { self.new.queue ≡ self.old.queue }
+        ensures scans { self.new.scans ≡ self.old.scans }
         ensures gone { IfSome (slice_get self.new.clients token) (λ client. client ≡ None) }
     {
         let Some(place) = self.places.get_mut(token) else {

@@ -1,8 +1,8 @@
 //! The place of one connection.
-ghost use Rattle.std.specs.Prelude.{◌≡◌, ℕ, IfSome, None, Some, false};
+ghost use Rattle.std.specs.Prelude.{◌≡◌, ℕ, IfSome, IsSomeAnd, None, Some, false};
 ghost use Rattle.lz_list.specs.Traces.{Begins};
 ghost use Rattle.lz_board.specs.Seats.{part};
-ghost use Rattle.lz_serve.specs.Clients.{ComesAfter, HasNone, HasSeenIn, HasTold, IsAskedBy, IsHeardOf, IsOwnOf, KeepsHeard, KeepsLines, KeepsLinesOf, KeepsOwn, KeepsSeen, Remains, TellsOf, TellsPageOf};
+ghost use Rattle.lz_serve.specs.Clients.{AwaitsNoPage, AwaitsPage, ComesAfter, HasNone, HasSeenIn, HasTold, IsAskedBy, IsHeardOf, IsOwnOf, KeepsHeard, KeepsLines, KeepsLinesOf, KeepsOwn, KeepsSeen, Remains, TellsOf, TellsPageOf};
 ghost use Rattle.lz_serve.specs.Grants.{Promises};
 
 use crate::asking::Granted;
@@ -121,9 +121,12 @@ impl<S: Stream> Place<S> {
     }
 
     /// The page for which its client waits, if it waits for one.
-    pub(crate) fn scan(&self) -> Option<Scan> {
+    pub(crate) fn scan(&self) -> Option<Scan>
+        ensures some { IfSome result (λ scan. IsSomeAnd self.now.client (λ a. AwaitsPage a scan)) }
+        ensures none { result ≡ None → IfSome self.now.client AwaitsNoPage }
+    {
         match &self.client {
-            Some(client) => client.scan(),
+            Some(client) => client.next_scan(),
             None => None,
         }
     }

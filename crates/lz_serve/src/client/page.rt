@@ -1,8 +1,8 @@
 //! The pages for which a client asks.
-ghost use Rattle.std.specs.Prelude.{◌≡◌, Some};
+ghost use Rattle.std.specs.Prelude.{◌≡◌, IfSome, None, Some};
 ghost use Rattle.lz_list.specs.Traces.{Begins};
 ghost use Rattle.lz_board.specs.Seats.{part};
-ghost use Rattle.lz_serve.specs.Clients.{HasTold, IsHeard, KeepsLines, KeepsOwn, TellsPage};
+ghost use Rattle.lz_serve.specs.Clients.{AwaitsNoPage, AwaitsPage, HasTold, IsHeard, KeepsLines, KeepsOwn, TellsPage};
 ghost use Rattle.lz_serve.specs.Grants.{Posed};
 ghost use Rattle.lz_serve.specs.Listings.{IsListing, Listing};
 
@@ -16,7 +16,9 @@ use std::snapshot::Snapshot;
 
 impl<S: Stream> Client<S> {
     /// The page for which it waits, once all was sent that was told before: so what it is told of pages takes the room of one.
-    pub(crate) fn scan(&self) -> Option<Scan> {
+    pub(crate) fn scan(&self) -> Option<Scan>
+        ensures { IfSome result (AwaitsPage self.now) }
+    {
         if self.has_unsent() {
             return None;
         }
@@ -28,8 +30,11 @@ impl<S: Stream> Client<S> {
         self.next_scan().is_some()
     }
 
-    // The page for which its first exchange asks, if it does.
-    fn next_scan(&self) -> Option<Scan> {
+    /// The page for which its first exchange asks, if it does.
+    pub(crate) fn next_scan(&self) -> Option<Scan>
+        ensures some { IfSome result (AwaitsPage self.now) }
+        ensures none { result ≡ None → AwaitsNoPage self.now }
+    {
         if self.lost {
             return None;
         }

@@ -1,8 +1,8 @@
 //! The pages for which clients ask.
-ghost use Rattle.std.specs.Prelude.{◌≡◌, IfSome, slice_get};
+ghost use Rattle.std.specs.Prelude.{◌≡◌, [], IfSome, None, length, slice_get};
 ghost use Rattle.lz_list.specs.Traces.{Begins};
 ghost use Rattle.lz_board.specs.Seats.{part};
-ghost use Rattle.lz_serve.specs.Clients.{HasTold, HaveSeenIn, KeepsAwaited, KeepsReplies, OnlyLeave, TellsPageAt};
+ghost use Rattle.lz_serve.specs.Clients.{AwaitsNoneAt, AwaitsPageAt, ChangesAt, HasTold, HaveSeenIn, KeepsAwaited, KeepsReplies, OnlyLeave, TakesScan, TellsPageAt};
 ghost use Rattle.lz_serve.specs.Grants.{Promises};
 
 use crate::crowd::Crowd;
@@ -14,18 +14,32 @@ use lz_set::{Named, Pass};
 
 impl<S: Stream> Crowd<S> {
     /// How many wait for a page.
-    pub fn scans(&self) -> usize {
+    pub fn scans(&self) -> usize
+        ensures { result ≡ length self.now.scans }
+    {
         self.scans.len()
     }
 
     /// The token of one that waits for a page, and what it asks for, unless it has left.
     pub(crate) fn take_scan(&mut self) -> Option<(usize, Option<Scan>)>
-        ensures { self.new ≡ self.old }
+        ensures taken { IfSome result (λ taken. TakesScan self.old self.new taken.0) }
+        ensures asks { IfSome result (λ taken. IfSome taken.1 (AwaitsPageAt self.old taken.0)) }
+        ensures left { IfSome result (λ taken. taken.1 ≡ None → AwaitsNoneAt self.old taken.0) }
+        ensures none { result ≡ None → (self.old.scans ≡ []) × (self.new ≡ self.old) }
     {
         let token = self.scans.pop()?;
+        let scan = self.scan_at(token);
+        Some((token, scan))
+    }
+
+    // The page that the client of this token awaits, if it awaits one.
+    fn scan_at(&self, token: usize) -> Option<Scan>
+        ensures some { IfSome result (AwaitsPageAt self.now token) }
+        ensures none { result ≡ None → AwaitsNoneAt self.now token }
+    {
         match self.places.get(token) {
-            Some(place) => Some((token, place.scan())),
-            None => Some((token, None)),
+            Some(place) => place.scan(),
+            None => None,
         }
     }
 
@@ -46,6 +60,8 @@ impl<S: Stream> Crowd<S> {
         ensures heard { KeepsReplies self.old self.new }
         ensures paged { TellsPageAt self.old token listed.now.scan self.new }
         ensures told { IfSome (slice_get self.new.clients token) (λ client. IfSome client HasTold) }
+        ensures others { ChangesAt token self.old self.new }
+        ensures scans { self.new.scans ≡ self.old.scans }
         ensures seen { HaveSeenIn self.new (part pass.now).known }
     {
         let now = self.clock.now();
@@ -59,7 +75,10 @@ impl<S: Stream> Crowd<S> {
 
     /// Closes the connection of this token.
     pub(crate) fn give_up(&mut self, token: usize)
-        ensures { OnlyLeave self.old self.new }
+        ensures leave { OnlyLeave self.old self.new }
+        ensures gone { IfSome (slice_get self.new.clients token) (λ client. client ≡ None) }
+        ensures others { ChangesAt token self.old self.new }
+        ensures scans { self.new.scans ≡ self.old.scans }
     {
         self.close(token);
     }

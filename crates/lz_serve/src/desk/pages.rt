@@ -1,8 +1,9 @@
 //! The pages that a loop lists.
-ghost use Rattle.std.specs.Prelude.{◌≡◌};
+ghost use Rattle.std.specs.Prelude.{◌≡◌, true};
 ghost use Rattle.lz_board.specs.Seats.{part};
-ghost use Rattle.lz_serve.specs.Clients.{HaveSeenIn, KeepsAwaited};
+ghost use Rattle.lz_serve.specs.Clients.{HaveSeenIn, KeepsAwaited, MayTellPage};
 ghost use Rattle.lz_serve.specs.Grants.{Promises};
+ghost use Rattle.lz_serve.specs.Halts.{SawHalt};
 
 use crate::crowd::Crowd;
 use crate::desk::Desk;
@@ -61,7 +62,8 @@ impl<S: Stream, N: Named, B: Given> Desk<S, N, B> {
     }
 }
 
-// Lists the page for one client by this pass, which has seen what the clients have, and says whether it found that the service halted.
+// Lists the page for one client by this pass, which has seen what the clients have, and tells it. It says whether it found that the service
+// halted.
 fn list_one<S, D, G, N, B, O>(
     alloc: Global,
     set: &Set<D, G, N>,
@@ -80,8 +82,13 @@ where
     requires seen { HaveSeenIn crowd.old (part free.old.pass).known }
     ensures kept { KeepsAwaited crowd.old crowd.new }
     ensures seen { HaveSeenIn crowd.new (part free.new.pass).known }
+    ensures page { MayTellPage crowd.old crowd.new free.old.pass free.new.pass }
+    ensures halted { result ≡ true → SawHalt free.new.pass }
 {
-    let Some((token, Some(scan))) = crowd.take_scan() else {
+    let Some((token, awaited)) = crowd.take_scan() else {
+        return false;
+    };
+    let Some(scan) = awaited else {
         return false;
     };
     let Some(listed) = free.list(alloc, set, scan) else {

@@ -1,6 +1,6 @@
 use Rattle.std.proofs.Common.{◌≡◌, Option, None}
 use Rattle.lz_serve.specs.Clients.{Asker}
-use Rattle.lz_serve.proofs.Crowds.{leave_same, leaves_at, one_so}
+use Rattle.lz_serve.proofs.Crowds.{changes_at, leave_same, leaves_at, one_so}
 use Rattle.lz_serve.proofs.crowd.Crowd.close.Goals as goal
 
 pub returns-in_default-clause-leave : goal.returns-in_default-clause-leave
@@ -17,3 +17,9 @@ returns-else-close-clause-leave g c = leaves_at (λ place. place.client) c.args.
 
 pub returns-else-close-clause-gone : goal.returns-else-close-clause-gone
 returns-else-close-clause-gone g c = one_so (λ place. place.client) (λ (client : Option Asker). client ≡ None) c.self.inside.places.items c.args.token c.close.new.self c.close.ensures
+
+pub returns-then-close-clause-others : goal.returns-then-close-clause-others
+returns-then-close-clause-others g c = changes_at (λ place. place.client) c.args.self.now c.self.inside.admitted c.self.inside.places.items c.args.token c.close.new.self c.self.view_is
+
+pub returns-else-close-clause-others : goal.returns-else-close-clause-others
+returns-else-close-clause-others g c = changes_at (λ place. place.client) c.args.self.now c.self.inside.admitted c.self.inside.places.items c.args.token c.close.new.self c.self.view_is

@@ -1,8 +1,8 @@
-use Rattle.std.proofs.Common.{IfSome, Option, sym, subst}
+use Rattle.std.proofs.Common.{◌∙◌, IfSome, Option, sym, subst}
 use Rattle.lz_list.proofs.Traces.WalkEnd.{begins_before}
 use Rattle.lz_board.specs.Seats.{part}
 use Rattle.lz_serve.specs.Clients.{Asker, Askers, HasSeenIn, HasTold, HaveSeenIn, IsHeardOf, TellsPageOf}
-use Rattle.lz_serve.proofs.Crowds.{keeps_awaited, keeps_heard, leave_keeps, leave_so, one_so, only_seen, paged_here, same_own, seen_at, seen_here}
+use Rattle.lz_serve.proofs.Crowds.{changes_at, keeps_awaited, keeps_heard, leave_keeps, leave_so, one_so, only_seen, paged_here, same_own, seen_at, seen_here}
 use Rattle.lz_serve.proofs.Joins.{seen_later}
 use Rattle.lz_serve.proofs.PagesTold.{leave_paged}
 use Rattle.lz_serve.proofs.crowd.Crowd.tell_page.Goals as goal
@@ -59,3 +59,7 @@ returns-clause-seen g c =
     let K = (part c.args.pass.now).known in
     let more = begins_before (part l.before).known (part l.after).known K c.requires.grows c.requires.after in
     (leave_keeps _ c.put_back.new.self c.put_back.ensures.leave).seen K (seen_at (λ place. place.client) c.args.self.now c.self.inside.admitted c.self.inside.places.items c.args.token old c.self.view_is c.in-Some.ensures.item.3.0 c.in-Some.ensures.value new K (λ admitted was. subst (HasSeenIn admitted K) (sym c.give_back-is_back.ensures) (c.tell_page.ensures.seen admitted was)) (seen_later c.args.self.now (part l.before).known K more c.requires.seen))
+
+pub returns-clause-others : goal.returns-clause-others
+returns-clause-others g c = λ t other.
+    c.put_back.ensures.others t other ∙ changes_at (λ place. place.client) c.args.self.now c.self.inside.admitted c.self.inside.places.items c.args.token c.give_back-is_back.new.self c.self.view_is t other
