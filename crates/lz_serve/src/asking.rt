@@ -1,5 +1,5 @@
 //! A pass of a loop at its place, and the request that it answers.
-ghost use Rattle.std.specs.Prelude.{◌≡◌, ◌≢◌, ◌+◌, ◌<◌, IfSome, IsSomeAnd, None, Some, false, is_none, true};
+ghost use Rattle.std.specs.Prelude.{◌≡◌, ◌≢◌, ◌+◌, ◌<◌, IfSome, IsSomeAnd, None, Some, false, true, ◌↔◌, IsTrue};
 ghost use Rattle.lz_slot.specs.declared.command.Command.{Command as Asks};
 ghost use Rattle.lz_list.specs.Traces.{Begins};
 ghost use Rattle.lz_board.specs.declared.pass.Pass.{Pass as Seen};
@@ -136,13 +136,6 @@ impl<N: Named, B: Given> Asking<N, B> {
         FreePass::new(pass, halted)
     }
 
-    /// Whether its pass answers nothing.
-    pub fn rests(&self) -> bool
-        ensures { result ≡ is_none self.now.question }
-    {
-        self.question.is_none()
-    }
-
     /// Its pass.
     pub fn pass(&self) -> &Pass
         ensures { result.now ≡ self.now.pass }
@@ -239,6 +232,13 @@ impl<N: Named, B: Given> Asking<N, B> {
         ensures { result ≡ waits_for_slots self.now }
     {
         self.call.is_none() && self.tries > 1
+    }
+
+    /// Whether the call stood before a Sync when it was played on last, which wasn't played since.
+    pub(crate) fn is_before_sync(&self) -> bool
+        ensures { IsTrue result ↔ (self.now.stage ≡ Some Stage.Syncs) }
+    {
+        matches!(self.stage, Some(Stage::Syncs))
     }
 
     /// Plays the Sync, if the call stands before one, and says whether it does.

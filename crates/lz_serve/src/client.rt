@@ -210,6 +210,7 @@ impl<S: Stream> Client<S> {
     }
 
     // Tells the first exchange, if it asks the service itself, and says whether it did.
+    #[inline(always)]
     fn tell_query<O: Observer>(&mut self, observer: &O) -> bool
         ensures lines { KeepsLines self.old self.new }
         ensures lost { self.old.lost ≡ true → self.new ≡ self.old }

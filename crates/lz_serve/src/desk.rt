@@ -148,8 +148,8 @@ impl<S: Stream, N: Named, B: Given> Desk<S, N, B> {
         }
     }
 
-    /// Plays each call on, up to a Sync or a taken node. One that is answered is told, and its pass begins the line whose turn it is. One
-    /// that waits for slots is made again once a moment.
+    /// Plays each call on, up to a Sync or a taken node. One that stands before a Sync since the last time is left to `sync_all`. One that
+    /// is answered is told, and its pass begins the line whose turn it is. One that waits for slots is made again once a moment.
     pub(crate) fn play_all<D, G, R, O>(
         &mut self,
         rt: &R,
@@ -171,6 +171,10 @@ impl<S: Stream, N: Named, B: Given> Desk<S, N, B> {
         'calls: for _ in rt.forever() {
             if at >= self.calls.len() {
                 break;
+            }
+            if self.calls[at].is_before_sync() {
+                at += 1;
+                continue;
             }
             // The only pass is to rest before its next call where a client waits for a page.
             let is_wanted = self.meeting.is_none() && self.crowd.scans() > 0;
