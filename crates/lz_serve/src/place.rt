@@ -270,7 +270,7 @@ impl<S: Stream> Place<S> {
             return see_off(client, buffer);
         }
         let holds_back = crowded && !self.parts && client.holds_back();
-        if !holds_back {
+        if !holds_back && client.has_unsent() {
             client.write();
         }
         for _ in 0..MOST_READS {
@@ -281,7 +281,7 @@ impl<S: Stream> Place<S> {
             client.tell_texts(observer);
         }
         // What was told of the pieces that were read.
-        if !holds_back {
+        if !holds_back && client.has_unsent() {
             client.write();
         }
         if client.is_over() || self.parts && !client.has_unsent() {

@@ -1,7 +1,8 @@
 //! Keys as texts.
-ghost use Rattle.std.specs.Prelude.{◌≡◌, ◌≤◌, IfSome};
-ghost use Rattle.lz_slot.specs.Limits.{last_room};
+ghost use Rattle.std.specs.Prelude.{◌≡◌, ◌≤◌, IfSome, Ok};
+ghost use Rattle.lz_slot.specs.Limits.{largest_number, last_room};
 ghost use Rattle.lz_slot.specs.Numerals.{number_in};
+ghost use Rattle.lz_slot.specs.Rooms.{rank};
 ghost use Rattle.lz_slot.specs.Texts.{key_in, key_read};
 
 use crate::key::{Key, LAST_ROOM, MAX_NUMBER};
@@ -22,6 +23,17 @@ pub enum KeyFault {
 
 /// The key that a text spells: its number, after its room and a `:` or, in room 0, alone. Both are plain decimals.
 pub fn read_key(text: &[u8]) -> Result<Key, KeyFault>
+    ensures { result ≡ key_read text.now }
+{
+    // Most texts are a number alone, which has no `:`.
+    match read_number(text, 0, MAX_NUMBER) {
+        Some(number) => key_of_number(0, number),
+        None => read_parts(text),
+    }
+}
+
+// The same, whatever the text is: cut at its first `:`.
+fn read_parts(text: &[u8]) -> Result<Key, KeyFault>
     ensures { result ≡ key_read text.now }
 {
     match memchr(b':', text) {
@@ -49,9 +61,17 @@ fn read_key_in(room: u8, text: &[u8]) -> Result<Key, KeyFault>
     if !is_number(text) {
         return Err(KeyFault::NoNumber);
     }
-    let Some(number) = read_number(text, 0, MAX_NUMBER) else {
-        return Err(KeyFault::TooLarge);
-    };
+    match read_number(text, 0, MAX_NUMBER) {
+        Some(number) => key_of_number(room, number),
+        None => Err(KeyFault::TooLarge),
+    }
+}
+
+// The key with this number in this room.
+fn key_of_number(room: u8, number: u64) -> Result<Key, KeyFault>
+    requires { (room ≤ last_room) × (number ≤ largest_number) }
+    ensures { result ≡ Ok (rank room number) }
+{
     match Key::in_room(room, number) {
         Some(key) => Ok(key),
         None => Err(KeyFault::TooLarge),

@@ -66,11 +66,15 @@ read_with_room k small =
     ∙ ap (λ (r : Option ℕ). key_behind r (decimal (number_of k))) (decimal_read 0 last_room (room_of k) (omega arith) (omega arith) room)
     ∙ key_in_decimal (room_of k) (number_of k) number ∙ ap (λ (n : ℕ). Ok n) (same_key k)
 
+decimal_alone : (n : ℕ) → n ≤ largest_number → key_read (decimal n) ≡ Ok (rank 0 n)
+decimal_alone n small = ap (key_of_parts (decimal n)) (parted_none 58 (decimal n) (decimal_lacks 58 n refl (omega arith))) ∙ key_in_decimal 0 n small
+
 read_alone : (k : ℕ) → k ≤ largest_key → room_of k ≡ 0 → key_read (decimal (number_of k)) ≡ Ok k
-read_alone k small first =
-    let number : number_of k ≤ largest_number = omega arith in
-    ap (key_of_parts (decimal (number_of k))) (parted_none 58 (decimal (number_of k)) (decimal_lacks 58 (number_of k) refl (omega arith)))
-    ∙ key_in_decimal 0 (number_of k) number ∙ ap (λ (n : ℕ). Ok n) (omega arith)
+read_alone k small first = decimal_alone (number_of k) (omega arith) ∙ ap (λ (n : ℕ). Ok n) (omega arith)
+
+-- a number alone is a key of room 0
+pub number_alone : (text : List ℕ) (n : ℕ) → number_in 0 largest_number text ≡ Some n → key_read text ≡ Ok (rank 0 n)
+number_alone text n e = let told = number_told_of 0 largest_number n text e in ap key_read told.2 ∙ decimal_alone n told.1
 
 pub spelled_read : (text : List ℕ) (k : ℕ) → k ≤ largest_key → Spells text k → key_read text ≡ Ok k
 spelled_read text k small (inl with) = ap key_read with ∙ read_with_room k small
