@@ -4,6 +4,7 @@
 mod command;
 mod refusal;
 mod request;
+mod values;
 mod words;
 
 pub use command::{MAJOR, MINOR};

@@ -1,16 +1,16 @@
 //! What a command line asks for.
 ghost use Rattle.std.specs.Prelude.{◌≡◌, ◌≤◌, IfOk, IfSome};
-ghost use Rattle.lz_slot.specs.Limits.{last_room, most_buckets};
-ghost use Rattle.lz_slot.specs.Rooms.{last_room_of};
+ghost use Rattle.lz_slot.specs.Limits.{most_buckets};
 ghost use Rattle.lazyset_command_line.specs.Requests.{ArePasses, AreWithin, IsWithin};
 
 use crate::command::{Listens, command_line};
 use crate::refusal::{Refusal, bad_passes, refusal_of, too_many_buckets, too_many_loops};
+use crate::values::{format_of, format_with_rooms, number, number_within, text};
 use crate::words::SOCKET_ID;
 use clap::ArgMatches;
 use lz_resp::Naming;
 use lz_serve::{Language, Loops, MOST_CONNECTIONS, MOST_THREADS, ServeOptions};
-use lz_slot::{Format, LAST_ROOM, MOST_BUCKETS, MOST_PASSES, MOST_REHEARSED};
+use lz_slot::{Format, MOST_BUCKETS, MOST_PASSES, MOST_REHEARSED};
 use std::alloc::{AllocError, Global};
 use std::fmt;
 
@@ -361,47 +361,4 @@ fn rehearse<'a>(words: &ArgMatches<'a>) -> Option<Request<'a>>
         buckets,
         format,
     })
-}
-
-// The format that the command line names.
-fn format_of(matches: &ArgMatches<'_>) -> Option<Format> {
-    match number(matches, "format")? {
-        1 => Some(Format::One),
-        2 => Some(Format::Two),
-        3 => Some(Format::Three),
-        4 => Some(Format::Four),
-        _ => None,
-    }
-}
-
-// The format that the command line names, where it has all rooms.
-fn format_with_rooms(matches: &ArgMatches<'_>) -> Option<Format>
-    ensures { IfSome result (λ format. last_room_of format ≡ last_room) }
-{
-    let format = format_of(matches)?;
-    if format.last_room() != LAST_ROOM {
-        return None;
-    }
-    Some(format)
-}
-
-// A text of the command line.
-fn text<'a>(matches: &ArgMatches<'a>, name: &str) -> Option<&'a str> {
-    matches.get_str(name)
-}
-
-// A number of the command line.
-fn number(matches: &ArgMatches<'_>, name: &str) -> Option<u64> {
-    matches.get_one::<u64>(name)
-}
-
-// A number of the command line, from 1 to the most.
-fn number_within(matches: &ArgMatches<'_>, name: &str, most: usize) -> Option<usize>
-    ensures { IfSome result (λ n. (1 ≤ n) × (n ≤ most)) }
-{
-    let count = usize::try_from(number(matches, name)?).ok()?;
-    if count < 1 || count > most {
-        return None;
-    }
-    Some(count)
 }

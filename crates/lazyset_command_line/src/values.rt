@@ -1,0 +1,50 @@
+//! What the words of a command line hold.
+ghost use Rattle.std.specs.Prelude.{◌≡◌, ◌≤◌, IfSome};
+ghost use Rattle.lz_slot.specs.Limits.{last_room};
+ghost use Rattle.lz_slot.specs.Rooms.{last_room_of};
+
+use clap::ArgMatches;
+use lz_slot::{Format, LAST_ROOM};
+
+// The format that the command line names.
+pub(crate) fn format_of(matches: &ArgMatches<'_>) -> Option<Format> {
+    match number(matches, "format")? {
+        1 => Some(Format::One),
+        2 => Some(Format::Two),
+        3 => Some(Format::Three),
+        4 => Some(Format::Four),
+        _ => None,
+    }
+}
+
+// The format that the command line names, where it has all rooms.
+pub(crate) fn format_with_rooms(matches: &ArgMatches<'_>) -> Option<Format>
+    ensures { IfSome result (λ format. last_room_of format ≡ last_room) }
+{
+    let format = format_of(matches)?;
+    if format.last_room() != LAST_ROOM {
+        return None;
+    }
+    Some(format)
+}
+
+// A text of the command line.
+pub(crate) fn text<'a>(matches: &ArgMatches<'a>, name: &str) -> Option<&'a str> {
+    matches.get_str(name)
+}
+
+// A number of the command line.
+pub(crate) fn number(matches: &ArgMatches<'_>, name: &str) -> Option<u64> {
+    matches.get_one::<u64>(name)
+}
+
+// A number of the command line, from 1 to the most.
+pub(crate) fn number_within(matches: &ArgMatches<'_>, name: &str, most: usize) -> Option<usize>
+    ensures { IfSome result (λ n. (1 ≤ n) × (n ≤ most)) }
+{
+    let count = usize::try_from(number(matches, name)?).ok()?;
+    if count < 1 || count > most {
+        return None;
+    }
+    Some(count)
+}
