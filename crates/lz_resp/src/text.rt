@@ -1,7 +1,7 @@
 //! Texts of replies.
-ghost use Rattle.std.specs.Prelude.{◌≡◌, ◌++◌, IfOk, OnOk, decimal};
+ghost use Rattle.std.specs.Prelude.{◌≡◌, ◌++◌, ◌∷◌, ◌<◌, IfOk, OnOk, decimal};
 ghost use Rattle.lz_resp.specs.Commands.{error, on_line};
-ghost use Rattle.lz_resp.specs.Frames.{bulk};
+ghost use Rattle.lz_resp.specs.Frames.{bulk, dollar, line_end};
 
 use itoa::Buffer;
 use std::alloc::{AllocError, Global};
@@ -64,11 +64,30 @@ pub(crate) fn bulk(alloc: Global, word: &[u8]) -> Result<Text, AllocError>
 pub(crate) fn push_bulk(text: &mut Vec<u8>, word: &[u8]) -> Result<(), AllocError>
     ensures { OnOk result (text.new.items ≡ text.old.items ++ bulk word.now) }
 {
-    text.extend_from_slice(b"$")?;
-    push_number(text, word.len())?;
-    text.extend_from_slice(b"\r\n")?;
+    push_length(text, word.len())?;
     text.extend_from_slice(word)?;
     text.extend_from_slice(b"\r\n")
+}
+
+// Puts a bulk string's first line after a text: at once where its length is one digit, as most numbers' are.
+fn push_length(text: &mut Vec<u8>, length: usize) -> Result<(), AllocError>
+    ensures { OnOk result (text.new.items ≡ text.old.items ++ dollar ∷ decimal length ++ line_end) }
+{
+    if length < 10 {
+        return text.extend_from_slice(&short_line(length));
+    }
+    text.extend_from_slice(b"$")?;
+    push_number(text, length)?;
+    text.extend_from_slice(b"\r\n")
+}
+
+// That line, of a length of one digit.
+#[tactic(auto, using(std::proofs::lemmas::Fmt::decimal_digit))]
+fn short_line(length: usize) -> [u8; 4]
+    requires { length < 10 }
+    ensures { result ≡ dollar ∷ decimal length ++ line_end }
+{
+    [b'$', b'0' + length as u8, b'\r', b'\n']
 }
 
 /// A byte of a word that stands in an error: no line ends in it.
