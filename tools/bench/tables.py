@@ -31,28 +31,31 @@ def by_connections(head: str, names: Sequence[str], counts: Sequence[int], value
     return table(heads, rows)
 
 
-def plot(curves: Dict[str, Dict[int, float]], title: str, path: str) -> None:
-    """A plot of curves by connections."""
-    blocks = ["\n".join([f"$d{i} << EOD", *(f"{c} {rate:.1f}" for c, rate in curve.items()), "EOD\n"]) for i, curve in enumerate(curves.values())]
+def plot(curves: Dict[str, Dict[int, float]], title: str, path: str, across: str, up: str) -> None:
+    """A plot of curves over counts, both in powers."""
+    blocks = ["\n".join([f"$d{i} << EOD", *(f"{count} {value:.4g}" for count, value in curve.items()), "EOD\n"]) for i, curve in enumerate(curves.values())]
     drawn = ", ".join(f'$d{i} with linespoints lw 2 pt {i + 4} title "{name}"' for i, name in enumerate(curves))
     counts = sorted({count for curve in curves.values() for count in curve})
+    labels = ", ".join(f'"{count:,}" {count}' for count in counts)
+    place = "outside right" if max(map(len, curves)) < 30 else "below"
+    form = "%.0f" if min(min(curve.values()) for curve in curves.values()) >= 1 else "%g"
     script = "".join(blocks) + (
         f'set terminal svg size 720,400 font "sans-serif,13" background "white"\nset output "{path}"\n'
-        'set logscale x 2\nset logscale y\nset xlabel "connections"\nset ylabel "commands a second"\nset key outside right\n'
-        f'set title "{title}"\nset xtics ({", ".join(map(str, counts))})\nset format y "%.0f"\n'
+        f'set logscale x 2\nset logscale y\nset xlabel "{across}"\nset ylabel "{up}"\nset key {place}\n'
+        f'set title "{title}"\nset xtics ({labels})\nset format y "{form}"\n'
         f"set xrange [{0.8 * counts[0]}:{1.25 * counts[-1]}]\nset grid\nplot {drawn}\n"
     )
     subprocess.run(["gnuplot"], input=script, text=True, check=True)
 
 
-def plot_all(plots: Dict[str, Dict[str, Dict[int, float]]], page: str) -> List[str]:
-    """Draws a plot for each verb beside a page, and gives the lines that show them."""
+def plot_all(plots: Dict[str, Dict[str, Dict[int, float]]], page: str, across: str = "connections", up: str = "commands a second") -> List[str]:
+    """Draws each plot beside a page, and gives the lines that show them."""
     if shutil.which("gnuplot") is None:
         print("left out: gnuplot isn't installed", file=sys.stderr)
         return []
-    for verb, curves in plots.items():
-        plot(curves, verb, os.path.join(os.path.dirname(page), f"bench-{verb}.svg"))
-    return [f"![{verb}: commands a second by connections](bench-{verb}.svg)" for verb in plots] + [""]
+    for title, curves in plots.items():
+        plot(curves, title, os.path.join(os.path.dirname(page), f"bench-{title}.svg"), across, up)
+    return [f"![{title}: {up} by {across}](bench-{title}.svg)" for title in plots] + [""]
 
 
 def lay_into(page: str, lines: Sequence[str], first_mark: str, last_mark: str) -> None:
