@@ -35,10 +35,14 @@ class Unit:
         os.makedirs(self.state)
         self.file = os.path.join(self.state, "set")
 
-    def words(self, line: str, set_so: str = "") -> List[str]:
-        """The words of a line, where an instance sets a variable so: `${A}` is one word, `$A` alone is as many as it has."""
+    def variables(self, set_so: str = "") -> Dict[str, str]:
+        """What the service has in its environment, where an instance sets a variable so."""
         told = [*" ".join(re.findall(r"^Environment=(.*)$", self.text, re.M)).split(), "PORT=0", *filter(None, [set_so])]
-        values: Dict[str, str] = {name: value for name, _, value in (it.partition("=") for it in told)}
+        return {name: value for name, _, value in (it.partition("=") for it in told)}
+
+    def words(self, line: str, set_so: str = "") -> List[str]:
+        """The words of a line: `${A}` is one word, `$A` alone is as many as it has."""
+        values = self.variables(set_so)
         words: List[str] = []
         for word in "".join(re.findall(rf"^{line}=-?(.*)$", self.text, re.M)).split(" "):
             many = re.fullmatch(r"\$(\w+)", word)
@@ -59,7 +63,7 @@ class Unit:
             place = os.path.join(self.runtime, "notify")
             ready.bind(place)
             ready.settimeout(MOST_SECONDS)
-            words, variables = self.words("ExecStart", set_so), {**os.environ, "NOTIFY_SOCKET": place}
+            words, variables = self.words("ExecStart", set_so), {**os.environ, **self.variables(set_so), "NOTIFY_SOCKET": place}
             with subprocess.Popen(words, env=variables, stdout=subprocess.PIPE, stderr=subprocess.DEVNULL, text=True) as service:
                 try:
                     told = ready.recv(4096).decode("ascii").splitlines()
