@@ -1,9 +1,9 @@
 -- What an open makes of the members that the vault found.
-use Rattle.std.specs.Prelude.{◌≡◌, ℕ, suc, Bool, true, false, if◌then◌else◌, IsTrue, List, [], ◌∷◌, length, map, replicate}
+use Rattle.std.specs.Prelude.{◌≡◌, ℕ, zero, suc, Bool, true, false, if◌then◌else◌, IsTrue, List, [], ◌∷◌, ◌++◌, length, map, replicate, is_some}
 use Rattle.std.specs.List.{range_with_len}
 use Rattle.lz_disk.specs.Devices.{Device}
 use Rattle.lz_vault.specs.Stages.{Cell}
-use Rattle.lz_vault.specs.Members.{AreMembers}
+use Rattle.lz_vault.specs.Members.{AreMembers, member_at}
 use Rattle.lz_vault.specs.Opens.{Opens}
 use Rattle.lz_allot.specs.Uses.{Free, Taken}
 use Rattle.lz_allot.specs.Allots.{Allotted}
@@ -26,6 +26,11 @@ with_first w k s =
 abbrev pub with_members : Chain → Words → Words
 with_members [] w = w
 with_members (f ∷ found) w = with_first (with_members found w) f.0 f.1
+
+-- those of the first n slots that hold a member, in their order
+abbrev pub taken_among : List Cell → ℕ → List ℕ
+taken_among cells zero = []
+taken_among cells (suc n) = taken_among cells n ++ (if is_some (member_at cells n) then n ∷ [] else [])
 
 -- What is made of them: the words after an opening of them, all locks free, their slots taken, and idle actors.
 pub record AreTables (cells : List Cell) (buckets passes : ℕ) (list : Listed) (allot : Allotted) (actors : List Actor) : Type 0 where

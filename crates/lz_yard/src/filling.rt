@@ -1,16 +1,16 @@
 //! What an open makes of the members that the vault found.
-ghost use Rattle.std.specs.Prelude.{◌≡◌, ◌≤◌, ◌<◌, All, IfOk, OnOk, length, map, reverse};
+ghost use Rattle.std.specs.Prelude.{◌≡◌, ◌≤◌, ◌<◌, All, IfOk, is_some, length};
 ghost use Rattle.lz_slot.specs.Limits.{most_passes};
 ghost use Rattle.lz_list.specs.Traces.{bucket_of};
-ghost use Rattle.lz_vault.specs.Members.{AreMembers};
-ghost use Rattle.lz_yard.specs.Filling.{AreTables, with_first, with_members};
+ghost use Rattle.lz_vault.specs.Members.{AreMembers, member_at};
+ghost use Rattle.lz_yard.specs.Filling.{AreTables, taken_among, with_first, with_members};
 
 use lz_allot::Allot;
 use lz_disk::Disk;
 use lz_list::{Flags, LinkWord, List, Place, Word, Words, next_to};
 use lz_machine::{Actor, Hold};
 use lz_slot::Slot;
-use lz_vault::Vault;
+use lz_vault::{Stage, Vault};
 use std::alloc::{AllocError, Global};
 
 // What an actor has in hand at first.
@@ -44,8 +44,9 @@ impl Tables {
         ensures { IfOk result (λ tables. AreTables vault.now.memory.cells buckets passes tables.list tables.allot tables.actors.items) }
     {
         let slots = vault.slots();
+        let taken = taken_slots(alloc, vault, members.len())?;
         let mut words = Words::new(alloc, slots, buckets, passes)?;
-        let taken = link_members(alloc, members, &mut words)?;
+        link_members(members, &mut words);
         let list = List::new(alloc, words)?;
         let allot = Allot::new(alloc, slots, passes, &taken)?;
         let actors = vec![in alloc; IDLE; passes]?;
@@ -57,23 +58,41 @@ impl Tables {
     }
 }
 
-// Links the members, from the greatest key down, each before the others of its bucket. Their slots are handed back.
-fn link_members(
-    alloc: Global,
-    found: Vec<(u64, Slot)>,
-    words: &mut Words,
-) -> Result<Vec<Slot>, AllocError>
-    requires { All (λ f. f.1 < length words.old.links) found.items }
-    ensures words { OnOk result (words.new ≡ with_members found.items words.old) }
-    ensures taken { IfOk result (λ taken. taken.items ≡ reverse (map (λ f. f.1) found.items)) }
+// Whether a slot holds a member.
+fn holds_member<D: Disk>(vault: &Vault<D>, slot: Slot) -> bool
+    requires { slot < length vault.now.memory.cells }
+    ensures { result ≡ is_some (member_at vault.now.memory.cells slot) }
 {
-    let mut members = found;
-    let mut taken = Vec::new(alloc);
-    while let Some((key, slot)) = members.pop() {
-        link_first(words, key, slot);
-        taken.push(slot)?;
+    matches!(vault.stage(slot), Stage::Open)
+}
+
+// The slots that hold a member, in their order, of which there are so many. In the order of the keys each would be a place far from the last.
+fn taken_slots<D: Disk>(
+    alloc: Global,
+    vault: &Vault<D>,
+    members: usize,
+) -> Result<Vec<Slot>, AllocError>
+    ensures { IfOk result (λ taken. taken.items ≡ taken_among vault.now.memory.cells (length vault.now.memory.cells)) }
+{
+    let mut taken = Vec::with_capacity(alloc, members)?;
+    for index in 0..vault.slots() {
+        let slot = Slot::new(index as u32);
+        if holds_member(vault, slot) {
+            taken.push(slot)?;
+        }
     }
     Ok(taken)
+}
+
+// Links the members, from the greatest key down, each before the others of its bucket.
+fn link_members(found: Vec<(u64, Slot)>, words: &mut Words)
+    requires { All (λ f. f.1 < length words.old.links) found.items }
+    ensures { words.new ≡ with_members found.items words.old }
+{
+    let mut members = found;
+    while let Some((key, slot)) = members.pop() {
+        link_first(words, key, slot);
+    }
 }
 
 // Links a node before the others of its bucket. It counts as settled: an open has made durable what it read.

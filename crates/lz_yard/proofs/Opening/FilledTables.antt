@@ -1,10 +1,9 @@
 -- What an open makes of the members that it found fits, and is what the yard of the text read has.
-use Rattle.std.proofs.Common.{◌≡◌, ℕ, zero, suc, ◌<◌, ◌≤◌, Bool, true, ◌||◌, ◌==◌, List, [], ◌∷◌, length, map, refl, sym, ap, ◌∙◌, subst, arith}
-use Rattle.std.specs.Prelude.{All, Some, replicate, reverse, slice_get, slice_index_or, if◌then◌else◌}
+use Rattle.std.proofs.Common.{◌≡◌, ℕ, zero, suc, ◌<◌, ◌≤◌, Bool, true, ◌==◌, List, [], ◌∷◌, length, map, refl, sym, ap, ◌∙◌, subst, arith}
+use Rattle.std.specs.Prelude.{All, Some, replicate, slice_get, slice_index_or, if◌then◌else◌}
 use Rattle.std.specs.List.{list_any, range_with_len}
 use Rattle.std.proofs.lemmas.List.{length-map, length-replicate, get_or-replicate}
 use Rattle.std.proofs.lemmas.List.FromFn.{length-range_with_len}
-use Rattle.std.proofs.lemmas.List.Sorted.{IsPermutation-reverse, list_any-IsPermutation, All-permutation}
 use Rattle.std.proofs.lemmas.Option.{slice_get_within, get_or_from_slice_get}
 use Rattle.lz_slot.specs.Limits.{most_passes, most_slots}
 use Rattle.lz_vault.specs.Stages.{Cell}
@@ -24,25 +23,17 @@ use Rattle.lz_machine.specs.Yards.{Yard, idle_actor}
 use Rattle.lz_yard.specs.Parts.{PartsFit, HasInRange}
 use Rattle.lz_slot.specs.Nodes.{has_node}
 use Rattle.lz_vault.specs.Members.{AreMembers}
-use Rattle.lz_yard.specs.Filling.{AreTables, with_members}
+use Rattle.lz_yard.specs.Filling.{AreTables, taken_among, with_members}
 use Rattle.lz_vault.proofs.Members.{node_first, node_later}
 use Rattle.lz_yard.proofs.Opening.MemberNodes.{are_found}
 use Rattle.lz_yard.proofs.Opening.LinkedMembers.{filled_words}
+use Rattle.lz_yard.proofs.Opening.TakenSlots.{taken_low, has_taken}
 
 -- each entry of a list is a node of it
 node_at : (es : Chain) (i : ℕ) (d : ℕ × ℕ) → i < length es → has_node (slice_index_or es i d).0 (slice_index_or es i d).1 es ≡ true
 node_at [] i d low = absurd (omega (arith, low))
 node_at (f ∷ es) zero d low = node_first f es
 node_at (f ∷ es) (suc i) d low = node_later (slice_index_or es i d).0 (slice_index_or es i d).1 f es (node_at es i d (omega (arith, low)))
-
-slots_at : (es : Chain) (i d : ℕ) → slice_index_or (map (λ (f : ℕ × ℕ). f.1) es) i d ≡ (slice_index_or es i (0, d)).1
-slots_at [] i d = refl
-slots_at (f ∷ es) zero d = refl
-slots_at (f ∷ es) (suc i) d = slots_at es i d
-
-any_slot : (s : ℕ) (es : Chain) → list_any (λ (t : ℕ). t == s) (map (λ (f : ℕ × ℕ). f.1) es) ≡ has_slot s es
-any_slot s [] = refl
-any_slot s (f ∷ es) = ap (λ (b : Bool). (f.1 == s) || b) (any_slot s es)
 
 same_map : {X : Type 0} (f g : ℕ → X) (xs : List ℕ) → ((x : ℕ) → f x ≡ g x) → map f xs ≡ map g xs
 same_map f g [] same = refl
@@ -67,29 +58,16 @@ module _ (cells : List Cell) (B S : ℕ) (few : length cells ≤ most_slots) (so
   pub words_sorted : (w v : Words) → v ≡ new_words N B S → w ≡ with_members es v → IsSorted w
   words_sorted w v new is = subst IsSorted (sym (words_filled w v new is)) (sorted_after N B (opening B es) few (opening_lawful B N es found) (words_of_trace N B S (opening B es)) refl refl refl)
 
-  abbrev slots : List ℕ
-  slots = map (λ f. f.1) es
+  pub low_taken : (taken : List ℕ) → taken ≡ taken_among cells N → All (λ s. s < N) taken
+  low_taken taken is = subst (All (λ s. s < N)) (sym is) (taken_low cells N)
 
-  slots_low : All (λ s. s < N) slots
-  slots_low i d low =
-      let at : slice_index_or slots i d ≡ (slice_index_or es i (0, d)).1 = slots_at es i d in
-      let size : length slots ≡ length es = length-map es (λ f. f.1) in
-      let node = are.each (slice_index_or es i (0, d)).0 (slice_index_or es i (0, d)).1 (node_at es i (0, d) (omega (arith, low, size))) in
-      omega (arith, at, node.0)
-
-  pub taken_low : (taken : List ℕ) → taken ≡ reverse slots → All (λ s. s < N) taken
-  taken_low taken is = subst (All (λ s. s < N)) (sym is) (All-permutation (λ s. s < N) slots (reverse slots) (IsPermutation-reverse slots) slots_low)
-
-  taken_any : (s : ℕ) → list_any (λ (t : ℕ). t == s) (reverse slots) ≡ has_slot s es
-  taken_any s = sym (list_any-IsPermutation (λ (t : ℕ). t == s) slots (reverse slots) (IsPermutation-reverse slots)) ∙ any_slot s es
-
-  taken_uses : (taken : List ℕ) → taken ≡ reverse slots → first_uses N taken ≡ map (λ s. if has_slot s es then Taken else Free) (range_with_len 0 N)
+  taken_uses : (taken : List ℕ) → taken ≡ taken_among cells N → first_uses N taken ≡ map (λ s. if has_slot s es then Taken else Free) (range_with_len 0 N)
   taken_uses taken is =
       ap (first_uses N) is
-      ∙ same_map (λ s. if list_any (λ (t : ℕ). t == s) (reverse slots) then Taken else Free) (λ s. if has_slot s es then Taken else Free) (range_with_len 0 N) (λ s. ap (λ (b : Bool). if b then Taken else Free) (taken_any s))
+      ∙ same_map (λ s. if list_any (λ (t : ℕ). t == s) (taken_among cells N) then Taken else Free) (λ s. if has_slot s es then Taken else Free) (range_with_len 0 N) (λ s. ap (λ (b : Bool). if b then Taken else Free) (has_taken cells es are s))
 
   pub tables_are : (w v : Words) (list : Listed) (allot : Allotted) (taken : List ℕ) (actors : List Actor) → v ≡ new_words N B S → w ≡ with_members es v
-      → list ≡ record { words = w; locks = free_locks w } → taken ≡ reverse slots → allot.uses ≡ first_uses N taken → allot.rows ≡ replicate S first_row → actors ≡ replicate S idle_actor
+      → list ≡ record { words = w; locks = free_locks w } → taken ≡ taken_among cells N → allot.uses ≡ first_uses N taken → allot.rows ≡ replicate S first_row → actors ≡ replicate S idle_actor
       → AreTables cells B S list allot actors
   tables_are w v list allot taken actors new is list_is taken_is uses rows idle = record {
     members = es;

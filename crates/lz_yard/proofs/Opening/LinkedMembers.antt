@@ -1,9 +1,8 @@
 -- The words that an open fills are those after the trace of its members.
-use Rattle.std.proofs.Common.{◌≡◌, ◌≢◌, inl, inr, ℕ, zero, suc, ◌<◌, ◌≤◌, true, false, ◌==◌, List, [], ◌∷◌, ◌++◌, length, map, refl, sym, ap, ◌∙◌, arith, length-set, append_assoc, length-append}
-use Rattle.std.specs.Prelude.{All, reverse, replicate, slice_set}
+use Rattle.std.proofs.Common.{◌≡◌, ◌≢◌, inl, inr, ℕ, zero, suc, ◌<◌, ◌≤◌, true, false, ◌==◌, List, [], ◌∷◌, ◌++◌, length, refl, sym, ap, ◌∙◌, arith, length-set, length-append}
+use Rattle.std.specs.Prelude.{All, replicate, slice_set}
 use Rattle.std.proofs.lemmas.Bool.Decides.{nat_tests, eqb_tells}
-use Rattle.std.proofs.lemmas.List.{get_or_append_left, reverse-append}
-use Rattle.std.proofs.lemmas.Grind.{common_steps}
+use Rattle.std.proofs.lemmas.List.{get_or_append_left}
 use Rattle.lz_slot.specs.Limits.{most_slots}
 use Rattle.lz_list.specs.declared.place.Place.TheVariants.{Bucket}
 use Rattle.lz_list.specs.declared.flags.Flags.{Flags}
@@ -119,24 +118,14 @@ with_last : (es : Chain) (f : ℕ × ℕ) (w : Words) → with_members (es ++ f 
 with_last [] f w = refl
 with_last (e ∷ es) f w = ap (λ (v : Words). with_first v e.0 e.1) (with_last es f w)
 
-reverse_last : (xs : List ℕ) (x : ℕ) → reverse (xs ++ x ∷ []) ≡ x ∷ reverse xs
-reverse_last xs x = reverse-append xs (x ∷ [])
+-- what is left to link, once some of it is linked
+abbrev pub Links : Chain → Words → Words → Type 0
+Links es w end = (with_members es w ≡ end) × All (λ f. f.1 < length w.links) es
 
-map_last : (es : Chain) (f : ℕ × ℕ) → map (λ (e : ℕ × ℕ). e.1) (es ++ f ∷ []) ≡ map (λ (e : ℕ × ℕ). e.1) es ++ f.1 ∷ []
-map_last es f = grind (arith, common_steps)
-
-abbrev pub Links : Chain → Words → List ℕ → Words → List ℕ → Type 0
-Links es w taken end all =
-    (with_members es w ≡ end) × All (λ f. f.1 < length w.links) es × (taken ++ reverse (map (λ f. f.1) es) ≡ all)
-
-pub links_on : (before es : Chain) (w w' end : Words) (taken taken' all : List ℕ) (k s : ℕ) → Links before w taken end all
-    → before ≡ es ++ (k, s) ∷ [] → w' ≡ with_first w k s → taken' ≡ taken ++ s ∷ [] → Links es w' taken' end all
-links_on before es w w' end taken taken' all k s links is words more = grind (arith, with_last, append_assoc, reverse_last, map_last, length-set, length-append, get_or_append_left)
+pub links_on : (before es : Chain) (w w' end : Words) (k s : ℕ) → Links before w end → before ≡ es ++ (k, s) ∷ [] → w' ≡ with_first w k s → Links es w' end
+links_on before es w w' end k s links is words = grind (arith, with_last, length-set, length-append, get_or_append_left)
 
 -- the same, by the numbers that the code names
-pub links_go : (before es : Chain) (w w' end : Words) (taken taken' all : List ℕ) (k s k' s' t : ℕ) → Links before w taken end all
-    → before ≡ es ++ (k, s) ∷ [] → w' ≡ with_first w k' s' → taken' ≡ taken ++ t ∷ [] → k' ≡ k → s' ≡ s → t ≡ s → Links es w' taken' end all
-links_go before es w w' end taken taken' all k s k' s' t links is words more key slot last =
-    links_on before es w w' end taken taken' all k s links is
-    (words ∙ ap (λ (q : ℕ). with_first w q s') key ∙ ap (with_first w k) slot)
-    (more ∙ ap (λ (q : ℕ). taken ++ q ∷ []) last)
+pub links_go : (before es : Chain) (w w' end : Words) (k s k' s' : ℕ) → Links before w end → before ≡ es ++ (k, s) ∷ [] → w' ≡ with_first w k' s' → k' ≡ k → s' ≡ s → Links es w' end
+links_go before es w w' end k s k' s' links is words key slot =
+    links_on before es w w' end k s links is (words ∙ ap (λ (q : ℕ). with_first w q s') key ∙ ap (with_first w k) slot)

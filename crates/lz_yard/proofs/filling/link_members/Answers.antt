@@ -2,7 +2,4 @@ use Rattle.lz_yard.proofs.Opening.LinkedMembers.{links_go}
 use Rattle.lz_yard.proofs.filling.link_members.Goals as goal
 
 pub loop-key-preserved : goal.loop-key-preserved
-loop-key-preserved c =
-    let key = c.in-Some.key-is in
-    let slot = c.in-Some.slot-is in
-    links_go _ _ _ _ _ _ _ _ _ _ _ _ _ c.loop-key.invariant c.in-Some.ensures.items c.link_first.ensures c.in_ok-push.ensures.items (cc key) (cc slot) (cc slot)
+loop-key-preserved c = links_go _ _ _ _ _ _ _ _ _ c.loop-key.invariant c.in-Some.ensures.items c.link_first.ensures (cc) (cc)

@@ -1,0 +1,78 @@
+-- The slots that an open finds taken are those of its members.
+use Rattle.std.proofs.Common.{◌≡◌, inl, inr, ℕ, zero, suc, ◌+◌, ◌<◌, Bool, true, false, ◌==◌, List, [], ◌∷◌, ◌++◌, length, refl, sym, ap, ◌∙◌, arith}
+use mathlib.Core.Bool.{false≢true}
+use Rattle.std.specs.Prelude.{All, Option, Some, None, is_some, nat_lt, ◌&&◌, ◌||◌, if◌then◌else◌}
+use Rattle.std.specs.List.{list_any}
+use Rattle.std.proofs.Math.Numerals.{add-one}
+use Rattle.std.proofs.lemmas.Bool.{cases_eq, cases_lt, cases_Bool}
+use Rattle.std.proofs.lemmas.Bool.Decides.{nat_tests}
+use Rattle.std.proofs.lemmas.List.{append-nil}
+use Rattle.std.proofs.lemmas.List.Elements.{All-append}
+use Rattle.std.proofs.lemmas.List.Folds.{list_any-append}
+use Rattle.lz_slot.specs.Nodes.{has_node}
+use Rattle.lz_vault.specs.Stages.{Cell}
+use Rattle.lz_vault.specs.Members.{AreMembers, member_at}
+use Rattle.lz_list.specs.Traces.{Chain, has_slot}
+use Rattle.lz_list.proofs.Chains.ChainNode.{node_slot}
+use Rattle.lz_yard.specs.Filling.{taken_among}
+use Rattle.lz_yard.proofs.Opening.MemberNodes.{slot_node}
+
+module _ (cells : List Cell) where
+  -- a slot that is taken, or one that isn't
+  abbrev one_if : Bool → ℕ → List ℕ
+  one_if b n = if b then n ∷ [] else []
+
+  -- one slot more
+  pub taken_more : (n : ℕ) → true ≡ is_some (member_at cells n) → taken_among cells n ++ n ∷ [] ≡ taken_among cells (n + 1)
+  taken_more n is = sym (ap (taken_among cells) (add-one n) ∙ ap (λ b. taken_among cells n ++ one_if b n) (sym is))
+
+  pub taken_same : (n : ℕ) → false ≡ is_some (member_at cells n) → taken_among cells n ≡ taken_among cells (n + 1)
+  taken_same n is = sym (ap (taken_among cells) (add-one n) ∙ ap (λ b. taken_among cells n ++ one_if b n) (sym is) ∙ append-nil (taken_among cells n))
+
+  one_low : (b : Bool) (n : ℕ) → All (λ s. s < suc n) (one_if b n)
+  one_low true n zero d low = omega arith
+  one_low true n (suc i) d low = absurd (omega (arith, low))
+  one_low false n i d low = absurd (omega (arith, low))
+
+  pub taken_low : (n : ℕ) → All (λ s. s < n) (taken_among cells n)
+  taken_low zero i d low = absurd (omega (arith, low))
+  taken_low (suc n) i d low =
+      All-append (λ s. s < suc n) (taken_among cells n) (one_if (is_some (member_at cells n)) n) (λ j e lower. omega (arith, taken_low n j e lower)) (one_low (is_some (member_at cells n)) n) i d low
+
+  one_any : (b : Bool) (n s : ℕ) → list_any (λ (t : ℕ). t == s) (one_if b n) ≡ ((n == s) && b)
+  one_any true n s = grind (arith, nat_tests)
+  one_any false n s = grind (arith, nat_tests)
+
+  is_taken : (s n : ℕ) → list_any (λ (t : ℕ). t == s) (taken_among cells n) ≡ (nat_lt s n && is_some (member_at cells s))
+  is_taken s zero = grind (arith, nat_tests)
+  is_taken s (suc n) =
+      let here = is_some (member_at cells n) in
+      list_any-append (λ (t : ℕ). t == s) (taken_among cells n) (one_if here n)
+      ∙ (λ i. is_taken s n i || one_any here n s i)
+      ∙ elim (cases_eq n s) [
+        | inl same ↦ grind (arith, nat_tests, same)
+        | inr other ↦ grind (arith, nat_tests, other)
+      ]
+
+  module _ (es : Chain) (are : AreMembers cells (length cells) es) where
+    abbrev N : ℕ
+    N = length cells
+
+    has_it : (s k : ℕ) → has_node k s es ≡ true → has_slot s es ≡ (nat_lt s N && is_some (member_at cells s))
+    has_it s k there =
+        let node = are.each k s there in
+        let low : nat_lt s N ≡ true = grind (arith, nat_tests, node.0) in
+        node_slot k s es there ∙ sym (λ i. low i && is_some (node.1 i))
+
+    has_none : (s : ℕ) → has_slot s es ≡ false → (o : Option ℕ) → member_at cells s ≡ o → false ≡ (nat_lt s N && is_some o)
+    has_none s none None is = grind (arith, nat_tests)
+    has_none s none (Some k) is = elim (cases_lt s N) [
+      | inl low ↦ let has = node_slot k s es (are.all k s low is) in absurd (false≢true (sym none ∙ has))
+      | inr high ↦ grind (arith, nat_tests, high)
+    ]
+
+    pub has_taken : (s : ℕ) → list_any (λ (t : ℕ). t == s) (taken_among cells N) ≡ has_slot s es
+    has_taken s = is_taken s N ∙ sym (elim (cases_Bool (has_slot s es)) [
+      | inl has ↦ let node = slot_node s es has in has_it s node.0 node.1
+      | inr none ↦ none ∙ has_none s none (member_at cells s) refl
+    ])
