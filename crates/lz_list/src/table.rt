@@ -11,12 +11,18 @@ use lz_slot::Slot;
 use std::alloc::{AllocError, Global};
 use std::marker::Model;
 
+// A slot's link and key. They lie side by side, since who reads or writes one of them is mostly about to do so with the other.
+#[derive(Clone, Copy)]
+struct Node {
+    link: u64,
+    key: u64,
+}
+
 /// The words that threads share, as a plain table.
 #[derive(Drop)]
 pub struct Words {
     heads: Vec<u64>,
-    links: Vec<u64>,
-    keys: Vec<u64>,
+    nodes: Vec<Node>,
     pins: Vec<u64>,
     halt: u64,
 }
@@ -26,11 +32,12 @@ impl Model for Words {
 
     ghost Value = { AllWords };
 
+    ghost use Rattle.std.specs.Prelude.{map};
     ghost use Rattle.lz_list.specs.Lists.{IsTable};
 
-    ghost view = { λ w. record { heads = w.heads.items; links = w.links.items; keys = w.keys.items; pins = w.pins.items; halt = w.halt } };
+    ghost view = { λ w. record { heads = w.heads.items; links = map (λ n. n.link) w.nodes.items; keys = map (λ n. n.key) w.nodes.items; pins = w.pins.items; halt = w.halt } };
 
-    ghost invariant = { λ w. IsTable (record { heads = w.heads.items; links = w.links.items; keys = w.keys.items; pins = w.pins.items; halt = w.halt }) };
+    ghost invariant = { λ w. IsTable (record { heads = w.heads.items; links = map (λ n. n.link) w.nodes.items; keys = map (λ n. n.key) w.nodes.items; pins = w.pins.items; halt = w.halt }) };
 }
 
 /// The word that holds the next link of a place.
@@ -60,8 +67,7 @@ impl Words {
     {
         Ok(Words {
             heads: vec![in alloc; 0; buckets]?,
-            links: vec![in alloc; 0; slots]?,
-            keys: vec![in alloc; 0; slots]?,
+            nodes: vec![in alloc; Node { link: 0, key: 0 }; slots]?,
             pins: vec![in alloc; 0; passes]?,
             halt: 0,
         })
@@ -80,7 +86,7 @@ impl Words {
         ensures count { result ≡ length self.now.links }
         ensures table { IsTable self.now }
     {
-        self.links.len()
+        self.nodes.len()
     }
 
     /// How many passes there are: each has a pin word.
@@ -97,8 +103,8 @@ impl Words {
     {
         match word {
             Word::Head(bucket) => self.heads[bucket],
-            Word::Link(slot) => self.links[slot.index() as usize],
-            Word::Key(slot) => self.keys[slot.index() as usize],
+            Word::Link(slot) => self.nodes[slot.index() as usize].link,
+            Word::Key(slot) => self.nodes[slot.index() as usize].key,
             Word::Pin(pass) => self.pins[pass - 1],
             Word::Halt => self.halt,
         }
@@ -110,8 +116,8 @@ impl Words {
     {
         match word {
             Word::Head(bucket) => self.heads[bucket] = value,
-            Word::Link(slot) => self.links[slot.index() as usize] = value,
-            Word::Key(slot) => self.keys[slot.index() as usize] = value,
+            Word::Link(slot) => self.nodes[slot.index() as usize].link = value,
+            Word::Key(slot) => self.nodes[slot.index() as usize].key = value,
             Word::Pin(pass) => self.pins[pass - 1] = value,
             Word::Halt => self.halt = value,
         }
