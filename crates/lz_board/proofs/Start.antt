@@ -1,2 +1,3 @@
 pub mod FirstWords
 pub mod FirstState
+pub mod LaidRow
