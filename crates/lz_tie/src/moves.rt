@@ -1,9 +1,10 @@
 //! The moves of a thread's call: its beginning, a load without the lock, and a hold of each other event.
-ghost use Rattle.std.specs.Prelude.{◌≡◌, ◌≤◌, ◌<◌, ◌∷◌, [], None, Some, true, if◌then◌else◌, suc};
+ghost use Rattle.std.specs.Prelude.{◌≡◌, ◌≤◌, ◌<◌, ◌∷◌, ℕ, [], None, Some, true, if◌then◌else◌, suc};
 ghost use Rattle.lz_slot.specs.declared.command.Command.{Command as Asked};
 ghost use Rattle.lz_slot.specs.declared.format.Format.{Format};
 ghost use Rattle.lz_slot.specs.declared.history.Mark.TheVariants.{Call};
 ghost use Rattle.lz_slot.specs.Limits.{most_buckets, most_passes};
+ghost use Rattle.lz_list.specs.Walks.{wants};
 ghost use Rattle.lz_machine.specs.declared.caller.Progress.TheVariants.{Answering};
 ghost use Rattle.lz_machine.specs.declared.event.Event.TheVariants.{Hop};
 ghost use Rattle.lz_machine.specs.declared.event.Outcome.TheVariants.{Fault, Value};
@@ -61,6 +62,7 @@ pub fn walk_on(board: &Board, pass: &mut Pass, caller: &mut Caller, walk: &mut W
     requires walk { walk_of (with_look caller.old walk.old.look) ≡ Some walk.old }
     requires counted { IsCounted (id_of board.now) (with_look caller.old walk.old.look) (part pass.old) }
     ensures pass { IsOf (id_of board.now) pass.new }
+    ensures part { (found : ℕ) × (part pass.new ≡ loading (part pass.new).known (index (id_of board.now).sizes (wants walk.old.buckets walk.old.key walk.old.look)) found (part pass.old)) }
     ensures steps { (part pass.new).steps ≡ (part pass.old).steps }
     ensures goes { CountsOn (id_of board.now) (with_look caller.old walk.old.look) (part pass.old) (if result then with_look caller.new walk.new.look else caller.new) (part pass.new) }
     ensures walk { result ≡ true → walk_of (with_look caller.new walk.new.look) ≡ Some walk.new }
