@@ -64,11 +64,12 @@ StandsWhere stage call = IfSome stage (λ s. IsSomeAnd call (λ k. StandsAt s k)
 abbrev pub IsAsking : BoardId → Format → List Part → Asked → Type 0
 IsAsking b F given a = RestsOrAnswers b F given a.question a.pass a.halted a.call a.tries × StandsWhere a.stage a.call
 
--- It is the same question, with as many calls answered.
+-- It is the same question, with as many calls answered, and the last reply is the one before it.
 pub record IsSameQuestion (old new : Asked) : Type 0 where
   pub question : new.question ≡ old.question
   pub token : new.token ≡ old.token
   pub tries : new.tries ≡ old.tries
+  pub halted : new.halted ≡ old.halted
 
 -- it waits for slots: its next call is yet to begin, and isn't the second one, which nothing is to wait for
 abbrev pub waits_for_slots : Asked → Bool

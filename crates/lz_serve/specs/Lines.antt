@@ -19,6 +19,10 @@ replied request reply = record { request = request; reply = Some reply }
 abbrev pub IsFree : List Line → Option ℕ → Type 0
 IsFree under key = All (λ line. line.reply ≡ None → key_asked line.request ≢ key) under
 
+-- none of these lines awaits its reply
+abbrev pub AreReplied : List Line → Type 0
+AreReplied under = All (λ line. line.reply ≢ None) under
+
 -- what these lines ask
 abbrev pub asked_by : List Line → List Request
 asked_by under = map (λ line. line.request) under

@@ -192,6 +192,7 @@ impl<N: Named, B: Given> Asking<N, B> {
         ensures question { self.new.question ≡ Some question }
         ensures token { self.new.token ≡ token }
         ensures tries { self.new.tries ≡ 0 }
+        ensures halted { self.new.halted ≡ false }
     {
         let call = set.begin(rt, kept, &mut self.pass, question.command());
         self.call = Some(call);
@@ -278,7 +279,7 @@ impl<N: Named, B: Given> Asking<N, B> {
         ensures token { self.new.token ≡ self.old.token }
         ensures rests { IfSome result (λ granted. self.new.question ≡ None) }
         ensures halted { IfSome result (λ granted. self.new.halted ≡ says_halted granted.reply) }
-        ensures again { result ≡ None → (self.new.question ≡ self.old.question) × (self.new.call ≡ None) × (self.new.tries ≡ self.old.tries + 1) }
+        ensures again { result ≡ None → (self.new.question ≡ self.old.question) × (self.new.call ≡ None) × (self.new.tries ≡ self.old.tries + 1) × (self.new.halted ≡ self.old.halted) }
     {
         let Some(question) = self.question.take() else {
             unreachable!();

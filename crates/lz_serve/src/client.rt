@@ -1,10 +1,11 @@
 //! One client.
-ghost use Rattle.std.specs.Prelude.{◌≡◌, ◌<◌, ◌≤◌, ◌++◌, [], ◌∷◌, List, None, Some, false, length, true};
+ghost use Rattle.std.specs.Prelude.{◌≡◌, ◌≢◌, ◌↔◌, ◌⊎◌, ◌<◌, ◌≤◌, ◌-◌, ◌++◌, [], ◌∷◌, IsTrue, List, None, Some, false, length, suc, take, true};
 ghost use Rattle.lz_list.specs.Traces.{Begins};
 ghost use Rattle.lz_board.specs.Seats.{part};
 ghost use Rattle.lz_proto.specs.declared.end.End.TheVariants.{Done};
-ghost use Rattle.lz_serve.specs.Clients.{HasLine, HasNoQuery, HasNoReady, HasNoText, HasTold, HasToldTexts, IsHeard, IsOwn, KeepsLines, KeepsOwn, TellsOf};
+ghost use Rattle.lz_serve.specs.Clients.{AwaitsNoPage, HasLine, HasNoQuery, HasNoReady, HasNoText, HasTold, HasToldTexts, IsHeard, IsOwn, KeepsLines, KeepsOwn, TellsOf};
 ghost use Rattle.lz_serve.specs.Grants.{Grant, IsGrant, IsLater, Posed};
+ghost use Rattle.lz_serve.specs.Lines.{AreReplied};
 ghost use Rattle.lz_serve.specs.Streams.{IsFresh};
 
 mod page;
@@ -301,25 +302,32 @@ impl<S: Stream> Client<S> {
     }
 
     /// Whether lines are under way.
-    pub(crate) fn is_asked(&self) -> bool {
+    pub(crate) fn is_asked(&self) -> bool
+        ensures { IsTrue result ↔ (self.now.under ≢ []) }
+    {
         self.talk.is_asked()
     }
 
     /// Whether a line before the one of this number isn't answered.
-    pub(crate) fn has_earlier(&self, line: u64) -> bool {
+    pub(crate) fn has_earlier(&self, line: u64) -> bool
+        ensures none { result ≡ false → AreReplied (take (line - suc self.now.told) self.now.under) }
+        ensures some { result ≡ true → AreReplied (take (line - suc self.now.told) self.now.under) → ⊥ }
+    {
         self.talk.awaits_before(line)
     }
 
     /// Whether it has a line for which a pass may be had.
     pub(crate) fn may_ask(&self) -> bool
-        ensures { result ≡ false → HasLine self.now → ⊥ }
+        ensures none { result ≡ false → HasLine self.now → ⊥ }
+        ensures some { result ≡ true → (self.now.lost ≡ false) × (self.now.waiting ≢ []) }
     {
         !self.held && self.waits()
     }
 
     /// Whether lines have come that weren't handed out.
     pub(crate) fn waits(&self) -> bool
-        ensures { result ≡ false → self.now.lost ≡ false → self.now.waiting ≡ [] }
+        ensures none { result ≡ false → self.now.lost ≡ false → self.now.waiting ≡ [] }
+        ensures some { result ≡ true → (self.now.lost ≡ false) × (self.now.waiting ≢ []) }
     {
         !self.lost && self.talk.waits()
     }
@@ -330,12 +338,17 @@ impl<S: Stream> Client<S> {
     }
 
     /// Whether nothing more is to be told.
-    pub(crate) fn is_over(&self) -> bool {
+    pub(crate) fn is_over(&self) -> bool
+        ensures none { result ≡ false → self.now.lost ≡ false }
+        ensures some { result ≡ true → self.now.lost ≡ false → (self.now.ended ≢ Done) ⊎ (self.now.turns ≡ []) }
+    {
         self.lost || self.talk.is_over() && self.talk.unsent().is_empty()
     }
 
     /// Whether there is more to do for it before it is read again.
-    pub(crate) fn is_occupied(&self) -> bool {
+    pub(crate) fn is_occupied(&self) -> bool
+        ensures { result ≡ false → (self.now.lost ≡ false) × (self.now.waiting ≡ []) × AwaitsNoPage self.now }
+    {
         self.is_over() || self.has_unsent() || self.waits() || self.lists()
     }
 

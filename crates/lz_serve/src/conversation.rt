@@ -5,7 +5,7 @@ ghost use Rattle.lz_serve.specs.declared.line.Line.{Line as ALine};
 ghost use Rattle.lz_serve.specs.declared.turn.Turn.{Turn as ATurn};
 ghost use Rattle.lz_serve.specs.Conversations.{Fed, Finished, IsOver, IsReady, IsText, Noted, Queried, Rests, Told, nothing_yet};
 ghost use Rattle.lz_serve.specs.Grants.{key_asked};
-ghost use Rattle.lz_serve.specs.Lines.{IsFree, StandsAt, awaited, replied};
+ghost use Rattle.lz_serve.specs.Lines.{AreReplied, IsFree, StandsAt, awaited, replied};
 
 mod page;
 
@@ -249,13 +249,17 @@ impl Conversation {
 
     /// Whether requests are under way.
     pub fn is_asked(&self) -> bool
-        ensures { result ≡ false → self.now.under ≡ [] }
+        ensures some { IsTrue result ↔ (self.now.under ≢ []) }
+        ensures none { result ≡ false → self.now.under ≡ [] }
     {
         !self.under.is_empty()
     }
 
     /// Whether a request before the one of this number awaits its reply. (One that doesn't may be told with those after it.)
-    pub fn awaits_before(&self, number: u64) -> bool {
+    pub fn awaits_before(&self, number: u64) -> bool
+        ensures none { result ≡ false → AreReplied (take (number - suc self.now.told) self.now.under) }
+        ensures some { result ≡ true → AreReplied (take (number - suc self.now.told) self.now.under) → ⊥ }
+    {
         let count = number.saturating_sub(self.told).saturating_sub(1);
         self.under
             .iter()

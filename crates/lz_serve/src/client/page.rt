@@ -1,5 +1,5 @@
 //! The pages for which a client asks.
-ghost use Rattle.std.specs.Prelude.{◌≡◌, IfSome, None, Some};
+ghost use Rattle.std.specs.Prelude.{◌≡◌, IfSome, None, Some, false};
 ghost use Rattle.lz_list.specs.Traces.{Begins};
 ghost use Rattle.lz_board.specs.Seats.{part};
 ghost use Rattle.lz_serve.specs.Clients.{AwaitsNoPage, AwaitsPage, HasTold, IsHeard, KeepsLines, KeepsOwn, TellsPage};
@@ -26,7 +26,9 @@ impl<S: Stream> Client<S> {
     }
 
     /// Whether it waits for a page, or will once all was sent.
-    pub(crate) fn lists(&self) -> bool {
+    pub(crate) fn lists(&self) -> bool
+        ensures { result ≡ false → AwaitsNoPage self.now }
+    {
         self.next_scan().is_some()
     }
 
