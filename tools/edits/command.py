@@ -66,7 +66,6 @@ def main(top: str, words: Sequence[str]) -> int:
         gate.tell(choice, turn)
         crates = [*choice.changed, *choice.in_turn]
     if options.plan:
-        for it in crates:
-            one.plan(it, folders)
-        return 0
+        bad = sum(one.plan(it, folders) for it in crates)
+        return 1 if bad else 0
     return 1 if try_all(top, crates, folders, lanes, options.gate) else 0

@@ -31,12 +31,15 @@ def length(crate: kit.Crate, folders: Sequence[str], lines: Dict[str, record.Lin
     return SECONDS_OF_A_LINE * crate.count(rb"\n") + each * len(files_of(crate, folders))
 
 
-def plan(crate: kit.Crate, folders: Sequence[str]) -> None:
-    """Says the groups of a crate's edits, as they are where all is refused at once."""
+def plan(crate: kit.Crate, folders: Sequence[str]) -> int:
+    """Says the groups of a crate's edits, as they are where all is refused at once, and returns how many can't be applied."""
     sources = Sources(crate.folder)
     edits = [sources.edit(it) for it in files_of(crate, folders)]
-    for group in Trial(crate, sources, "", kit.Lanes(1), 0).groups(edits):
+    trial = Trial(crate, sources, "", kit.Lanes(1), 0)
+    trial.tell_bad(edits)
+    for group in trial.groups(edits):
         kit.say(f"{crate.name} {len(group)}: {' '.join(it.name for it in group)}")
+    return len(trial.failed)
 
 
 def try_edits(top: str, crate: kit.Crate, folders: Sequence[str], lanes: kit.Lanes, is_after_ci: bool = False) -> Outcome:

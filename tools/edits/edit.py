@@ -80,11 +80,17 @@ def read(folder: str, path: str) -> Tuple[str, Optional[Dict[str, str]], str]:
             texts, fault = kit.rt().edited(text, folder)
         except (OSError, ValueError) as error:
             texts, fault = None, f"{kit.rt().UNREAD} ({error})"
-        return text, texts, fault or ""
+        return text, texts, stray_line(text) or fault or ""
     with open(f"{folder}/{path}", encoding="utf-8", errors="replace") as file:
         text = file.read()
     texts, fault = kit.rt().read_edit(f"{folder}/{path}", folder)
     return text, texts, fault or ""
+
+
+def stray_line(text: str) -> str:
+    """Says of a line that nobody reads, as the second of a text, that it is one; empty where there is none."""
+    stray = [it for it in text.split("\n") if it.strip() and not re.match(r"file: |old: |new:", it)]
+    return f"the line '{stray[0].strip()}' is read by nobody: a text has one line" if stray else ""
 
 
 def fault_of(folder: str, path: str) -> str:

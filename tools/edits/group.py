@@ -55,11 +55,15 @@ class Trial:
             kit.say(f"{self.crate.name} NOT PROVED, so no edit was tried: {refused[0][:200]}")
         return said.is_proved()
 
-    def run(self, edits: Sequence[Edit]) -> None:
-        """Tries all edits, their groups side by side. What is unclear in a group comes again after them."""
+    def tell_bad(self, edits: Sequence[Edit]) -> None:
+        """Tells which edits can't be applied."""
         for edit in edits:
             if edit.fault:
                 self.tell("BAD EDIT", edit, edit.fault)
+
+    def run(self, edits: Sequence[Edit]) -> None:
+        """Tries all edits, their groups side by side. What is unclear in a group comes again after them."""
+        self.tell_bad(edits)
         waiting = [it for it in edits if not it.fault]
         while waiting:
             groups = self.groups(waiting)

@@ -261,6 +261,13 @@ class VerdictTest(EditsTest):
         self.assert_said("BAD EDIT low/wrong-bodies/no_such_text.edit", lines)
         self.assert_said("BAD EDIT low/wrong-bodies/twice.edit", lines)
 
+    def test_text_of_two_lines(self) -> None:
+        """Where edits stand in one file, a line that nobody would read is no edit's."""
+        self.repository.write("crates/low/wrong-bodies.edits", "edit: two_lines\nfile: src/lib.rt\nold: x + 1\n}\nnew: x + 2\n}\n")
+        outcome, lines = self.tried("low")
+        self.assertEqual((outcome.refused, outcome.failed), (0, 1), lines)
+        self.assert_said("BAD EDIT low/wrong-bodies/two_lines.edit: the line '}'", lines)
+
     def test_contract(self) -> None:
         """An edit of a contract is tried alone, and so is what isn't proved without an edit."""
         self.repository.put_edits("high", {"third_promises_four": ("ensures { result ≡ x + 3 }", "ensures { result ≡ x + 4 }")})
