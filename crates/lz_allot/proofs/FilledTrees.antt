@@ -1,16 +1,16 @@
 -- A tree of free slots that is filled from below: the words of the slots, and then what is told of each node in the word above it.
-use Rattle.std.proofs.Common.{◌≡◌, ◌≢◌, ⊎_elim, ℕ, zero, suc, ◌+◌, ◌*◌, ◌/◌, ◌%◌, ◌-◌, ◌<◌, ◌≤◌, ◌==◌, Bool, false, if◌then◌else◌, List, length, set, map, refl, sym, ◌∙◌, ap, arith, get_or-set_other, get_or-set_same}
+use Rattle.std.proofs.Common.{◌≡◌, ◌≢◌, ⊎_elim, ℕ, zero, suc, ◌+◌, ◌*◌, ◌/◌, ◌%◌, ◌-◌, ◌<◌, ◌≤◌, ◌==◌, false, if◌then◌else◌, List, length, set, map, sym, ◌∙◌, ap, arith, get_or-set_other, get_or-set_same}
 use Rattle.std.specs.Prelude.{nat_lt, length}
 use Rattle.std.specs.Int.{bit_at}
 use Rattle.std.proofs.Math.ListN.{get_or-eq_default}
 use Rattle.std.proofs.lemmas.List.{ext_get_or, get_or-map, length-map, length-set}
-use Rattle.std.proofs.lemmas.Bool.{cases_eq, cases_lt}
+use Rattle.std.proofs.lemmas.Bool.{cases_lt}
 use Rattle.lz_slot.specs.Limits.{most_slots}
 use Rattle.lz_allot.specs.declared.kind.Kind.{Kind}
 use Rattle.lz_allot.specs.declared.kind.Kind.TheVariants as kind
 use Rattle.lz_allot.specs.Allots.{is_free_kind, kind_at}
 use Rattle.lz_allot.specs.Trees.{word_at, is_told, shown, start_of, IsStart, IsTree}
-use Rattle.lz_allot.proofs.Trees.{nothing_told, told_by, told_same, told_other, shown_length, shown_at}
+use Rattle.lz_allot.proofs.Trees.{nothing_told, told_by, shown_length, shown_at}
 
 -- a slot that isn't there is not free
 none_past : (kinds : List Kind) (s : ℕ) → length kinds ≤ s → is_free_kind (kind_at kinds s) ≡ false
@@ -30,15 +30,6 @@ pub record AreFilled (kinds : List Kind) (old words : List ℕ) (first done : �
   pub empty : (j : ℕ) → (first + done) / 64 ≤ j → word_at words j ≡ 0
 
 module _ (kinds : List Kind) (old : List ℕ) (first : ℕ) (start : IsStart first) where
-  pub filled_none : ((j : ℕ) → word_at old j ≡ 0) → AreFilled kinds old old first 0
-  filled_none empty = record {
-    size = refl;
-    whole = refl;
-    told = λ s low. absurd (omega arith);
-    above = λ k from to. nothing_told old k (empty ((k - 1) / 64));
-    empty = λ j from. empty j;
-  }
-
   module _ (words : List ℕ) (done : ℕ) (filled : AreFilled kinds old words first done) where
     bit : first % 64 ≡ 1
     bit = first_bit start.levels first start.start start.least
@@ -90,45 +81,6 @@ pub record IsToldFrom (old words : List ℕ) (first node : ℕ) : Type 0 where
   pub range : (node ≤ first) × (node ≤ length old)
   pub told : (k : ℕ) → node ≤ k → 1 ≤ k → k < first → is_told words k ≡ nat_lt 0 (word_at words k)
   pub leaves : (k : ℕ) → first ≤ k → is_told words k ≡ is_told old k
-
-pub told_from_last : (old : List ℕ) (first node : ℕ) → ((k : ℕ) → 1 ≤ k → k < first → is_told old k ≡ false) → node ≤ first → node ≤ length old
-    → (node < first → length old ≤ node) → IsToldFrom old old first node
-told_from_last old first node untold low inside last = record {
-  size = refl;
-  range = (low, inside);
-  told = λ k from one to. untold k one to ∙ sym (ap (nat_lt 0) (get_or-eq_default old 0 {n = k} (omega (arith, last (omega (arith, from, to)), from))));
-  leaves = λ k high. refl;
-}
-
-module _ (old words : List ℕ) (first node now : ℕ) (b : Bool) (from : IsToldFrom old words first node) (low : 1 < node)
-    (is : b ≡ nat_lt 0 (word_at words (node - 1)))
-    (here : bit_at now ((node - 1 - 1) % 64) ≡ (if b then 1 else 0))
-    (others : (i : ℕ) → i < 64 → i ≢ (node - 1 - 1) % 64 → bit_at now i ≡ bit_at (word_at words ((node - 1 - 1) / 64)) i) where
-  above_inside : (node - 1 - 1) / 64 < length words
-  above_inside = omega (arith, low, from.range, from.size)
-
-  word_below : (k : ℕ) → node - 1 ≤ k → word_at (set words ((node - 1 - 1) / 64) now) k ≡ word_at words k
-  word_below k high = get_or-set_other words ((node - 1 - 1) / 64) k now 0 (omega (arith, low, high))
-
-  told_still : (k : ℕ) → 1 ≤ k → k ≢ node - 1 → is_told (set words ((node - 1 - 1) / 64) now) k ≡ is_told words k
-  told_still = told_other words (node - 1) now (omega (arith, low)) above_inside others
-
-  pub told_from_before : IsToldFrom old (set words ((node - 1 - 1) / 64) now) first (node - 1)
-  told_from_before = record {
-    size = length-set words ((node - 1 - 1) / 64) now ∙ from.size;
-    range = (omega (arith, from.range), omega (arith, from.range));
-    told = λ k high one to. ⊎_elim
-        (λ (same : k ≡ node - 1).
-        ap (is_told (set words ((node - 1 - 1) / 64) now)) same
-        ∙ told_same words (node - 1) now (omega (arith, low)) above_inside b here
-        ∙ is
-        ∙ ap (λ (j : ℕ). nat_lt 0 (word_at words j)) (sym same)
-        ∙ ap (nat_lt 0) (sym (word_below k high)))
-        (λ other.
-        told_still k one other ∙ from.told k (omega (arith, high, other)) one to ∙ ap (nat_lt 0) (sym (word_below k high)))
-        (cases_eq k (node - 1));
-    leaves = λ k high. told_still k (omega (arith, high, low, from.range)) (omega (arith, high, low, from.range)) ∙ from.leaves k high;
-  }
 
 -- a tree whose leaves are told of by the kinds of the slots, and whose nodes are told of by their words
 module _ (kinds : List Kind) (words : List ℕ) (first : ℕ) (start : IsStart first) (few : length kinds ≤ most_slots) (room : length kinds ≤ 63 * first + 1)

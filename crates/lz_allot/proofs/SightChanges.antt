@@ -5,7 +5,7 @@ use Rattle.std.proofs.lemmas.Bool.{lt-ltb, le-ltb}
 use Rattle.lz_slot.specs.Counted.{of_pass, set_of_pass}
 use Rattle.lz_allot.specs.declared.kind.Kind.{Kind}
 use Rattle.lz_allot.specs.declared.row.Row.{Row}
-use Rattle.lz_allot.specs.declared.sight.Sight.TheVariants.{Unseen, Inside, Left}
+use Rattle.lz_allot.specs.declared.sight.Sight.TheVariants.{Unseen, Left}
 use Rattle.lz_allot.specs.Rows.{first_row, row_seen, rows_seen}
 use Rattle.lz_allot.specs.Uses.{Use, sight_after, see_pin}
 use Rattle.lz_allot.specs.Allots.{IsQueue, IsRow, sight_at, sights_at, uses_told}
@@ -14,9 +14,6 @@ use Rattle.lz_allot.proofs.ToldUses.{Shows, told_is}
 -- The three sights of a row.
 pub at_left : (i : ℕ) (row : Row) → i < row.left → sight_at i row ≡ Left
 at_left i row less = rw (lt-ltb i row.left less) refl
-
-pub at_met : (i : ℕ) (row : Row) → row.left ≤ i → i < row.met → sight_at i row ≡ Inside row.last
-at_met i row past less = rw (le-ltb i row.left past, lt-ltb i row.met less) refl
 
 pub at_unseen : (i : ℕ) (row : Row) → row.left ≤ i → row.met ≤ i → sight_at i row ≡ Unseen
 at_unseen i row past beyond = rw (le-ltb i row.left past, le-ltb i row.met beyond) refl

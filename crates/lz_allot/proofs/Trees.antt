@@ -1,12 +1,10 @@
 -- What a tree of free slots tells of its nodes, and a new tree.
-use Rattle.std.proofs.Common.{◌≡◌, ◌≢◌, ⊎_elim, ℕ, suc, ◌+◌, ◌*◌, ◌/◌, ◌%◌, ◌-◌, ◌<◌, ◌≤◌, ◌==◌, Bool, true, false, if◌then◌else◌, List, length, get_or, set, replicate, sym, ◌∙◌, ap, arith, get_or-set_other, get_or-set_same}
+use Rattle.std.proofs.Common.{◌≡◌, ◌≢◌, ⊎_elim, ℕ, suc, ◌+◌, ◌*◌, ◌/◌, ◌%◌, ◌-◌, ◌<◌, ◌≤◌, ◌==◌, Bool, true, false, if◌then◌else◌, List, length, get_or, set, sym, ◌∙◌, ap, arith, get_or-set_other, get_or-set_same}
 use Rattle.std.specs.Prelude.{length}
 use Rattle.std.specs.Int.{bit_at}
-use Rattle.std.proofs.lemmas.List.{get_or-replicate, length-replicate}
-use Rattle.std.proofs.Math.ListN.{get_or-eq_default}
 use Rattle.std.proofs.lemmas.List.FromFn.{get_or-map-range_with_len, length-map-range_with_len}
 use Rattle.std.proofs.lemmas.Nat.Bits.{bit_at-zero}
-use Rattle.std.proofs.lemmas.Bool.{cases_eq, cases_lt}
+use Rattle.std.proofs.lemmas.Bool.{cases_eq}
 use Rattle.lz_slot.specs.Limits.{most_slots}
 use Rattle.lz_allot.specs.Trees.{word_at, is_told, shown, IsStart}
 
@@ -54,7 +52,3 @@ next_start first slots is most more = record {
   least = omega arith;
   most = omega arith;
 }
-
-pub empty_word : (n k : ℕ) → word_at (replicate n 0) k ≡ 0
-empty_word n k =
-    ⊎_elim (λ low. get_or-replicate n k 0 0 low) (λ high. get_or-eq_default (replicate n 0) 0 {n = k} (omega (arith, length-replicate {A = ℕ} n 0))) (cases_lt k n)

@@ -10,7 +10,7 @@ use Rattle.lz_board.specs.declared.answer.Glance.{Glance}
 use Rattle.lz_board.specs.declared.answer.Glance.TheVariants.{Yes, No, Unsettled}
 use Rattle.lz_board.specs.declared.answer.GlanceFault.TheVariants.{Halted, Worn, BusyPass}
 use Rattle.lz_board.specs.declared.view.Part.{Part}
-use Rattle.lz_board.specs.declared.view.Sizes.{Sizes}
+use Rattle.lz_list.specs.declared.layout.Sizes.{Sizes}
 use Rattle.lz_board.specs.Glances.{Glances, Turns}
 use Rattle.lz_board.specs.Notes.{own}
 use Rattle.lz_board.specs.Plays.{fresh}

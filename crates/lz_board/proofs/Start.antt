@@ -1,3 +1,2 @@
 pub mod FirstWords
 pub mod FirstState
-pub mod LaidRow

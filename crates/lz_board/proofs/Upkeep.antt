@@ -1,7 +1,7 @@
 pub mod Splice
 pub mod Growth
 pub mod PartUpkeep
-pub mod Address
+pub mod SharedWords
 pub mod SeatTable
 pub mod LoadStep
 pub mod StoreStep

@@ -13,14 +13,14 @@ use Rattle.lz_machine.specs.declared.event.Outcome.{Outcome}
 use Rattle.lz_machine.specs.declared.event.Outcome.TheVariants.{Done}
 use Rattle.lz_machine.specs.Table.{last_pin}
 use Rattle.lz_machine.specs.Yards.{IsInside}
-use Rattle.lz_board.specs.declared.view.Sizes.{Sizes}
+use Rattle.lz_list.specs.declared.layout.Sizes.{Sizes}
 use Rattle.lz_board.specs.declared.view.What.{What}
 use Rattle.lz_board.specs.declared.view.What.TheVariants.{Called, Played, Found}
 use Rattle.lz_board.specs.declared.view.Note.{Note}
 use Rattle.lz_board.specs.declared.view.Part.{Part}
 use Rattle.lz_board.specs.declared.view.View.{View}
 use Rattle.lz_board.specs.Notes.{trace_of, steps_of, Extends, Since, Quiet, InOrder, IsShared, AllShown, place, shape_of_sizes, pin_after, turned_at}
-use Rattle.lz_board.specs.Addresses.{index, words_count}
+use Rattle.lz_list.specs.Addresses.{index, words_count}
 
 -- by these steps of a pass it has a call open: they lead to a place of one
 abbrev pub is_calling : Sizes → List Note → Bool

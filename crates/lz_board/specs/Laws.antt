@@ -8,13 +8,13 @@ use Rattle.lz_list.specs.declared.word.Word.TheVariants.{Pin as PinOf}
 use Rattle.lz_list.specs.declared.publishing.Publishing.{Publishing}
 use Rattle.lz_list.specs.declared.publishing.Publishing.TheVariants.{Unlinked as unlinked, KeyPrepared as key_prepared, LinkPrepared as link_prepared}
 use Rattle.lz_list.specs.Traces.{Trace, Begins, Lawful, word_after}
-use Rattle.lz_board.specs.declared.view.Sizes.{Sizes}
+use Rattle.lz_list.specs.declared.layout.Sizes.{Sizes}
 use Rattle.lz_board.specs.declared.view.Note.{Note}
 use Rattle.lz_board.specs.declared.view.Part.{Part}
 use Rattle.lz_board.specs.declared.view.View.{View}
 use Rattle.lz_board.specs.declared.view.Opening.{Opening}
 use Rattle.lz_board.specs.Notes.{trace_of, steps_of, Since, IsShared}
-use Rattle.lz_board.specs.Addresses.{index}
+use Rattle.lz_list.specs.Addresses.{index}
 use Rattle.lz_machine.specs.Yards.{IsInside}
 use Rattle.lz_board.specs.Kept.{IsPart}
 use Rattle.lz_board.specs.Opened.{opened_by}

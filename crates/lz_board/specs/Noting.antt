@@ -6,7 +6,7 @@ use Rattle.lz_list.specs.declared.publishing.Publishing.TheVariants.{KeyPrepared
 use Rattle.lz_list.specs.Traces.{Trace, Lawful, word_after}
 use Rattle.lz_machine.specs.Table.{last_pin}
 use Rattle.lz_machine.specs.Limbo.{IsAway}
-use Rattle.lz_board.specs.declared.view.Sizes.{Sizes}
+use Rattle.lz_list.specs.declared.layout.Sizes.{Sizes}
 use Rattle.lz_board.specs.declared.view.What.{What}
 use Rattle.lz_board.specs.declared.view.What.TheVariants.{Called, Played, Found}
 use Rattle.lz_board.specs.declared.view.Note.{Note}

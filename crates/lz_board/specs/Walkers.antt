@@ -1,5 +1,6 @@
 -- What a walker knows that holds no lock: P0 is the trace at its pin, P what it has seen, k its key.
-use Rattle.std.specs.Prelude.{◌≡◌, ℕ, suc, ◌+◌, ◌-◌, ◌*◌, ◌<◌, Bool, true, false, Option, Some, None}
+use Rattle.std.specs.Prelude.{◌≡◌, ℕ, suc, ◌+◌, ◌-◌, ◌*◌, ◌<◌, ◌≤◌, Bool, true, false, Option, Some, None}
+use Rattle.lz_slot.specs.Limits.{most_slots}
 use Rattle.lz_list.specs.declared.flags.Flags.{Flags}
 use Rattle.lz_list.specs.declared.place.Place.{Place}
 use Rattle.lz_list.specs.declared.place.Place.TheVariants.{Node}
@@ -18,13 +19,18 @@ use Rattle.lz_machine.specs.CallersSound.{IsLooking}
 use Rattle.lz_flush.specs.declared.need.Need.{Need}
 use Rattle.lz_flush.specs.declared.need.Need.TheVariants.{Now, Sync as asks_sync}
 use Rattle.lz_flush.specs.Settling.{may_answer}
-use Rattle.lz_board.specs.declared.view.Sizes.{Sizes}
+use Rattle.lz_list.specs.declared.layout.Sizes.{Sizes}
 use Rattle.lz_board.specs.declared.view.Part.{Part}
 use Rattle.lz_board.specs.declared.answer.Glance.{Glance}
 use Rattle.lz_board.specs.declared.answer.Glance.TheVariants.{Yes, No, Unsettled}
 use Rattle.lz_board.specs.Notes.{IsShared, Since}
 use Rattle.lz_board.specs.Plays.{knowing, IsShownTo}
 use Rattle.lz_board.specs.Glances.{Glanced, GlancedUnsettled}
+
+-- a walk finds a bucket, and a slot after each link
+pub record IsWalkable (z : Sizes) : Type 0 where
+  pub some : 1 ≤ z.buckets
+  pub few : z.slots ≤ most_slots
 
 -- The node of k in slot s stood on k's chain since the pin, and its link word, loaded at P, had these flags.
 pub record MetNode (buckets k s : ℕ) (flags : Flags) (mark : Bool) (P0 P : Trace) : Type 0 where

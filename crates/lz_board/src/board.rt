@@ -1,13 +1,13 @@
 //! The board, its pen, and the passes that it deals.
 ghost use Rattle.std.specs.Prelude.{◌≡◌, ◌<◌, ◌^◌};
-ghost use Rattle.lz_board.specs.Addresses.{words_count, IsWalkable};
+ghost use Rattle.lz_list.specs.Addresses.{words_count};
+ghost use Rattle.lz_board.specs.Walkers.{IsWalkable};
 
-use crate::layout::row_of;
 use crate::pass::Pass;
 use crate::rule::{Hand, Published};
-use crate::view::{Note, Opening, Sizes, View};
+use crate::view::{Note, Opening, View};
 use atomic_table::{Seat, Table};
-use lz_list::Words;
+use lz_list::{Sizes, Words};
 use std::alloc::{AllocError, Global};
 use std::snapshot::Snapshot;
 
@@ -28,8 +28,9 @@ pub struct Pen {
 
 impl Board {
     ghost use Rattle.std.specs.Prelude.{◌≡◌, ◌+◌, ◌<◌, ◌≤◌, ◌^◌, [], IfOk, IfSome, All, length, map};
-    ghost use Rattle.lz_board.specs.Addresses.{words_count};
-    ghost use Rattle.lz_board.specs.Opened.{sizes_in, opened_by, AreOpened};
+    ghost use Rattle.lz_list.specs.Addresses.{words_count};
+    ghost use Rattle.lz_list.specs.Addresses.{sizes_in};
+    ghost use Rattle.lz_board.specs.Opened.{opened_by, AreOpened};
     ghost use Rattle.lz_board.specs.Plays.{fresh, parts_from};
     ghost use Rattle.lz_board.specs.Seats.{id_of, part, IsOf, IsNew, notes, IsPenOf, HasParts};
 
@@ -41,19 +42,12 @@ impl Board {
         ensures pen { IfSome result (λ r. IsPenOf (id_of r.0) r.1 × (notes r.1 ≡ [])) }
         ensures passes { IfSome result (λ r. (length r.2.items ≡ length words.now.pins) × All (λ p. IsNew (id_of r.0) p) r.2.items × (map (λ p. part p) r.2.items ≡ parts_from (id_of r.0).sizes (id_of r.0).opened (length words.now.pins) 1)) }
     {
-        let sizes = Sizes {
-            slots: words.slots(),
-            buckets: words.buckets(),
-            passes: words.passes(),
-        };
-        let Ok(row) = row_of(alloc, words, &sizes) else {
-            return None;
-        };
+        let sizes = words.sizes();
         let opening = Opening {
             sizes,
             words: Snapshot::of(words),
         };
-        let Ok((table, seat)) = Table::of_words(alloc, row.as_slice(), &opening) else {
+        let Ok((table, seat)) = Table::of_words(alloc, words.row(), &opening) else {
             return None;
         };
         let board = Board { table, sizes };

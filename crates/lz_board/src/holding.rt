@@ -1,6 +1,5 @@
 //! What the pen does while a pass has joined it: a step of that pass, noted and stored, under the lock that has the pen.
 use crate::board::{Board, Pen};
-use crate::layout::place;
 use crate::pass::Pass;
 use crate::rule::{Hand, Looks, Notes, Saws, Shifts};
 use crate::view::Note;
@@ -25,7 +24,7 @@ impl Board {
         ensures told { PinTold (id_of self.now).sizes (notes pen.old) (part pass.old).number (part pass.old).pin }
         ensures same { (pass.new.number ≡ pass.old.number) × (pass.new.pin ≡ pass.old.pin) }
     {
-        let at = place(&self.sizes, Word::Halt);
+        let at = self.sizes.place(Word::Halt);
         let seat = pass.rise();
         self.table.shared.join_seat::<Hand>(&mut pen.seat, seat);
         self.table.shared.load::<Looks>(&mut pen.seat, at);
@@ -42,7 +41,7 @@ impl Board {
         ensures notes { notes pen.new ≡ noted (id_of self.now).opened (notes pen.old) (carried pen.old) note.now }
         ensures carried { carried pen.new ≡ noted_part (id_of self.now).opened (notes pen.old) note.now (carried pen.old) }
     {
-        let at = place(&self.sizes, word);
+        let at = self.sizes.place(word);
         self.table
             .shared
             .compare_exchange_with::<Notes>(&mut pen.seat, at, old, new, note);
@@ -60,7 +59,7 @@ impl Board {
         ensures carried { carried pen.new ≡ moved_part (id_of self.now).opened (notes pen.old) note.now (carried pen.old) }
         ensures pass { (pass.new.number ≡ pass.old.number) × (pass.new.pin ≡ pass.old.pin + 1) }
     {
-        let at = place(&self.sizes, Word::Pin(pass.number));
+        let at = self.sizes.place(Word::Pin(pass.number));
         let pin = pass.pin + 1;
         self.table
             .shared
@@ -78,7 +77,7 @@ impl Board {
         ensures told { PinTold (id_of self.now).sizes (notes pen.old) number result }
         ensures own { (carried pen.old).number ≡ number → (carried pen.old).pin ≡ result }
     {
-        let at = place(&self.sizes, Word::Pin(number));
+        let at = self.sizes.place(Word::Pin(number));
         self.table.shared.load::<Saws>(&mut pen.seat, at)
     }
 

@@ -1,7 +1,6 @@
 //! What a pass does alone, without a lock: loads, and stores of its own pin word.
 use crate::answer::GlanceFault;
 use crate::board::Board;
-use crate::layout::place;
 use crate::pass::Pass;
 use crate::rule::{Enters, Hand, Loads, Looks};
 use lz_list::{LAST_PIN, Word};
@@ -11,7 +10,7 @@ impl Board {
     ghost use Rattle.lz_list.specs.Traces.{word_after};
     ghost use Rattle.lz_machine.specs.Table.{last_pin};
     ghost use Rattle.lz_board.specs.Notes.{IsShared};
-    ghost use Rattle.lz_board.specs.Addresses.{index};
+    ghost use Rattle.lz_list.specs.Addresses.{index};
     ghost use Rattle.lz_machine.specs.Yards.{IsInside};
     ghost use Rattle.lz_board.specs.Kept.{is_calling};
     ghost use Rattle.lz_board.specs.Plays.{knowing, loading, entering, IsShownTo};
@@ -27,7 +26,7 @@ impl Board {
         ensures shown { IsShownTo (part pass.new).known (part pass.old) }
         ensures value { result ≡ word_after (id_of self.now).sizes.buckets (part pass.new).known word }
     {
-        let at = place(&self.sizes, word);
+        let at = self.sizes.place(word);
         let mut seat = pass.rise();
         let found = self.table.shared.load::<Loads>(&mut seat, at);
         pass.sit(seat);
@@ -43,7 +42,7 @@ impl Board {
         ensures shown { IsShownTo (part pass.new).known (part pass.old) }
         ensures value { result ≡ word_after (id_of self.now).sizes.buckets (part pass.new).known word }
     {
-        let at = place(&self.sizes, word);
+        let at = self.sizes.place(word);
         let mut seat = pass.rise();
         let found = self.table.shared.load::<Looks>(&mut seat, at);
         pass.sit(seat);
@@ -59,7 +58,7 @@ impl Board {
         ensures part { part pass.new ≡ entering (part pass.new).known (suc pass.old.pin) (part pass.old) }
         ensures shown { IsShownTo (part pass.new).known (part pass.old) }
     {
-        let at = place(&self.sizes, Word::Pin(pass.number));
+        let at = self.sizes.place(Word::Pin(pass.number));
         let pin = pass.pin + 1;
         let mut seat = pass.rise();
         self.table.shared.store::<Enters>(&mut seat, at, pin);
@@ -108,7 +107,7 @@ impl Board {
         ensures shown_one { IsShownTo (part one.new).known (part one.old) }
         ensures shown_other { IsShownTo (part one.new).known (part other.old) }
     {
-        let at = place(&self.sizes, Word::Halt);
+        let at = self.sizes.place(Word::Halt);
         let mut seat = one.rise();
         let joining = other.rise();
         self.table.shared.join_seat::<Hand>(&mut seat, joining);

@@ -1,18 +1,10 @@
 //! What a seat knows. Of these types only notes are made.
 use crate::moment::Moment;
-use lz_list::{Publishing, Word, Words};
+use lz_list::{Publishing, Sizes, Word, Words};
 use lz_machine::{Event, Outcome};
 use lz_slot::{Command, Format};
 use std::collections::LinkedList;
 use std::snapshot::Snapshot;
-
-/// How many slots, buckets and passes there are.
-#[derive(Clone, Copy)]
-pub struct Sizes {
-    pub slots: usize,
-    pub buckets: usize,
-    pub passes: usize,
-}
 
 /// What was noted.
 #[derive(Clone, Copy)]

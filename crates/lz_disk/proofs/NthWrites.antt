@@ -1,7 +1,6 @@
 -- How the writes of one place are counted, one change after another, and the picked byte is found.
 use Rattle.std.proofs.Common.{◌≡◌, inl, inr, ℕ, suc, ◌+◌, ◌-◌, ◌≤◌, ◌<◌, nat_le, Bool, true, false, ◌&&◌, List, [], ◌∷◌, length, get_or, take, if◌then◌else◌, sym, refl, ◌∙◌, ap, arith}
 use Rattle.std.proofs.lemmas.Bool.{cases_Bool}
-use Rattle.std.proofs.lemmas.List.{take_all}
 use Rattle.lz_disk.specs.Images.{Medium}
 use Rattle.lz_disk.specs.Picks.{covers, nth_written, times_written}
 use Rattle.lz_disk.specs.Records.{after, after_record}
@@ -28,9 +27,6 @@ pub record IsChoosing (changes : List Record) (number at byte index times found 
   pub few : times ≤ index
   pub counted : (b : Bool) (start : List ℕ) → times ≡ times_written (after b start (take index changes)).loose at
   pub picked : (b : Bool) (start : List ℕ) → found ≡ nth_written (after b start (take index changes)).loose number at byte
-
-pub choosing_begins : (changes : List Record) (number at byte : ℕ) → IsChoosing changes number at byte 0 0 byte
-choosing_begins changes number at byte = record { within = omega arith; few = omega arith; counted = λ b start. refl; picked = λ b start. refl }
 
 module _ (changes : List Record) (number at byte index times found times' found' : ℕ) (r : Record) (lt : index < length changes) (is : r ≡ get_or changes index r) (held : IsChoosing changes number at byte index times found) where
   abbrev so_far : Bool → List ℕ → Medium
@@ -90,10 +86,6 @@ module _ (changes : List Record) (number at byte index times found times' found'
         counted = λ b start. none ∙ sym (ap (λ (l : List (ℕ × List ℕ)). times_written l at) (loose_is b start));
         picked = λ b start. given ∙ sym (ap (λ (l : List (ℕ × List ℕ)). nth_written l number at byte) (loose_is b start));
       }
-
-pub choosing_ends : (changes : List Record) (number at byte index times found : ℕ) → length changes ≤ index → IsChoosing changes number at byte index times found → (b : Bool) (start : List ℕ) → found ≡ nth_written (after b start changes).loose number at byte
-choosing_ends changes number at byte index times found past held b start =
-    held.picked b start ∙ ap (λ (l : List Record). nth_written (after b start l).loose number at byte) (take_all index changes past)
 
 -- up to some position the text is done, and the rest is as read
 pub record IsNumbering (changes : List Record) (number at : ℕ) (seen text : List ℕ) : Type 0 where

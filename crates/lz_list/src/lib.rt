@@ -8,6 +8,7 @@
 
 mod flags;
 pub mod laws;
+mod layout;
 mod link;
 mod list;
 mod locks;
@@ -20,6 +21,7 @@ mod walk;
 mod word;
 
 pub use flags::Flags;
+pub use layout::Sizes;
 pub use link::{LinkWord, link_of, next_to};
 pub use list::List;
 pub use pins::{LAST_PIN, next_pin};

@@ -4,6 +4,7 @@ ghost use Rattle.lz_slot.specs.Limits.{most_slots};
 ghost use Rattle.lz_list.specs.Words.{word_of};
 
 use crate::flags::Flags;
+use crate::layout::Sizes;
 use crate::link::{LinkWord, link_of};
 use crate::place::Place;
 use crate::word::Word;
@@ -11,18 +12,12 @@ use lz_slot::Slot;
 use std::alloc::{AllocError, Global};
 use std::marker::Model;
 
-// A slot's link and key. They lie side by side, since who reads or writes one of them is mostly about to do so with the other.
-#[derive(Clone, Copy)]
-struct Node {
-    link: u64,
-    key: u64,
-}
-
-/// The words that threads share, as a plain table.
+/// The words that threads share, as a plain table. Nodes and heads lie in one row, each at its place. Each addition accesses
+/// the pins and the halt word, so they are kept beside it, and no place is added up for them: theirs in the row stay 0.
 #[derive(Drop)]
 pub struct Words {
-    heads: Vec<u64>,
-    nodes: Vec<Node>,
+    row: Vec<u64>,
+    sizes: Sizes,
     pins: Vec<u64>,
     halt: u64,
 }
@@ -32,12 +27,11 @@ impl Model for Words {
 
     ghost Value = { AllWords };
 
-    ghost use Rattle.std.specs.Prelude.{map};
-    ghost use Rattle.lz_list.specs.Lists.{IsTable};
+    ghost use Rattle.lz_list.specs.Addresses.{words_in, IsRow};
 
-    ghost view = { λ w. record { heads = w.heads.items; links = map (λ n. n.link) w.nodes.items; keys = map (λ n. n.key) w.nodes.items; pins = w.pins.items; halt = w.halt } };
+    ghost view = { λ w. words_in w.sizes w.row.items w.pins.items w.halt };
 
-    ghost invariant = { λ w. IsTable (record { heads = w.heads.items; links = map (λ n. n.link) w.nodes.items; keys = map (λ n. n.key) w.nodes.items; pins = w.pins.items; halt = w.halt }) };
+    ghost invariant = { λ w. IsRow w.sizes w.row.items w.pins.items };
 }
 
 /// The word that holds the next link of a place.
@@ -52,6 +46,7 @@ pub fn word_of(place: Place) -> Word
 
 impl Words {
     ghost use Rattle.lz_list.specs.Words.{change_flags, get, is_marked_at, marked_flags, next_at, redirect, set};
+    ghost use Rattle.lz_list.specs.Addresses.{row_of, sizes_in, IsAtRest};
     ghost use Rattle.lz_list.specs.Lists.{IsPlace, IsTable, IsWord, new_words};
 
     /// A table of empty buckets whose words are all 0.
@@ -65,10 +60,18 @@ impl Words {
         requires buckets { 1 ≤ buckets }
         ensures { IfOk result (λ words. words ≡ new_words slots buckets passes) }
     {
+        let sizes = Sizes {
+            slots,
+            buckets,
+            passes,
+        };
+        let count = sizes.words().ok_or(AllocError)?;
+        let row = vec![in alloc; 0; count]?;
+        let pins = vec![in alloc; 0; passes]?;
         Ok(Words {
-            heads: vec![in alloc; 0; buckets]?,
-            nodes: vec![in alloc; Node { link: 0, key: 0 }; slots]?,
-            pins: vec![in alloc; 0; passes]?,
+            row,
+            sizes,
+            pins,
             halt: 0,
         })
     }
@@ -78,7 +81,7 @@ impl Words {
         ensures count { result ≡ length self.now.heads }
         ensures table { IsTable self.now }
     {
-        self.heads.len()
+        self.sizes.buckets
     }
 
     /// How many slots there are.
@@ -86,15 +89,24 @@ impl Words {
         ensures count { result ≡ length self.now.links }
         ensures table { IsTable self.now }
     {
-        self.nodes.len()
+        self.sizes.slots
     }
 
-    /// How many passes there are: each has a pin word.
-    pub fn passes(&self) -> usize
-        ensures count { result ≡ length self.now.pins }
+    /// How many slots, buckets and passes there are.
+    pub fn sizes(&self) -> Sizes
+        ensures sizes { result ≡ sizes_in self.now }
         ensures table { IsTable self.now }
     {
-        self.pins.len()
+        let Words { sizes, .. } = self;
+        *sizes
+    }
+
+    /// All words, each at its place, while the pins and the halt word are 0.
+    pub fn row(&self) -> &[u64]
+        requires { IsAtRest self.now }
+        ensures { result.now ≡ row_of (sizes_in self.now) self.now }
+    {
+        self.row.as_slice()
     }
 
     pub fn get(&self, word: Word) -> u64
@@ -102,11 +114,9 @@ impl Words {
         ensures { result ≡ get self.now word }
     {
         match word {
-            Word::Head(bucket) => self.heads[bucket],
-            Word::Link(slot) => self.nodes[slot.index() as usize].link,
-            Word::Key(slot) => self.nodes[slot.index() as usize].key,
             Word::Pin(pass) => self.pins[pass - 1],
             Word::Halt => self.halt,
+            other => self.row[self.sizes.place(other)],
         }
     }
 
@@ -115,11 +125,9 @@ impl Words {
         ensures { self.new ≡ set self.old word value }
     {
         match word {
-            Word::Head(bucket) => self.heads[bucket] = value,
-            Word::Link(slot) => self.nodes[slot.index() as usize].link = value,
-            Word::Key(slot) => self.nodes[slot.index() as usize].key = value,
             Word::Pin(pass) => self.pins[pass - 1] = value,
             Word::Halt => self.halt = value,
+            other => self.row[self.sizes.place(other)] = value,
         }
     }
 

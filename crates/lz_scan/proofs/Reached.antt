@@ -42,10 +42,6 @@ pub cursor_ends : (next : ℕ) → next ≡ 0 → cursor_after next ≡ None
 cursor_ends zero is = refl
 cursor_ends (suc n) is = absurd (cc)
 
-pub cursor_goes : (next : ℕ) → next ≢ 0 → cursor_after next ≡ Some next
-cursor_goes zero some = absurd (some refl)
-cursor_goes (suc n) some = refl
-
 -- nothing was asked yet
 pub at_first : (input before : Option (List ℕ)) (kept keys : List ℕ) → kept ≡ [] → keys ≡ [] → IsAt 0 (Some 0) input (prepend_known kept input) before before keys
 at_first input before kept keys none empty = subst (λ (ks : List ℕ). IsAt 0 (Some 0) input (prepend_known kept input) before before ks) (sym empty) (record {

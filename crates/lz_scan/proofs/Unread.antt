@@ -13,18 +13,6 @@ pub page_taken : (left : Option (List ℕ)) (kept told rest : List ℕ) → kept
 page_taken None kept told rest is = tt
 page_taken (Some xs) kept told rest is = ap (λ (k : List ℕ). k ++ xs) is ∙ append_assoc told rest xs
 
--- a piece came, and was kept
-pub piece_kept : (left more : Option (List ℕ)) (kept piece new : List ℕ) → Consumes left more piece → new ≡ kept ++ piece → Consumes (prepend_known kept left) (prepend_known new more) []
-piece_kept None more kept piece new came is = tt
-piece_kept (Some xs) None kept piece new came is = absurd came
-piece_kept (Some xs) (Some ys) kept piece new came is =
-    ap (λ (x : List ℕ). kept ++ x) came ∙ sym (append_assoc kept piece ys) ∙ ap (λ (k : List ℕ). k ++ ys) (sym is)
-
--- nothing changed
-pub kept_so : (left : Option (List ℕ)) (kept new : List ℕ) → new ≡ kept → Consumes (prepend_known kept left) (prepend_known new left) []
-kept_so None kept new is = tt
-kept_so (Some xs) kept new is = ap (λ (k : List ℕ). k ++ xs) (sym is)
-
 -- what follows a page is what is left of the text
 pub after_page : (text told rest : List ℕ) (n : ℕ) → text ≡ told ++ rest → n ≡ length text → text ≡ told ++ drop (n - length rest) text
 after_page text told rest n is count =

@@ -12,7 +12,7 @@ use Rattle.lz_machine.specs.Yards.{Yard}
 use Rattle.lz_machine.proofs.Open.FirstPoint.{fits_same, one_set}
 use Rattle.lz_machine.proofs.Theorem.OneAdd.{run_sound}
 use Rattle.lz_board.specs.declared.view.Note.{Note}
-use Rattle.lz_board.specs.Opened.{sizes_in}
+use Rattle.lz_list.specs.Addresses.{sizes_in}
 use Rattle.lz_board.specs.Seats.{BoardId}
 use Rattle.lz_tie.specs.Holds.{IsLocked}
 use Rattle.lz_tie.specs.Moments.{ExplainsBegun, ExplainsFrom, GrowsTo, IsReply, RepliesStay, Stays}

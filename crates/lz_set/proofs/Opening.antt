@@ -7,8 +7,9 @@ use Rattle.lz_machine.specs.Yards.{Yard}
 use Rattle.lz_yard.specs.Filling.{OpensYard}
 use Rattle.lz_board.specs.declared.board.Pen.{Pen}
 use Rattle.lz_board.specs.declared.pass.Pass.{Pass}
-use Rattle.lz_board.specs.declared.view.Sizes.{Sizes}
-use Rattle.lz_board.specs.Opened.{sizes_in, opened_by}
+use Rattle.lz_list.specs.declared.layout.Sizes.{Sizes}
+use Rattle.lz_list.specs.Addresses.{sizes_in}
+use Rattle.lz_board.specs.Opened.{opened_by}
 use Rattle.lz_board.specs.Plays.{parts_from}
 use Rattle.lz_board.specs.Seats.{BoardId, IsNew, IsPenOf, notes, part}
 use Rattle.lz_tie.specs.Holds.{sizes_of}

@@ -1,5 +1,5 @@
 -- What a hold has played.
-use Rattle.std.proofs.Common.{◌≡◌, ◌≢◌, ℕ, false, IsSomeAnd, List, [], ◌∷◌, ◌++◌, map, Option, Some, refl, sym, ap, ◌∙◌, subst, append_assoc}
+use Rattle.std.proofs.Common.{◌≡◌, ◌≢◌, ℕ, IsSomeAnd, List, [], ◌∷◌, ◌++◌, map, Option, Some, refl, sym, ap, ◌∙◌, subst, append_assoc}
 use Rattle.std.proofs.lemmas.Option.{none-some, same_Some}
 use Rattle.lz_slot.specs.declared.command.Command.{Command}
 use Rattle.lz_slot.specs.declared.format.Format.{Format}
@@ -33,7 +33,7 @@ use Rattle.lz_tie.specs.Counting.{Counts, CountsOn}
 use Rattle.lz_tie.specs.Holds.{LockedOver}
 use Rattle.lz_set.specs.declared.underway.Stage.{Stage}
 use Rattle.lz_set.specs.declared.underway.Stage.TheVariants.{Syncs, Busy, Answers}
-use Rattle.lz_set.specs.Stages.{HasPlayed, NoneOf, PlaysOne, StandsAt, StandsBefore, StepsBut, StepsUnfailed, StepsWithout, StopsBefore, kind_of_failed, kind_of_step}
+use Rattle.lz_set.specs.Stages.{NoneOf, PlaysOne, StandsAt, StandsBefore, StepsBut, StepsUnfailed, StepsWithout, StopsBefore, kind_of_failed, kind_of_step}
 
 -- neither a loaded pin word nor the yard's shape makes it another kind of event
 kind_loaded : (words : Words) (e : Event) → kind_of (loaded words e) ≡ kind_of e
@@ -71,9 +71,6 @@ plays_one b was is k t before after a =
 pub turned_one : (b : BoardId) (was is : List Note) (k : Calling) (t : Turn) (before after : Part) (e : Event) → e ≡ event_at (shape_with k) k.command k.progress → Advanced b was is k t before after
     → PlaysOne (kind_of e) before after
 turned_one b was is k t before after e next a = subst (λ (f : Event). PlaysOne (kind_of f) before after) (sym next) (plays_one b was is k t before after a)
-
-pub has_played : (kind : Kind) (h h' : Part) → PlaysOne kind h h' → HasPlayed kind h h'
-has_played kind h h' p = (p.0, p.1, p.2, p.3, map (load_note h.number) h.loads, p.4, p.5)
 
 -- loads are no syncs
 loads_without : (p : ℕ) (loads : List Load) → NoneOf kind_of_step Sync (map (load_note p) loads)

@@ -62,12 +62,14 @@ pub use Rattle.lz_caller.specs.Walking.{look_at, looking, walk_at, walk_of, with
 pub use Rattle.lz_yard.specs.Filling.{OpensYard}
 pub use Rattle.lz_yard.specs.Steps.{Played, value_of}
 pub use Rattle.lz_yard.specs.declared.told.Told.{Told}
-pub use Rattle.lz_board.specs.Addresses.{IsWalkable, index, word_at}
+pub use Rattle.lz_list.specs.Addresses.{index, word_at}
+pub use Rattle.lz_board.specs.Walkers.{IsWalkable}
 pub use Rattle.lz_board.specs.Glances.{Between, Changes, Glanced, GlancedUnsettled}
 pub use Rattle.lz_board.specs.Kept.{Knows, PinTold, is_calling, shows, shows_played}
 pub use Rattle.lz_board.specs.Notes.{AllShown, Extends, InOrder, IsShared, Quiet, Shown, Since, as_list, insert_load, is_for, load_note, moment_at, note_by, own, pin_after, pin_after_played, pin_after_what, place, placed, shape_of_sizes, splice, stamp_of, stamped, steps_of, trace_of, turned_at, unless_replied}
 pub use Rattle.lz_board.specs.Noting.{AllLeft, HasLeft, IsStep, KeepsPin, MayNote, MayPrepare, MovesPin, Sighting, Writes}
-pub use Rattle.lz_board.specs.Opened.{AreOpened, opened_by, sizes_in}
+pub use Rattle.lz_list.specs.Addresses.{sizes_in}
+pub use Rattle.lz_board.specs.Opened.{AreOpened, opened_by}
 pub use Rattle.lz_board.specs.Plays.{IsShownTo, found_note, fresh, knowing, loading, moved_part, noted, noted_part}
 pub use Rattle.lz_board.specs.Seats.{BoardId, IsAtHand, IsPenOf, carried, id_of, notes, part}
 pub use Rattle.lz_board.specs.Walkers.{Walked}
@@ -78,5 +80,5 @@ pub use Rattle.lz_board.specs.declared.pass.Pass.{Pass}
 pub use Rattle.lz_board.specs.declared.view.Load.{Load}
 pub use Rattle.lz_board.specs.declared.view.Note.{Note}
 pub use Rattle.lz_board.specs.declared.view.Part.{Part}
-pub use Rattle.lz_board.specs.declared.view.Sizes.{Sizes}
+pub use Rattle.lz_list.specs.declared.layout.Sizes.{Sizes}
 pub use Rattle.lz_board.specs.declared.view.What.{What}

@@ -24,7 +24,7 @@ use Rattle.lz_machine.specs.Runs.{Start, Service, Caller, Up, Reached, caller_at
 use Rattle.lz_machine.specs.Laws.{hop_of}
 use Rattle.lz_machine.specs.CallersSound.{CallerSound, view_of}
 use Rattle.lz_machine.specs.CallsStand.{own_change}
-use Rattle.lz_board.specs.declared.view.Sizes.{Sizes}
+use Rattle.lz_list.specs.declared.layout.Sizes.{Sizes}
 use Rattle.lz_board.specs.declared.view.What.{What}
 use Rattle.lz_board.specs.declared.view.What.TheVariants.{Called, Played}
 use Rattle.lz_board.specs.declared.view.Note.{Note}

@@ -8,7 +8,7 @@ use Rattle.lz_list.specs.Traces.{Trace}
 use Rattle.lz_machine.specs.declared.actor.Actor.{Actor}
 use Rattle.lz_machine.specs.Yards.{idle_actor}
 use Rattle.lz_machine.specs.Limbo.{IsAway}
-use Rattle.lz_board.specs.declared.view.Sizes.{Sizes}
+use Rattle.lz_list.specs.declared.layout.Sizes.{Sizes}
 use Rattle.lz_board.specs.declared.view.Note.{Note}
 use Rattle.lz_board.specs.Notes.{trace_of, pin_after}
 use Rattle.lz_board.specs.Noting.{Sighting, HasLeft, AllLeft}

@@ -10,7 +10,7 @@ use Rattle.lz_slot.specs.Sets.{Keys, Same, after}
 use Rattle.lz_machine.specs.declared.event.Reply.{Reply}
 use Rattle.lz_machine.specs.declared.event.Reply.TheVariants.{Halted, Device}
 use Rattle.lz_machine.specs.Runs.{mark_of_turn}
-use Rattle.lz_board.specs.declared.view.Sizes.{Sizes}
+use Rattle.lz_list.specs.declared.layout.Sizes.{Sizes}
 use Rattle.lz_board.specs.declared.view.Note.{Note}
 use Rattle.lz_board.specs.declared.view.Part.{Part}
 use Rattle.lz_board.specs.Notes.{shape_of_sizes}

@@ -17,7 +17,7 @@ ghost use Rattle.lz_caller.specs.Begun.{begun_after};
 ghost use Rattle.lz_caller.specs.Walking.{walk_of, with_look};
 ghost use Rattle.lz_board.specs.declared.view.Part.{Part};
 ghost use Rattle.lz_board.specs.declared.view.What.TheVariants.{Called};
-ghost use Rattle.lz_board.specs.Addresses.{index};
+ghost use Rattle.lz_list.specs.Addresses.{index};
 ghost use Rattle.lz_board.specs.Notes.{note_by, shape_of_sizes};
 ghost use Rattle.lz_board.specs.Plays.{found_note, loading};
 ghost use Rattle.lz_board.specs.Seats.{IsOf, id_of, part};

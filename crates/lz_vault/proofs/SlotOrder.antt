@@ -1,5 +1,5 @@
 -- The members of a scan's cells, in the order of the slots, with one slot more.
-use Rattle.std.proofs.Common.{◌≡◌, ℕ, ◌+◌, List, [], ◌∷◌, ◌++◌, length, sym, ◌∙◌, ap, subst, arith, length-append, refl, Option, Some, None}
+use Rattle.std.proofs.Common.{◌≡◌, ℕ, ◌+◌, List, [], ◌∷◌, ◌++◌, length, sym, ◌∙◌, ap, subst, length-append, Option, Some, None}
 use Rattle.std.specs.Prelude.{map}
 use Rattle.std.specs.List.{cons_option}
 use Rattle.std.proofs.lemmas.List.{append-nil, map-append}
@@ -12,12 +12,6 @@ use Rattle.lz_vault.proofs.Members.{grown_listed, last_at, none_more, one_more}
 
 pub keys_more : (cells : List Cell) (cell : Cell) → keys_in (cells ++ cell ∷ []) ≡ keys_in cells ++ cons_option (member_in cell) []
 keys_more cells cell = filter_map-append member_in cells (cell ∷ [])
-
-pub none_in_slots : AreInSlots [] []
-none_in_slots = (
-  record { each = λ i lt. absurd (omega (arith, lt)); all = λ k s lt is. absurd (omega (arith, lt)); apart = λ i j lt lt' same. absurd (omega (arith, lt)) },
-  refl,
-)
 
 module _ (cells : List Cell) (cell : Cell) (ms : Nodes) (are : AreInSlots cells ms) where
   abbrev grown : List Cell

@@ -235,9 +235,6 @@ same_cells (x ∷ xs) (y ∷ ys) size same =
     (λ i. first i ∷ rest i)
 
 module _ (before : List Cell) where
-  pub moved_none : AreMoved before before []
-  moved_none = record { size = refl; each = λ s cell there. inl there; moved = λ i s cell at there. absurd (grind arith) }
-
   -- one slot more
   pub moved_more : (after : List Cell) (slots : List ℕ) (s : ℕ) (c : Cell) → AreMoved before after slots → slice_get after s ≡ Some c → AreMoved before (slice_set after s (cell_synced c)) (slots ++ s ∷ [])
   moved_more after slots s c moved there = record {

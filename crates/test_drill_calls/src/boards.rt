@@ -1,7 +1,8 @@
 //! A new board.
 ghost use Rattle.std.specs.Prelude.{◌<◌, ◌^◌, All, IfOk};
-ghost use Rattle.lz_board.specs.Addresses.{words_count};
-ghost use Rattle.lz_board.specs.Opened.{sizes_in, AreOpened};
+ghost use Rattle.lz_list.specs.Addresses.{words_count};
+ghost use Rattle.lz_list.specs.Addresses.{sizes_in};
+ghost use Rattle.lz_board.specs.Opened.{AreOpened};
 ghost use Rattle.test_drill_calls.specs.Looks.{MayLook};
 
 use crate::fault::Fault;

@@ -10,7 +10,7 @@ use Rattle.lz_list.specs.Traces.{Trace, insert, on, bucket_of, word_after, IsLoo
 use Rattle.lz_list.specs.Pinned.{Stood}
 use Rattle.lz_list.proofs.Traces.OpeningTrace.{opening_lawful}
 use Rattle.lz_machine.specs.Limbo.{IsAway}
-use Rattle.lz_board.specs.declared.view.Sizes.{Sizes}
+use Rattle.lz_list.specs.declared.layout.Sizes.{Sizes}
 use Rattle.lz_board.specs.Notes.{IsShared}
 use Rattle.lz_board.specs.Noting.{Writes}
 use Rattle.lz_board.specs.Opened.{shown_in, AreOpened}

@@ -6,7 +6,7 @@ use Rattle.lz_list.specs.declared.publishing.Publishing.TheVariants.{Linked, Set
 use Rattle.lz_list.specs.Words.{Words, set}
 use Rattle.lz_list.specs.Lists.{new_words}
 use Rattle.lz_list.specs.Traces.{Trace}
-use Rattle.lz_board.specs.declared.view.Sizes.{Sizes}
+use Rattle.lz_list.specs.declared.layout.Sizes.{Sizes}
 use Rattle.lz_board.specs.declared.board.Pen.{Pen}
 use Rattle.lz_board.specs.declared.pass.Pass.{Pass}
 use Rattle.lz_board.specs.Kept.{is_calling}

@@ -8,16 +8,17 @@ use Rattle.lz_list.specs.declared.word.Word.{Word}
 use Rattle.lz_list.specs.declared.word.Word.TheVariants.{Pin as PinOf}
 use Rattle.lz_list.specs.Traces.{Trace, word_after}
 use Rattle.lz_machine.specs.Table.{last_pin}
-use Rattle.lz_board.specs.declared.view.Sizes.{Sizes}
+use Rattle.lz_list.specs.declared.layout.Sizes.{Sizes}
 use Rattle.lz_board.specs.declared.view.Note.{Note}
 use Rattle.lz_board.specs.declared.view.Part.{Part}
 use Rattle.lz_board.specs.declared.view.View.{View}
 use Rattle.lz_board.specs.Notes.{IsShared, trace_of}
-use Rattle.lz_board.specs.Addresses.{index, word_at}
+use Rattle.lz_list.specs.Addresses.{index, word_at}
 use Rattle.lz_board.specs.Kept.{is_calling, IsPart, Keeps, PinTold}
 use Rattle.lz_board.specs.Noting.{MayNote, KeepsPin, MovesPin, Writes}
 use Rattle.lz_board.specs.Plays.{Looked, Loaded, Entered, Saw, Noted, Moved, alone, pen_view, found_view, pass_at, Finds}
-use Rattle.lz_board.proofs.Upkeep.Address.{shared_boards, decode}
+use Rattle.lz_list.proofs.Tables.Address.{decode}
+use Rattle.lz_board.proofs.Upkeep.SharedWords.{shared_placed}
 use Rattle.lz_board.proofs.Upkeep.LoadStep.{looks, loads, saws}
 use Rattle.lz_board.proofs.Upkeep.StoreStep.{notes_in, moves_in, enters_in}
 
@@ -56,5 +57,5 @@ module _ (z : Sizes) (opened : Trace) (slots id : ℕ) where
 -- a word that was found, by its place
 pub finds_word : (z : Sizes) (h : Part) (seen : Trace) (i found : ℕ) (w : Word) → h.sizes ≡ z → i ≡ index z w → IsShared z w → Finds seen i found h → found ≡ word_after z.buckets seen w
 finds_word z h seen i found w sized at shared finds =
-    let back : word_at h.sizes i ≡ w = (λ k. word_at (sized k) (at k)) ∙ decode z w (shared_boards z w shared) in
+    let back : word_at h.sizes i ≡ w = (λ k. word_at (sized k) (at k)) ∙ decode z w (shared_placed z w shared) in
     finds (subst (λ (x : Sizes × Word). IsShared x.0 x.1) (λ k. (sym sized k, sym back k)) shared) ∙ (λ k. word_after (sized k).buckets seen (back k))

@@ -8,7 +8,7 @@ use Rattle.lz_list.specs.Pinned.{Stood, IsQuiet}
 use Rattle.lz_list.proofs.Traces.Hindsight.{once_from}
 use Rattle.lz_machine.specs.Limbo.{IsAway}
 use Rattle.lz_machine.proofs.Steps.Walk.{once_some}
-use Rattle.lz_board.specs.declared.view.Sizes.{Sizes}
+use Rattle.lz_list.specs.declared.layout.Sizes.{Sizes}
 use Rattle.lz_board.specs.declared.view.Note.{Note}
 use Rattle.lz_board.specs.declared.view.Load.{Load}
 use Rattle.lz_board.specs.declared.view.Part.{Part}

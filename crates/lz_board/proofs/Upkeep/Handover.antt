@@ -5,7 +5,7 @@ use lib.ListN.{get_elem?}
 use Rattle.atomic_table.specs.Table.{Splits, Joins}
 use Rattle.atomic_table.proofs.Lists.{set_else}
 use Rattle.lz_list.specs.Traces.{Trace}
-use Rattle.lz_board.specs.declared.view.Sizes.{Sizes}
+use Rattle.lz_list.specs.declared.layout.Sizes.{Sizes}
 use Rattle.lz_board.specs.declared.view.Note.{Note}
 use Rattle.lz_board.specs.declared.view.Part.{Part}
 use Rattle.lz_board.specs.declared.view.View.{View}

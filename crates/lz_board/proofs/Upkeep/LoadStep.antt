@@ -10,17 +10,18 @@ use Rattle.lz_list.specs.declared.word.Word.{Word}
 use Rattle.lz_list.specs.declared.word.Word.TheVariants.{Pin as PinOf}
 use Rattle.lz_list.specs.Traces.{Trace, Lawful, word_after}
 use Rattle.lz_list.specs.Pinned.{IsQuiet}
-use Rattle.lz_board.specs.declared.view.Sizes.{Sizes}
+use Rattle.lz_list.specs.declared.layout.Sizes.{Sizes}
 use Rattle.lz_board.specs.declared.view.Note.{Note}
 use Rattle.lz_board.specs.declared.view.Part.{Part}
 use Rattle.lz_board.specs.declared.view.View.{View}
 use Rattle.lz_board.specs.Notes.{trace_of, steps_of, IsShared, pin_after}
-use Rattle.lz_board.specs.Addresses.{index, word_at}
+use Rattle.lz_list.specs.Addresses.{index, word_at}
 use Rattle.lz_machine.specs.Yards.{IsInside}
 use Rattle.lz_board.specs.Kept.{is_calling, Knows, PartFits, IsPart, ViewFits, PinTold, Keeps}
 use Rattle.lz_board.specs.Plays as plays
 use Rattle.lz_board.specs.Plays.{pen_view, with_parts, knowing, loading, found_note, found_view, IsShownTo}
-use Rattle.lz_board.proofs.Upkeep.Address.{shared_boards, decode}
+use Rattle.lz_list.proofs.Tables.Address.{decode}
+use Rattle.lz_board.proofs.Upkeep.SharedWords.{shared_placed}
 use Rattle.lz_board.proofs.Upkeep.Splice.{other_step}
 use Rattle.lz_board.proofs.Upkeep.PartUpkeep.{knows_knowing, knows_loading, knows_found}
 use Rattle.lz_board.proofs.Upkeep.SeatTable.{replaced, from_map, apart_map}
@@ -68,7 +69,7 @@ module _ (z : Sizes) (opened : Trace) where
       let v = with_parts (knowing t) me.0 in
       let mine = k.views id me.0 at in
       let kept' = keeps_parts id s k me.0 at (knowing t) (λ h. refl) (λ h. refl) (λ h is. knows_knowing z opened k.notes h) in
-      let decoded = decode z w (shared_boards z w shared) in (
+      let decoded = decode z w (shared_placed z w shared) in (
         v,
         keeps,
         tt,
@@ -95,7 +96,7 @@ module _ (z : Sizes) (opened : Trace) where
       let found = slice_index s.words i in
       let v = with_parts (loading t i found) me.0 in
       let mine = k.views id me.0 at in
-      let decoded = decode z w (shared_boards z w shared) in
+      let decoded = decode z w (shared_placed z w shared) in
       let shared' : IsShared z (word_at z i) = subst (IsShared z) (sym decoded) shared in
       let value : found ≡ word_after z.buckets t (word_at z i) = k.words w shared ∙ ap (word_after z.buckets t) (sym decoded) in
       let kept' = keeps_parts id s k me.0 at (loading t i found) (λ h. refl) (λ h. refl) (λ h is q. knows_loading z opened k.notes i found h q shared' value) in (

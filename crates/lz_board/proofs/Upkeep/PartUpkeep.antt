@@ -7,14 +7,14 @@ use Rattle.lz_list.specs.Traces.{Trace, word_after}
 use Rattle.lz_list.specs.Pinned.{IsQuiet}
 use Rattle.lz_machine.specs.Table.{last_pin}
 use Rattle.lz_machine.proofs.Steps.Pin.{quiet_new}
-use Rattle.lz_board.specs.declared.view.Sizes.{Sizes}
+use Rattle.lz_list.specs.declared.layout.Sizes.{Sizes}
 use Rattle.lz_board.specs.declared.view.What.{What}
 use Rattle.lz_board.specs.declared.view.What.TheVariants.{Called, Played, Found}
 use Rattle.lz_board.specs.declared.view.Note.{Note}
 use Rattle.lz_board.specs.declared.view.Load.{Load}
 use Rattle.lz_board.specs.declared.view.Part.{Part}
 use Rattle.lz_board.specs.Notes.{as_list, trace_of, steps_of, Extends, Since, load_note, splice, Quiet, InOrder, IsShared, AllShown, pin_after_played, pin_after, pin_after_what, turned_at}
-use Rattle.lz_board.specs.Addresses.{word_at}
+use Rattle.lz_list.specs.Addresses.{word_at}
 use Rattle.lz_board.specs.Kept.{is_calling, shows_played, shows, Knows, PinTold}
 use Rattle.lz_board.specs.Noting.{IsStep, MayNote, KeepsPin, MovesPin}
 use Rattle.lz_board.specs.Plays.{noted, noted_part, moved_part, knowing, loading, entering, found_note}

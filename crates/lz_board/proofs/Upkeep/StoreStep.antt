@@ -10,17 +10,18 @@ use Rattle.lz_list.specs.declared.word.Word.{Word}
 use Rattle.lz_list.specs.declared.word.Word.TheVariants.{Head, Link, Key, Pin as PinOf, Halt}
 use Rattle.lz_list.specs.Traces.{Trace, Lawful, word_after}
 use Rattle.lz_machine.specs.Table.{last_pin}
-use Rattle.lz_board.specs.declared.view.Sizes.{Sizes}
+use Rattle.lz_list.specs.declared.layout.Sizes.{Sizes}
 use Rattle.lz_board.specs.declared.view.Note.{Note}
 use Rattle.lz_board.specs.declared.view.Part.{Part}
 use Rattle.lz_board.specs.declared.view.View.{View}
 use Rattle.lz_board.specs.Notes.{as_list, trace_of, IsShared}
-use Rattle.lz_board.specs.Addresses.{index, word_at, words_count, IsBoards}
+use Rattle.lz_list.specs.Addresses.{index, word_at, words_count, HasPlace}
 use Rattle.lz_board.specs.Kept.{is_calling, Knows, PartFits, ViewFits, PinTold, Keeps}
 use Rattle.lz_board.specs.Noting.{MayNote, KeepsPin, MovesPin, Writes}
 use Rattle.lz_board.specs.Plays as plays
 use Rattle.lz_board.specs.Plays.{alone, pen_view, with_parts, entering, noted, noted_part, moved_part, noted_view, IsShownTo}
-use Rattle.lz_board.proofs.Upkeep.Address.{shared_boards, in_range, decode, places_apart}
+use Rattle.lz_list.proofs.Tables.Address.{in_range, decode, places_apart}
+use Rattle.lz_board.proofs.Upkeep.SharedWords.{shared_placed}
 use Rattle.lz_board.proofs.Upkeep.PartUpkeep.{knows_entering, knows_noted, knows_moved, knows_other, trace_noted, told_own, told_other}
 use Rattle.lz_board.proofs.Upkeep.SeatTable.{replaced, one_part}
 use Rattle.lz_board.proofs.Upkeep.LoadStep.{shown_to}
@@ -42,9 +43,9 @@ module _ (z : Sizes) (opened : Trace) where
       let ws = set s.words i m in
       let own_knows : Knows z opened ns h = subst (λ l. Knows z opened l h) same own_part.knows in
       let trace' : trace_of opened now ≡ as_list n.published ++ trace_of opened ns = trace_noted z opened ns h n own_knows may in
-      let board_w = shared_boards z w writes.shared in
+      let board_w = shared_placed z w writes.shared in
       let inside : i < length s.words = let l = k.long in let r = in_range z w board_w in omega arith in
-      let other_word : (u : Word) → IsBoards z u → u ≢ w → slice_index ws (index z u) ≡ slice_index s.words (index z u) = λ u board ne. get_or-set_other s.words i (index z u) m 0 (places_apart z u w board board_w ne) in
+      let other_word : (u : Word) → HasPlace z u → u ≢ w → slice_index ws (index z u) ≡ slice_index s.words (index z u) = λ u board ne. get_or-set_other s.words i (index z u) m 0 (places_apart z u w board board_w ne) in
       let pin_word : (p : ℕ) → 1 ≤ p → p ≤ z.passes → slice_index ws (index z (PinOf p)) ≡ slice_index s.words (index z (PinOf p)) = λ p one most. other_word (PinOf p) (one, most) (not_pin w p writes.shared) in
       let F = ViewFits z opened now k.pen k.owner ws in
       let fits : F id v = record {
@@ -73,12 +74,12 @@ module _ (z : Sizes) (opened : Trace) where
         lawful = subst (Lawful z.buckets z.slots) (sym trace') may.lawful;
         long = length-set s.words i m ∙ k.long;
         words = λ u shared. ⊎_elim
-            (λ (here : index z u ≡ i). let e : u ≡ w = sym (decode z u (shared_boards z u shared)) ∙ ap (word_at z) here ∙ decode z w board_w in
+            (λ (here : index z u ≡ i). let e : u ≡ w = sym (decode z u (shared_placed z u shared)) ∙ ap (word_at z) here ∙ decode z w board_w in
             ap (λ j. slice_index ws j) here ∙ get_or-set_same s.words i m 0 inside
             ∙ ap (λ x. either (x == old) new x) (k.words w writes.shared ∙ ap (λ l. word_after z.buckets (trace_of opened l) w) same) ∙ writes.word
             ∙ ap (λ x. word_after z.buckets x w) (sym trace') ∙ ap (word_after z.buckets (trace_of opened now)) (sym e))
             (λ (away : index z u ≢ i). let ne : u ≢ w = λ e. away (ap (index z) e) in
-            other_word u (shared_boards z u shared) ne ∙ k.words u shared ∙ ap (λ l. word_after z.buckets (trace_of opened l) u) same ∙ sym (writes.others u shared ne) ∙ ap (λ x. word_after z.buckets x u) (sym trace'))
+            other_word u (shared_placed z u shared) ne ∙ k.words u shared ∙ ap (λ l. word_after z.buckets (trace_of opened l) u) same ∙ sym (writes.others u shared ne) ∙ ap (λ x. word_after z.buckets x u) (sym trace'))
             (cases_eq (index z u) i);
         pins = λ q one most. subst (PinTold z now q) (sym (pin_word q one most)) (⊎_elim
             (λ (here : q ≡ h.number). subst (λ p. PinTold z now p (slice_index s.words (index z (PinOf p)))) (sym here) (subst (PinTold z now h.number) (sym own_part.pinned) (told_own z opened ns h n own_knows may h.pin keeps_pin worn)))
@@ -107,7 +108,7 @@ module _ (z : Sizes) (opened : Trace) where
     pin_inside = let r = in_range z (PinOf p) (low, high) in omega (arith, r, long)
 
     shared_stays : (u : Word) → IsShared z u → slice_index (set words i m) (index z u) ≡ slice_index words (index z u)
-    shared_stays u shared = get_or-set_other words i (index z u) m 0 (places_apart z u (PinOf p) (shared_boards z u shared) (low, high) (never u shared))
+    shared_stays u shared = get_or-set_other words i (index z u) m 0 (places_apart z u (PinOf p) (shared_placed z u shared) (low, high) (never u shared))
       where
         never : (u : Word) → IsShared z u → u ≢ PinOf p
         never (Head b) shared e = absurd cc

@@ -25,9 +25,6 @@ module _ (A P Q B : Trace) (before : Begins A P) (after : Begins Q B) where
     ];
   }
 
-pub listed_none : (from upto : ℕ) (P Q : Trace) → upto ≤ from → Listed from upto [] P Q
-listed_none from upto P Q none = record { were = λ n d low. absurd (omega (arith, low)); others = λ s k low high small. absurd (omega (arith, none, low, high)) }
-
 module _ (from i : ℕ) (told : List ℕ) (P Q B : Trace) (more : Begins Q B) (l : Listed from i told P Q) where
   later : Listed from i told P B
   later = listed_longer P P Q B (begins_itself P) more from i told l

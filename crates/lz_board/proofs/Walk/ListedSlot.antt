@@ -10,7 +10,7 @@ use Rattle.lz_list.proofs.Tables.PackedLink.{mark_of_link, added_of_link}
 use Rattle.lz_list.proofs.Chains.PlaceRank.{adjacent, adjacent_next}
 use Rattle.lz_list.proofs.Traces.Absence.{begins_itself}
 use Rattle.lz_machine.proofs.Frames.Ranges.{on_range}
-use Rattle.lz_board.specs.declared.view.Sizes.{Sizes}
+use Rattle.lz_list.specs.declared.layout.Sizes.{Sizes}
 use Rattle.lz_board.specs.declared.view.Part.{Part}
 use Rattle.lz_board.specs.declared.answer.Glance.{Glance}
 use Rattle.lz_board.specs.declared.answer.Glance.TheVariants.{Yes, No, Unsettled}

@@ -27,12 +27,12 @@ use Rattle.lz_machine.proofs.Frames.Ranges.{stood_range}
 use Rattle.lz_machine.proofs.Frames.OneLoad as load
 use Rattle.lz_machine.proofs.Steps.Walk.{once_some}
 use Rattle.lz_machine.proofs.Frames.Publishing.{rank_stays, pred_stood, looking_stays}
-use Rattle.lz_board.specs.declared.view.Sizes.{Sizes}
+use Rattle.lz_list.specs.declared.layout.Sizes.{Sizes}
 use Rattle.lz_board.specs.declared.view.Part.{Part}
 use Rattle.lz_board.specs.Notes.{own, Extends, is_for, Since, IsShared}
 use Rattle.lz_machine.specs.Yards.{IsInside}
 use Rattle.lz_board.specs.Plays.{knowing, IsShownTo}
-use Rattle.lz_board.specs.Addresses.{IsWalkable}
+use Rattle.lz_board.specs.Walkers.{IsWalkable}
 use Rattle.lz_board.specs.Walkers.{Ended, IsOnWalk, Walked, keys_left, hops_left, IsNearer, AtWalk, IsHop}
 use Rattle.lz_board.proofs.Upkeep.Growth.{begins_of}
 

@@ -3,7 +3,7 @@ use Rattle.std.proofs.Common.{◌≡◌, inl, inr, ℕ, suc, true, false, [], �
 use mathlib.Core.Bool.{false≢true}
 use Rattle.std.proofs.lemmas.Bool.{cases_Bool}
 use Rattle.std.proofs.lemmas.Bool.Decides.{nat_tests}
-use Rattle.lz_list.specs.Traces.{Chain, has_key, has_slot, on, chain, member, linking, is_settled, Lawful, SettledYes, opening, IsFound}
+use Rattle.lz_list.specs.Traces.{Chain, has_key, has_slot, on, chain, member, linking, is_settled, halt_word, Lawful, SettledYes, opening, IsFound}
 use Rattle.lz_list.proofs.Traces.Absence.{has_insert, begins_itself}
 use Rattle.lz_list.proofs.Traces.NodeBits.{on_insert_other}
 
@@ -26,6 +26,10 @@ module _ (buckets : ℕ) where
   pub opening_lawful : (slots : ℕ) (found : Chain) → IsFound slots found → Lawful buckets slots (opening buckets found)
   opening_lawful slots [] h = tt
   opening_lawful slots (f ∷ found) h = grind (arith, opening_lawful slots found h.3, none_slot, opening_members, none_key)
+
+  pub opening_unhalted : (found : Chain) → halt_word (opening buckets found) ≡ 0
+  opening_unhalted [] = refl
+  opening_unhalted (f ∷ found) = opening_unhalted found
 
   is_settled_there : (k : ℕ) (found : Chain) → has_key k found ≡ true → is_settled (linking k (opening buckets found)) (opening buckets found) ≡ true
   is_settled_there k [] has = absurd (false≢true has)

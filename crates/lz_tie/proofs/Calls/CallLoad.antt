@@ -11,7 +11,8 @@ use Rattle.lz_machine.specs.declared.event.Outcome.TheVariants.{Value}
 use Rattle.lz_machine.specs.declared.caller.Sequence.TheVariants.{Pinning}
 use Rattle.lz_machine.specs.declared.caller.Progress.TheVariants.{Playing, LoadsHalt, Walking}
 use Rattle.lz_board.specs.declared.view.What.TheVariants.{Played}
-use Rattle.lz_board.proofs.Upkeep.Address.{shared_boards, decode}
+use Rattle.lz_list.proofs.Tables.Address.{decode}
+use Rattle.lz_board.proofs.Upkeep.SharedWords.{shared_placed}
 use Rattle.lz_board.proofs.Walk.GlanceAnswer.{halt_since}
 use Rattle.std.proofs.lemmas.List.Elements.{filter-append}
 use Rattle.lz_tie.specs.NotedRuns.{IsHopAt}
@@ -96,7 +97,7 @@ module _ (b : BoardId) (c : Command) (format : Format) (before : Part) (at : Pro
     steps = U.steps;
     only = U.only;
     call = record {
-      next = (subst (IsHopAt (shape_of_sizes h.sizes) x) (sym U.call.at) (event ∙ ap Hop (sym (decode h.sizes w (shared_boards h.sizes w (subst (λ (z : Sizes). IsShared z w) (sym U.sizes) shared))))), U.call.next);
+      next = (subst (IsHopAt (shape_of_sizes h.sizes) x) (sym U.call.at) (event ∙ ap Hop (sym (decode h.sizes w (shared_placed h.sizes w (subst (λ (z : Sizes). IsShared z w) (sym U.sizes) shared))))), U.call.next);
       at = ap (placed (shape_of_sizes h.sizes) (Played (Hop x.word) (Value value))) U.call.at ∙ ap (λ (r : Option Reply). unless_replied r c next) (loading_going at loads);
       pass = there.pass;
     };

@@ -5,28 +5,20 @@ use Rattle.std.proofs.lemmas.Option.{same_Some, slice_get-get_or}
 use Rattle.lz_disk.specs.Devices.{Device}
 use Rattle.lz_vault.specs.Members.{no_cell}
 use Rattle.lz_vault.specs.Stages.{Cell, stage_put}
-use Rattle.lz_vault.specs.Vaults.{Vaulted, Called, key_call, last_sync}
+use Rattle.lz_vault.specs.Vaults.{Vaulted, Called, key_call}
 use Rattle.lz_list.specs.declared.word.Word.TheVariants.{Key as key_at}
 use Rattle.lz_list.specs.Words.{set}
 use Rattle.lz_list.specs.Lists.{Listed}
-use Rattle.lz_machine.specs.declared.event.Event.TheVariants.{Sync, WriteKey}
+use Rattle.lz_machine.specs.declared.event.Event.TheVariants.{WriteKey}
 use Rattle.lz_machine.specs.declared.event.Outcome.TheVariants.{Done}
 use Rattle.lz_machine.specs.declared.course.Course.TheVariants.{Plays}
 use Rattle.lz_machine.specs.Yards.{Yard, actor_at, cell_at}
-use Rattle.lz_machine.specs.Table.{course, is_sure, is_spent}
 use Rattle.lz_machine.specs.Ready.{IsReady}
 use Rattle.lz_yard.specs.Parts.{Does, Known, PartsFit}
 
 -- an event that a dead vault refuses is played on one that isn't dead
 pub lives : (dead : Bool) → (dead && true) ≡ false → dead ≡ false
 lives dead h = grind arith
-
--- a sync that is played finds one left, unless the slot is durable
-pub sync_left : (y : Yard) (a s : ℕ) → course y a (Sync s) ≡ Plays → is_sure y s ≡ false → is_spent y ≡ false
-sync_left y a s = grind arith
-
-pub sync_more : (syncs : ℕ) → syncs ≤ last_sync → (syncs == last_sync) ≡ false → syncs + 1 ≤ last_sync
-sync_more syncs low other = grind arith
 
 -- the slot into which a key is put is one of the vault's
 pub key_slot : (y : Yard) (known a k s : ℕ) → PartsFit y known → IsReady y a (WriteKey k) → (actor_at y a).slot ≡ Some s → s < length y.vault.cells

@@ -1,6 +1,6 @@
 -- The words that an open fills are those after the trace of its members.
-use Rattle.std.proofs.Common.{◌≡◌, ◌≢◌, inl, inr, ℕ, zero, suc, ◌<◌, ◌≤◌, true, false, ◌==◌, List, [], ◌∷◌, ◌++◌, length, refl, sym, ap, ◌∙◌, arith, length-set, length-append}
-use Rattle.std.specs.Prelude.{All, replicate, slice_set}
+use Rattle.std.proofs.Common.{◌≡◌, ◌≢◌, inl, inr, ℕ, suc, ◌<◌, ◌≤◌, true, false, ◌==◌, [], ◌∷◌, ◌++◌, length, refl, sym, ap, ◌∙◌, arith, length-set, length-append}
+use Rattle.std.specs.Prelude.{All, slice_set}
 use Rattle.std.proofs.lemmas.Bool.Decides.{nat_tests, eqb_tells}
 use Rattle.std.proofs.lemmas.List.{get_or_append_left}
 use Rattle.lz_slot.specs.Limits.{most_slots}
@@ -12,6 +12,7 @@ use Rattle.lz_list.specs.Traces.{Trace, Chain, Lawful, WordsShow, IsFound, inser
 use Rattle.lz_list.proofs.Traces.OpeningTrace.{opening_lawful}
 use Rattle.lz_list.proofs.Chains.TraceChain.{words_show_chain}
 use Rattle.lz_list.proofs.Tables.WordTable.{table_at, table_set, length-table}
+use Rattle.lz_list.proofs.Tables.WordRow.{table_of}
 use Rattle.lz_list.proofs.Chains.ChainNode.{bucket_low}
 use Rattle.lz_slot.specs.Nodes.{has_node}
 use Rattle.lz_vault.specs.Members.{Ascends}
@@ -97,15 +98,6 @@ module _ (N B S : ℕ) (few : N ≤ most_slots) (some : 1 ≤ B) (es : Chain) (k
 
   pub first_words : with_first W k s ≡ words_of_trace N B S Q
   first_words = grind (arith, length-table, heads_are, links_are, keys_are)
-
--- a table of one number
-table_of : (n x : ℕ) → replicate n x ≡ table n (λ i. x)
-table_of zero x = refl
-table_of (suc n) x = push n ∙ ap (λ (l : List ℕ). l ++ x ∷ []) (table_of n x)
-  where
-    push : (m : ℕ) → x ∷ replicate m x ≡ replicate m x ++ x ∷ []
-    push zero = refl
-    push (suc m) = ap (λ (l : List ℕ). x ∷ l) (push m)
 
 -- all of them
 pub filled_words : (N B S : ℕ) → N ≤ most_slots → 1 ≤ B → (es : Chain) → IsFound N es → Ascends es → with_members es (new_words N B S) ≡ words_of_trace N B S (opening B es)

@@ -6,7 +6,8 @@ use Rattle.lz_list.specs.Words.{set}
 use Rattle.lz_board.specs.declared.view.Part.{Part}
 use Rattle.lz_board.specs.Kept.{is_calling}
 use Rattle.lz_board.specs.Notes.{trace_of}
-use Rattle.lz_board.specs.Opened.{sizes_in, opened_by, AreOpened}
+use Rattle.lz_list.specs.Addresses.{sizes_in}
+use Rattle.lz_board.specs.Opened.{opened_by, AreOpened}
 use Rattle.lz_board.specs.Seats.{id_of, IsNew}
 use Rattle.test_threads.specs.NineFound.{nine_words, MayLook}
 use Rattle.test_threads.proofs.TwoSlots.{nine_opened}

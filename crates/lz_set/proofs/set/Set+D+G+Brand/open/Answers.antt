@@ -1,5 +1,6 @@
 use Rattle.std.proofs.Common.{[], refl, sym, ap, ◌∙◌, subst}
-use Rattle.lz_board.specs.Opened.{AreOpened, opened_by, sizes_in}
+use Rattle.lz_list.specs.Addresses.{sizes_in}
+use Rattle.lz_board.specs.Opened.{AreOpened, opened_by}
 use Rattle.lz_board.specs.Seats.{id_of}
 use Rattle.lz_tie.proofs.Start.FirstSets.{begins_with_read}
 use Rattle.lz_tie.proofs.Start.OpenedYard.{words_opened}
