@@ -17,7 +17,7 @@ use Rattle.lz_machine.specs.declared.event.Reply.TheVariants.{Halted, Device as 
 use Rattle.lz_machine.specs.Yards.{Shape}
 use Rattle.lz_board.specs.declared.pass.Pass.{Pass}
 use Rattle.lz_board.specs.declared.view.Part.{Part}
-use Rattle.lz_board.specs.declared.view.Sizes.{Sizes}
+use Rattle.lz_list.specs.declared.layout.Sizes.{Sizes}
 use Rattle.lz_board.specs.Notes.{Extends, shape_of_sizes, trace_of}
 use Rattle.lz_board.specs.Plays.{knowing, parts_from}
 use Rattle.lz_board.specs.Seats.{BoardId, IsOf, part}

@@ -1,5 +1,5 @@
 -- A pass of a loop that answers a request: how its call is played on, and its reply.
-use Rattle.std.proofs.Common.{◌≡◌, ◌+◌, ℕ, true, List, Result, Bool, Option, Some, None, refl, sym, subst}
+use Rattle.std.proofs.Common.{◌≡◌, ◌+◌, ◌&&◌, ◌↔◌, ℕ, true, false, if◌then◌else◌, inl, inr, List, Result, Bool, IfSome, IsSomeAnd, IsTrue, Option, Some, None, refl, sym, ap, ◌∙◌, subst}
 use Rattle.lz_slot.specs.declared.command.Command.{Command}
 use Rattle.lz_slot.specs.declared.format.Format.{Format}
 use Rattle.lz_machine.specs.Orders.{Calling}
@@ -15,10 +15,12 @@ use Rattle.lz_set.specs.declared.fault.Fault.{Fault}
 use Rattle.lz_set.specs.Answers.{reply_of}
 use Rattle.lz_set.specs.Names.{MayCall}
 use Rattle.lz_serve.specs.Halts.{IsCalmAfter}
-use Rattle.lz_serve.specs.Replies.{SeatAnswers, asks_again, says_halted}
+use Rattle.lz_serve.specs.Replies.{AreAskedAgain, SeatAnswers, asks_again, client_reply, says_halted, told_of}
 use Rattle.lz_serve.proofs.Seats.{AskedUpTo, one_more, saw_now, stays_calm}
+use Rattle.lz_serve.specs.Clients.{Askers, AwaitsBeforeAt, IsHeardAt}
 use Rattle.lz_serve.specs.Grants.{Posed}
-use Rattle.lz_serve.specs.Askings.{IsAnswering, IsCounting, IsResting, RestsOrAnswers}
+use Rattle.lz_serve.specs.Askings.{Asked, HasAnswered, IsAnsweredAt, IsAnsweredWith, IsAnswering, IsCounting, IsMadeAgain, IsResting, IsSameQuestion, RestsOrAnswers}
+use Rattle.lz_serve.specs.Desks.{GoesAnew, IsReplied}
 
 module _ (b : BoardId) (F : Format) (given : List Part) where
   -- what answers a question doesn't rest
@@ -50,6 +52,21 @@ module _ (b : BoardId) (F : Format) (given : List Part) where
     -- it counts the call that has begun
     pub counted : {k : Calling} → call ≡ Some k → Counts b is.c F (part is.middle) k (part pass)
     counted {k} begun = subst (λ (o : Option Calling). IsCounting b F is.c is.middle o pass) begun is.counts
+
+    -- so much is told of its answer
+    pub answered_with : (asked : Asked) (earlier beside : Bool) (answer : Result Bool Fault) (new : Pass) (reply : Option Reply) → asked.question ≡ Some q → AskedUpTo b F q.earlier is.c asked.tries q.before answer new → beside ≡ (earlier && q.earlier)
+        → reply ≡ told_of b asked.tries beside answer → IsAnsweredWith b F earlier asked reply new
+    answered_with asked earlier beside answer new reply asks upto so told = record {
+      question = q;
+      asks = asks;
+      c = is.c;
+      asks_for = is.asked;
+      middle = upto.middle;
+      before = upto.before;
+      answer = answer;
+      last = upto.last;
+      told = subst (λ (e : Bool). reply ≡ told_of b asked.tries e answer) so told;
+    }
 
     module _ {k : Calling} (begun : call ≡ Some k) (answer : Result Bool Fault) (new : Pass) where
       -- what each call that this may count is answered, its own is
@@ -96,3 +113,48 @@ module _ (b : BoardId) (F : Format) (given : List Part) where
       calm = λ quiet all. stays_calm b F earlier old new request reply seat may_call.0.2.sized quiet (calm all);
       none = refl;
     }
+
+-- what is told of an answer
+module _ (b : BoardId) (tries : ℕ) (earlier : Bool) (answer : Result Bool Fault) where
+  pub told_to_nobody : asks_again b tries earlier answer ≡ true → None ≡ told_of b tries earlier answer
+  told_to_nobody again = sym (ap (λ (x : Bool). if x then None else Some (client_reply answer)) again)
+
+  pub told_so : (reply : Reply) → asks_again b tries earlier answer ≡ false → reply ≡ client_reply answer → Some reply ≡ told_of b tries earlier answer
+  told_so reply final is = ap (λ (r : Reply). Some r) is ∙ sym (ap (λ (x : Bool). if x then None else Some (client_reply answer)) final)
+
+-- it is answered the same however far its call was played before that
+pub same_answered : (b : BoardId) (F : Format) (a : Askers) (old new : Asked) (reply : Option Reply) (after : Pass) → IsSameQuestion old new → IsAnsweredAt b F a new reply after → IsAnsweredAt b F a old reply after
+same_answered b F a old new reply after same (earlier, so, with) = (
+  earlier,
+  subst (λ (o : Option Posed). IsTrue earlier ↔ IsSomeAnd o (λ q. (q.earlier ≡ true) × AwaitsBeforeAt a old.token q.line)) same.question
+      (subst (λ (t : ℕ). IsTrue earlier ↔ IsSomeAnd new.question (λ q. (q.earlier ≡ true) × AwaitsBeforeAt a t q.line)) same.token so),
+  record {
+    question = with.question;
+    asks = sym same.question ∙ with.asks;
+    c = with.c;
+    asks_for = with.asks_for;
+    middle = with.middle;
+    before = subst (λ (n : ℕ). AreAskedAgain b F with.question.earlier with.c n with.question.before with.middle) same.tries with.before;
+    answer = with.answer;
+    last = with.last;
+    told = subst (λ (n : ℕ). reply ≡ told_of b n (earlier && with.question.earlier) with.answer) same.tries with.told;
+  },
+)
+
+-- and so is one more call made, or none
+pub same_made : (b : BoardId) (F : Format) (a : Askers) (old middle new : Asked) → IsSameQuestion old middle → IsMadeAgain b F a middle new → IsMadeAgain b F a old new
+same_made b F a old middle new same (more, so) = (subst (λ (n : ℕ). new.tries ≡ n + 1) same.tries more, same_answered b F a old middle None new.pass same so)
+
+pub same_told : (b : BoardId) (F : Format) (a : Askers) (old middle : Asked) → IsSameQuestion old middle → HasAnswered b F a middle → HasAnswered b F a old
+same_told b F a old middle same (reply, after, so) = (reply, after, same_answered b F a old middle (Some reply) after same so)
+
+pub same_replied : (now : Askers) (old middle : Asked) → IsSameQuestion old middle → IsReplied now middle → IsReplied now old
+same_replied now old middle same replied = subst (λ (t : ℕ). IfSome old.question (IsHeardAt now t)) same.token (subst (λ (o : Option Posed). IfSome o (IsHeardAt now middle.token)) same.question replied)
+
+pub same_anew : (b : BoardId) (F : Format) (was now : Askers) (old middle new : Asked) → IsSameQuestion old middle → GoesAnew b F was now middle new → GoesAnew b F was now old new
+same_anew b F was now old middle new same (inl again) = inl (same_made b F was old middle new same again)
+same_anew b F was now old middle new same (inr (told, replied, (question, next, later))) = inr (
+  same_told b F was old middle same told,
+  same_replied now old middle same replied,
+  (question, next, λ before asks token. later before (same.question ∙ asks) (token ∙ sym same.token)),
+)

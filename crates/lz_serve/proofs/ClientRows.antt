@@ -8,7 +8,7 @@ use Rattle.lz_proto.specs.declared.request.Request.TheVariants.{Add, Has}
 use Rattle.lz_proto.specs.declared.end.End.TheVariants.{Done}
 use Rattle.lz_proto.specs.declared.reply.Reply.TheVariants.{Yes}
 use Rattle.lz_board.specs.declared.pass.Pass.{Pass}
-use Rattle.lz_serve.specs.Clients.{Asker, Askers, HasLine, HasNoneAt, HasSeenIn, IsAwaited, IsHeard, IsOwn, TakesTurn}
+use Rattle.lz_serve.specs.Clients.{Asker, Askers, AwaitsBefore, HasLine, HasNoneAt, HasRepliedBefore, HasSeenIn, IsAwaited, IsHeard, IsOwn, TakesTurn}
 use Rattle.lz_serve.specs.declared.line.Line.{Line}
 use Rattle.lz_serve.specs.Grants.{Posed, key_asked}
 use Rattle.lz_serve.specs.Lines.{awaited, replied}
@@ -32,6 +32,13 @@ not_its p q same = absurd (cc)
 -- once its line has its reply, none awaits one
 heard : (p : Pass) → IsHeard (record (asks p []) { under = replied (Add 5) Yes ∷ [] }) (posed 1 p)
 heard p same stands = noted_heard (awaited (Add 5) ∷ []) 0 (Add 5) (Add 5) Yes stands.1
+
+-- it has a line before its second one that awaits its reply, and nothing is before the first
+pub before_the_second : (p : Pass) → AwaitsBefore 2 (Some (asks p []))
+before_the_second p all = All-head (λ (l : Line). l.reply ≢ None) (awaited (Add 5)) [] all refl
+
+pub before_the_first_line : (p : Pass) → HasRepliedBefore 1 (asks p [])
+before_the_first_line p = All-nil (λ (l : Line). l.reply ≢ None)
 
 -- where its next line is for another key, it has a line for a pass
 abbrev pub asks_on : Pass → Request → Asker

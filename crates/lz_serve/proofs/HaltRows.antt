@@ -11,7 +11,7 @@ use Rattle.lz_machine.specs.declared.event.Outcome.TheVariants.{Done}
 use Rattle.lz_machine.specs.declared.event.Reply.TheVariants.{Yes, Halted, Device}
 use Rattle.lz_board.specs.declared.view.Note.{Note}
 use Rattle.lz_board.specs.declared.view.Part.{Part}
-use Rattle.lz_board.specs.declared.view.Sizes.{Sizes}
+use Rattle.lz_list.specs.declared.layout.Sizes.{Sizes}
 use Rattle.lz_board.specs.declared.view.What.TheVariants.{Called, Played}
 use Rattle.lz_board.specs.Notes.{note_by, load_note, shape_of_sizes}
 use Rattle.lz_board.specs.Plays.{fresh}

@@ -1,6 +1,6 @@
 -- Passes that threads hand back, one after the other.
-use Rattle.std.proofs.Common.{◌≡◌, ◌⊎◌, ⊎_elim, Bool, true, All, ℕ, ◌<◌, List, [], ◌∷◌, ◌++◌, map, sym, ◌∙◌, subst, arith}
-use Rattle.std.specs.List.{Any}
+use Rattle.std.proofs.Common.{◌≡◌, ◌⊎◌, ⊎_elim, Bool, true, false, ◌||◌, All, ℕ, ◌<◌, List, [], ◌∷◌, ◌++◌, map, refl, sym, ap, ◌∙◌, subst, append_assoc, arith}
+use Rattle.std.specs.List.{Any, list_any}
 use Rattle.std.proofs.lemmas.List.{get_or-map, get_or_append_left, length-append, length-map}
 use Rattle.std.proofs.lemmas.List.Elements.{All-append}
 use Rattle.std.proofs.lemmas.List.Quantifiers.{Any-push}
@@ -26,3 +26,17 @@ module _ {X : Type 0} (P : X → Type 0) (xs ys : List X) (x : X) (pushed : ys �
 -- what holds of all parts holds of each pass's
 pub each_part : (P : Part → Type 0) (ps : List Pass) → All P (map (λ p. part p) ps) → All (λ p. P (part p)) ps
 each_part P ps all = λ k d low. subst P (get_or-map (λ p. part p) ps k d (part d) low) (all k (part d) (subst (λ (n : ℕ). k < n) (sym (length-map ps (λ p. part p))) low))
+
+-- those that were handed back and those that are left are all, one after the other
+module _ {X : Type 0} (left rest : List X) (x : X) (first : left ≡ x ∷ rest) where
+  pub handed_on : {Y : Type 0} (f : X → Y) (xs ys all : List Y) (y : Y) → ys ≡ xs ++ y ∷ [] → y ≡ f x → xs ++ map f left ≡ all → ys ++ map f rest ≡ all
+  handed_on {Y} f xs ys all y pushed is so =
+      ap (λ (l : List Y). l ++ map f rest) pushed ∙ append_assoc xs (y ∷ []) (map f rest) ∙ ap (λ (z : Y). xs ++ z ∷ map f rest) is ∙ sym (ap (λ (l : List X). xs ++ map f l) first) ∙ so
+
+  either_on : (a b c : Bool) → ((a || b) || c) ≡ (a || (b || c))
+  either_on true b c = refl
+  either_on false b c = refl
+
+  pub found_on : (p : X → Bool) (was found now all : Bool) → now ≡ (was || found) → found ≡ p x → (was || list_any p left) ≡ all → (now || list_any p rest) ≡ all
+  found_on p was found now all either is so =
+      ap (λ (h : Bool). h || list_any p rest) either ∙ either_on was found (list_any p rest) ∙ ap (λ (h : Bool). was || (h || list_any p rest)) is ∙ sym (ap (λ (l : List X). was || list_any p l) first) ∙ so

@@ -1,13 +1,16 @@
 -- The calls and the passes of a loop, joined to its clients, after each step.
-use Rattle.std.proofs.Common.{◌≡◌, ◌≤◌, ◌<◌, ◌+◌, ◌-◌, ◌≢◌, ◌⊎◌, inl, inr, ℕ, zero, suc, All, List, [], ◌∷◌, ◌++◌, Option, Some, None, IfSome, length, eqb, true, false, option_to_list, set, slice_index_or, refl, sym, ap, ◌∙◌, subst, arith, get_or-set_other, length-append, length-set}
+use Rattle.std.proofs.Common.{◌≡◌, ◌≤◌, ◌||◌, Bool, ◌<◌, ◌+◌, ◌-◌, ◌≢◌, ◌⊎◌, inl, inr, ℕ, zero, suc, All, List, [], ◌∷◌, ◌++◌, Option, Some, None, IfSome, length, eqb, true, false, option_to_list, set, slice_index_or, refl, sym, ap, ◌∙◌, subst, arith, get_or-set_other, length-append, length-set}
+use Rattle.std.specs.List.{Any}
 use Rattle.std.proofs.lemmas.Bool.Decides.{eqb_tells}
+use Rattle.std.proofs.lemmas.List.{get_or_default}
 use Rattle.std.proofs.lemmas.List.Elements.{All-cons, All-head, All-nil, All-push, All-set, All-tail, All-weaker}
 use Rattle.lz_list.specs.Traces.{Trace, Begins}
 use Rattle.lz_list.proofs.Traces.WalkEnd.{begins_before}
 use Rattle.lz_board.specs.Seats.{part}
-use Rattle.lz_serve.specs.Askings.{Asked}
+use Rattle.lz_serve.specs.Askings.{AnswersNoOther, Asked}
 use Rattle.lz_serve.specs.Clients.{Asker, Askers, HasSeenIn, HaveSeenIn, IsAwaited, KeepsAwaited}
-use Rattle.lz_serve.specs.Desks.{AreJoined, IsCalled, Knows, count_of}
+use Rattle.lz_serve.specs.Desks.{AnswersOneOf, AreJoined, IsCalled, Knows, count_of}
+use Rattle.lz_serve.specs.Grants.{Posed}
 use Rattle.lz_serve.proofs.Crowds.{from_nothing}
 
 -- what the clients have seen was seen here too
@@ -31,6 +34,20 @@ pub called_same : (a : Askers) (meeting : Option Trace) (old new : Asked) → ne
 called_same a meeting old new question token is =
     record { question = is.question; asks = question ∙ is.asks; awaited = subst (λ (n : ℕ). IsAwaited a n is.question) (sym token) is.awaited; knows = is.knows }
 
+pub either_so : {x : Bool} (y : Bool) → x ≡ true → (x || y) ≡ true
+either_so y is = ap (λ (e : Bool). e || y) is
+
+-- each call answers its own question
+pub each_its_own : (calls : List Asked) → All (AnswersOneOf calls) calls
+each_its_own calls k d low = (k, slice_index_or calls k d, low, get_or_default calls k (slice_index_or calls k d) d low, refl)
+
+-- a call that has begun no line is still for one of those questions
+pub begun_none : {a : Askers} {meeting : Option Trace} (was calls : List Asked) (at : ℕ) (old new : Asked) → at < length calls → old ≡ slice_index_or calls at old → AnswersNoOther old new → IsCalled a meeting new → All (AnswersOneOf was) calls
+    → All (AnswersOneOf was) (set calls at new)
+begun_none was calls at old new within here (inl none) is all = let asks = is.asks in absurd (cc)
+begun_none was calls at old new within here (inr (same, token)) is all =
+    All-set (AnswersOneOf was) calls at new (subst (λ (o : Option Posed). Any (λ (call : Asked). call.question ≡ o) was) (ap (λ (call : Asked). call.question) (sym here) ∙ sym same) (all at old within)) all
+
 pub all_none : {X : Type 0} (P : X → Type 0) (xs : List X) → length xs ≡ 0 → All P xs
 all_none P [] none = All-nil P
 all_none P (x ∷ xs) none = absurd (omega (arith, none))
@@ -40,6 +57,21 @@ all_one P [] at x within one is = All-nil P
 all_one P (y ∷ []) zero x within one is = All-cons P x [] is (All-nil P)
 all_one P (y ∷ []) (suc at) x within one is = absurd (omega (arith, within))
 all_one P (y ∷ z ∷ xs) at x within one is = absurd (omega (arith, one))
+
+-- what is so of each is so of those that are left where one was taken out, and the last one put in its place
+pub all_left : {X : Type 0} (P : X → Type 0) (xs left : List X) (at n : ℕ) (x : X) → n ≡ length xs → length left + 1 ≡ n
+    → ((d : X) → at + 1 < n → slice_index_or left at d ≡ slice_index_or (set xs at x) (n - 1) d) × ((k : ℕ) (d : X) → k ≢ at → k + 1 < n → slice_index_or left k d ≡ slice_index_or (set xs at x) k d) → All P xs → All P left
+all_left {X} P xs left at n x same count stands all k d low = choose (eqb_tells k at)
+  where
+    choose : ((eqb k at ≡ true) × (k ≡ at)) ⊎ ((eqb k at ≡ false) × (k ≢ at)) → P (slice_index_or left k d)
+    choose (inl is) =
+        let at_is = is.1 in
+        let far : n - 1 ≢ at = λ is. omega (arith, is, at_is, low, count) in
+        let e = stands.0 d (omega (arith, at_is, low, count)) ∙ get_or-set_other xs at (n - 1) x d far in
+        subst P (sym (ap (λ (m : ℕ). slice_index_or left m d) at_is ∙ e)) (all (n - 1) d (omega (arith, low, count, same)))
+    choose (inr is) =
+        let e = stands.1 k d is.1 (omega (arith, low, count)) ∙ get_or-set_other xs at k x d is.1 in
+        subst P (sym e) (all k d (omega (arith, low, count, same)))
 
 module _ (a b : Askers) (old new : Option Trace) (keeps : KeepsAwaited a b) (met : IfSome new (HaveSeenIn b)) where
   -- the pass that meets the others has seen what the clients have now, if there is one
@@ -120,22 +152,9 @@ module _ (a b : Askers) (old new : Option Trace) (keeps : KeepsAwaited a b) (met
       unseen = λ no. absurd (some no);
     }
       where
-        there : All (IsCalled b new) calls → (k : ℕ) (d : Asked) → k < length left → IsCalled b new (slice_index_or left k d)
-        there all k d low = choose (eqb_tells k at)
-          where
-            choose : ((eqb k at ≡ true) × (k ≡ at)) ⊎ ((eqb k at ≡ false) × (k ≢ at)) → IsCalled b new (slice_index_or left k d)
-            choose (inl is) =
-                let at_is = is.1 in
-                let far : n - 1 ≢ at = λ is. omega (arith, is, at_is, low, count) in
-                let e = stands.0 d (omega (arith, at_is, low, count)) ∙ get_or-set_other calls at (n - 1) asked d far in
-                subst (λ (x : Asked). IsCalled b new x) (sym (ap (λ (m : ℕ). slice_index_or left m d) at_is ∙ e)) (all (n - 1) d (omega (arith, low, count, same)))
-            choose (inr is) =
-                let e = stands.1 k d is.1 (omega (arith, low, count)) ∙ get_or-set_other calls at k asked d is.1 in
-                subst (λ (x : Asked). IsCalled b new x) (sym e) (all k d (omega (arith, low, count, same)))
-
         by_case : (x : Option Trace) → x ≡ new → All (IsCalled b new) left
         by_case None is = let one = was.alone (none (sym is)) in all_none (IsCalled b new) left (omega (arith, one, count, same))
-        by_case (Some t) is = there (calls_now calls (λ no. absurd (cc)) was.called)
+        by_case (Some t) is = all_left (IsCalled b new) calls left at n asked same count stands (calls_now calls (λ no. absurd (cc)) was.called)
 
 -- the pass that meets the others, or else the last of the free ones, has seen what the clients have
 module _ (a : Askers) (given : ℕ) (old new : Option Trace) (calls : List Asked) (free rest : List Trace) (was : AreJoined a given old calls free) (same : IfSome old (λ met. new ≡ Some met))

@@ -1,6 +1,6 @@
 -- What a pass has seen once it has listed.
-use Rattle.std.proofs.Common.{◌≡◌, ℕ, All, false, Option, Some, None, IfSome, IsSomeAnd, Result, Ok, Err, [], sym, subst}
-use Rattle.lz_list.specs.Traces.{Begins, halt_word}
+use Rattle.std.proofs.Common.{◌≡◌, ℕ, All, false, Result, Ok, Err, [], sym, subst}
+use Rattle.lz_list.specs.Traces.{Begins}
 use Rattle.lz_list.proofs.Traces.Absence.{begins_itself}
 use Rattle.lz_board.specs.declared.answer.GlanceFault.TheVariants.{Halted, Worn, BusyPass}
 use Rattle.lz_board.specs.declared.page.Page.{Page}
@@ -17,8 +17,6 @@ use Rattle.lz_board.proofs.Walk.GlanceAnswer.{halt_since}
 use Rattle.lz_tie.proofs.Calls.PartAfter.{begins_changed}
 use Rattle.lz_tie.specs.OwnCalls.{told}
 use Rattle.lz_serve.specs.Halts.{IsCalm, SawHalt, was_cut}
-use Rattle.lz_resp.specs.declared.scan.Scan.{Scan}
-use Rattle.lz_serve.specs.Listings.{Listing}
 
 -- it has seen all that it had
 pub lists_grow : (slots from most : ℕ) (r : Result Page ListFault) (before after : Part) → Lists slots from most r before after → Begins before.known after.known
@@ -27,11 +25,6 @@ lists_grow slots from most (Err Memory) before after is = subst (λ (p : Part). 
 lists_grow slots from most (Err (Glance Halted)) before after is = begins_changed before.number before.known after.known [] is.1.changes
 lists_grow slots from most (Err (Glance Worn)) before after is = subst (λ (p : Part). Begins before.known p.known) (sym is.1) (begins_itself before.known)
 lists_grow slots from most (Err (Glance BusyPass)) before after is = subst (λ (p : Part). Begins before.known p.known) (sym is.1) (begins_itself before.known)
-
--- it has seen the halt, where it told no page because of that
-pub saw_listed : (o : Option Listing) (scan : Scan) (old new : Pass) → IsSomeAnd o (λ l. halt_word (part l.after).known ≡ 1) → IfSome o (λ l. (l.scan ≡ scan) × (l.before ≡ old) × (l.after ≡ new)) → SawHalt new
-saw_listed None scan old new halted is = absurd halted
-saw_listed (Some l) scan old new halted is = subst SawHalt is.2 halted
 
 -- its calls were cut off or not as before
 pub calm_kept : (old new : Pass) → KeepsCall (part old) (part new) → IsCalm (part old) → IsCalm (part new)

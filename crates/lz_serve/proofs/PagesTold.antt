@@ -74,20 +74,18 @@ module _ {X : Type 0} (f : X → Option Asker) (clients : List (Option Asker)) (
   there : (p : X) → at < length xs → p ≡ get_or xs at p → slice_get clients at ≡ Some (f p)
   there p within here = ap (λ (l : List (Option Asker)). slice_get l at) (sym (ap (λ (l : List X). map f l) same ∙ are)) ∙ client_there f xs at p (slice_get_read xs (length xs) at p refl within here)
 
-  pub awaits_here : (p : X) (r : Option Scan) → at < length xs → p ≡ get_or xs at p → IfSome r (λ scan. IsSomeAnd (f p) (λ a. AwaitsPage a scan)) → IfSome r (λ scan. IsSomeAnd (slice_get clients at) (λ client. IsSomeAnd client (λ a. AwaitsPage a scan)))
-  awaits_here p r within here = subst (λ (o : Option (Option Asker)). IfSome r (λ scan. IsSomeAnd o (λ client. IsSomeAnd client (λ a. AwaitsPage a scan)))) (sym (there p within here))
-
-  pub awaits_none_here : (p : X) → at < length xs → p ≡ get_or xs at p → IfSome (f p) AwaitsNoPage → IfSome (slice_get clients at) (λ client. IfSome client AwaitsNoPage)
-  awaits_none_here p within here = subst (λ (o : Option (Option Asker)). IfSome o (λ client. IfSome client AwaitsNoPage)) (sym (there p within here))
+  -- what is so of the client of the place is so of the one at its token
+  pub here : (P : Option (Option Asker) → Type 0) (p : X) → at < length xs → p ≡ get_or xs at p → P (Some (f p)) → P (slice_get clients at)
+  here P p within is = subst P (sym (there p within is))
 
 nobody_there : {X : Type 0} (f : X → Option Asker) (places : List X) (at : ℕ) → slice_get places at ≡ None → slice_get (map f places) at ≡ None
 nobody_there f [] at is = refl
 nobody_there f (x ∷ places) zero is = absurd (cc)
 nobody_there f (x ∷ places) (suc at) is = nobody_there f places at is
 
-pub nobody_here : {X : Type 0} (f : X → Option Asker) (clients : List (Option Asker)) (places xs : List X) (at : ℕ) → xs ≡ places → map f places ≡ clients → length xs ≤ at → IfSome (slice_get clients at) (λ client. IfSome client AwaitsNoPage)
-nobody_here {X} f clients places xs at same are past =
-    subst (λ (o : Option (Option Asker)). IfSome o (λ client. IfSome client AwaitsNoPage))
+pub nobody_here : {X : Type 0} (P : Asker → Type 0) (f : X → Option Asker) (clients : List (Option Asker)) (places xs : List X) (at : ℕ) → xs ≡ places → map f places ≡ clients → length xs ≤ at → IfSome (slice_get clients at) (λ client. IfSome client P)
+nobody_here {X} P f clients places xs at same are past =
+    subst (λ (o : Option (Option Asker)). IfSome o (λ client. IfSome client P))
     (sym (ap (λ (l : List (Option Asker)). slice_get l at) (sym (ap (λ (l : List X). map f l) same ∙ are)) ∙ nobody_there f xs at (slice_get_past xs at past))) tt
 
 -- who awaits what is the same where the clients are

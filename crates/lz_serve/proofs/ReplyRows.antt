@@ -1,5 +1,5 @@
 -- Worked rows of what the reply of a seat means, most of which must not hold.
-use Rattle.std.proofs.Common.{◌≡◌, ◌==◌, ℕ, Bool, true, false, not, Result, Ok, Err, refl, sym, ap, ◌∙◌, subst}
+use Rattle.std.proofs.Common.{◌≡◌, ◌==◌, ℕ, Bool, true, false, not, if◌then◌else◌, None, Some, Result, Ok, Err, refl, sym, ap, ◌∙◌, subst}
 use mathlib.Core.Bool.{true≢false}
 use Rattle.lz_slot.specs.declared.command.Command.{Command}
 use Rattle.lz_slot.specs.declared.command.Command.TheVariants as command
@@ -8,7 +8,7 @@ use Rattle.lz_machine.specs.declared.event.Reply.{Reply as Given}
 use Rattle.lz_machine.specs.declared.event.Reply.TheVariants as given
 use Rattle.lz_proto.specs.declared.request.Request.TheVariants.{Add, Has}
 use Rattle.lz_proto.specs.declared.reply.Reply.{Reply}
-use Rattle.lz_proto.specs.declared.reply.Reply.TheVariants.{Yes, Full}
+use Rattle.lz_proto.specs.declared.reply.Reply.TheVariants.{Yes, Full, Halted}
 use Rattle.lz_board.specs.declared.pass.Pass.{Pass}
 use Rattle.lz_board.specs.declared.view.Part.{Part}
 use Rattle.lz_board.specs.Seats.{BoardId, part}
@@ -17,7 +17,7 @@ use Rattle.lz_set.specs.declared.fault.Fault.TheVariants as fault
 use Rattle.lz_set.specs.Answers.{reply_of}
 use Rattle.lz_tie.specs.Answers.{Answers}
 use Rattle.lz_tie.specs.OneCaller.{IsPlainAnswer, keys_in}
-use Rattle.lz_serve.specs.Replies.{AreAskedAgain, IsAskedAgain, SeatAnswers, asks_again, client_reply}
+use Rattle.lz_serve.specs.Replies.{AreAskedAgain, IsAskedAgain, SeatAnswers, asks_again, client_reply, told_of}
 use Rattle.lz_serve.proofs.Seats.{alone_once, only_call, told_at_last, told_full}
 
 yes_given : (answer : Result Bool Fault) → Yes ≡ client_reply answer → reply_of answer ≡ given.Yes
@@ -30,7 +30,7 @@ yes_given (Err fault.Halted) told = absurd (cc)
 yes_given (Err fault.Device) told = absurd (cc)
 
 -- a lookup is never told as full
-never_full : (F : Format) (before after : Part) (answer : Result Bool Fault) → client_reply answer ≡ Full → Answers F (command.Has 7) (reply_of answer) before after → ⊥
+pub never_full : (F : Format) (before after : Part) (answer : Result Bool Fault) → client_reply answer ≡ Full → Answers F (command.Has 7) (reply_of answer) before after → ⊥
 never_full F before after (Ok true) full answers = absurd (cc)
 never_full F before after (Ok false) full answers = absurd (cc)
 never_full F before after (Err (fault.Full counts)) full answers = answers.promises
@@ -92,3 +92,42 @@ module _ (b : BoardId) (three : b.sizes.passes ≡ 3) where
 
   asked_beside_a_removal : asks_again b 0 true (Err (fault.Full (record { free = 0; taken = 8; limbo = 0 }))) ≡ true
   asked_beside_a_removal = ap (λ (n : ℕ). not (n == 1)) three
+
+-- where nothing is told one more call is made
+pub silent_again : (again : Bool) (reply : Reply) → None ≡ (if again then None else Some reply) → again ≡ true
+silent_again true reply silent = refl
+silent_again false reply silent = absurd (cc)
+
+-- an answer is told as its reply, the device's failure as the halt, and the last `full` while a slot waits
+module _ (b : BoardId) where
+  yes_is_told : told_of b 0 true (Ok true) ≡ Some Yes
+  yes_is_told = refl
+
+  device_is_told : told_of b 0 true (Err fault.Device) ≡ Some Halted
+  device_is_told = refl
+
+  last_is_told : told_of b 1_000 true (Err (fault.Full (record { free = 0; taken = 7; limbo = 1 }))) ≡ Some Full
+  last_is_told = refl
+
+  -- in a set of one pass nothing is kept back
+  pub silent_alone : (tries : ℕ) (earlier : Bool) (answer : Result Bool Fault) → b.sizes.passes ≡ 1 → None ≡ told_of b tries earlier answer → ⊥
+  silent_alone tries earlier answer one silent = alone_once b tries earlier answer one (silent_again (asks_again b tries earlier answer) (client_reply answer) silent)
+
+  -- nor after a thousand calls
+  pub silent_at_last : (earlier : Bool) (answer : Result Bool Fault) → None ≡ told_of b 1_000 earlier answer → ⊥
+  silent_at_last earlier answer silent = true≢false (sym (silent_again (asks_again b 1_000 earlier answer) (client_reply answer) silent) ∙ told_at_last b earlier answer)
+
+  module _ (three : b.sizes.passes ≡ 3) where
+    -- nothing is told of three passes' `full` while a slot waits, or beside an earlier line, and else it is
+    pub silent_while_one_waits : told_of b 0 false (Err (fault.Full (record { free = 0; taken = 7; limbo = 1 }))) ≡ None
+    silent_while_one_waits = ap (λ (n : ℕ). if not (n == 1) then None else Some Full) three
+
+    pub silent_beside_a_removal : told_of b 0 true (Err (fault.Full (record { free = 0; taken = 8; limbo = 0 }))) ≡ None
+    silent_beside_a_removal = ap (λ (n : ℕ). if not (n == 1) then None else Some Full) three
+
+    members_are_told : told_of b 0 false (Err (fault.Full (record { free = 0; taken = 8; limbo = 0 }))) ≡ Some Full
+    members_are_told = refl
+
+    -- so it isn't told at once
+    full_at_once : told_of b 0 false (Err (fault.Full (record { free = 0; taken = 7; limbo = 1 }))) ≡ Some Full → ⊥
+    full_at_once told = let silent = silent_while_one_waits in absurd (cc)

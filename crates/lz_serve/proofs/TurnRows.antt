@@ -4,7 +4,9 @@ use Rattle.lz_proto.specs.declared.request.Request.TheVariants.{Add, Has}
 use Rattle.lz_proto.specs.declared.reply.Reply.TheVariants.{Yes}
 use Rattle.lz_resp.specs.declared.query.Query.{Query}
 use Rattle.lz_resp.specs.declared.scan.Scan.{Scan}
+use Rattle.lz_slot.specs.declared.format.Format.{Format}
 use Rattle.lz_board.specs.declared.pass.Pass.{Pass}
+use Rattle.lz_board.specs.Seats.{BoardId}
 use Rattle.lz_serve.specs.Askings.{Asked}
 use Rattle.lz_serve.specs.Clients.{Asker, Askers, ComesAfter, HasNoneAt, HasTold, HasToldTexts, IsInTurn, KeepsLinesOf, Remains, Turned}
 use Rattle.lz_serve.specs.Desks.{GoesAnew}
@@ -165,10 +167,10 @@ one_more : (p : Pass) → KeepsLinesOf (Some (asks p [])) (Some (record (asks p 
 one_more p keeps = let is : ◌≡◌ {A = ℕ} 2 1 = cc in absurd (omega (arith, is))
 
 -- a call goes on that stands where it stood
-stands_still : (clients : Askers) (a : Asked) (q : Posed) → a.question ≡ Some q → GoesAnew clients a a → ⊥
-stands_still clients a q is (inl more) = absurd (omega (arith, more))
-stands_still clients a q is (inr both) =
-    let (question, next, later) = both.1 in
+stands_still : (b : BoardId) (F : Format) (was now : Askers) (a : Asked) (q : Posed) → a.question ≡ Some q → GoesAnew b F was now a a → ⊥
+stands_still b F was now a q is (inl again) = let more = again.0 in absurd (omega (arith, more))
+stands_still b F was now a q is (inr both) =
+    let (question, next, later) = both.2 in
     let same : q ≡ question = cc in
     let low = later q is refl (ap (λ (x : Posed). x.connection) same) in
     let line = ap (λ (x : Posed). x.line) same in

@@ -1,19 +1,22 @@
 -- A pass of a loop, and the request that it answers, if it answers one.
-use Rattle.std.specs.Prelude.{◌≡◌, ◌⊎◌, ◌+◌, ◌<◌, ◌&&◌, ℕ, Bool, true, false, List, Option, Some, None, IfSome, IsSomeAnd, is_none, nat_lt}
+use Rattle.std.specs.Prelude.{◌≡◌, ◌⊎◌, ◌↔◌, ◌+◌, ◌<◌, ◌&&◌, ℕ, Bool, true, false, List, Option, Some, None, Result, IfSome, IsSomeAnd, IsTrue, is_none, nat_lt}
 use Rattle.lz_slot.specs.declared.command.Command.{Command}
 use Rattle.lz_slot.specs.declared.format.Format.{Format}
 use Rattle.lz_machine.specs.Orders.{Calling}
 use Rattle.lz_machine.specs.Yards.{Yard}
+use Rattle.lz_proto.specs.declared.reply.Reply.{Reply}
 use Rattle.lz_board.specs.declared.pass.Pass.{Pass}
 use Rattle.lz_board.specs.declared.view.Part.{Part}
 use Rattle.lz_board.specs.Seats.{BoardId, IsOf, part}
 use Rattle.lz_tie.specs.Counting.{Counts}
+use Rattle.lz_set.specs.declared.fault.Fault.{Fault}
 use Rattle.lz_set.specs.declared.underway.Stage.{Stage}
 use Rattle.lz_set.specs.Names.{MayCall}
 use Rattle.lz_set.specs.Stages.{StandsAt, StandsBefore}
+use Rattle.lz_serve.specs.Clients.{Askers, AwaitsBeforeAt}
 use Rattle.lz_serve.specs.Grants.{Posed}
 use Rattle.lz_serve.specs.Halts.{IsCalmAfter, SawHalt}
-use Rattle.lz_serve.specs.Replies.{AreAskedAgain, command_of}
+use Rattle.lz_serve.specs.Replies.{AreAskedAgain, IsCallAnswered, command_of, told_of}
 
 -- The question that it answers, if it answers one, and the token of its client; the pass as it is now, and whether its last reply told that the service halted; the call
 -- under way, if it has begun, how many were made before it, and where it stands, if it was played on.
@@ -80,6 +83,39 @@ abbrev pub IsAnother : Asked → Asked → Type 0
 IsAnother old new =
     (question : Posed) × (new.question ≡ Some question) × ((before : Posed) → old.question ≡ Some before → new.token ≡ old.token → before.connection ≡ question.connection → before.line < question.line)
 
+-- it has begun no line: it answers the same question still, or none
+abbrev pub AnswersNoOther : Asked → Asked → Type 0
+AnswersNoOther old new = (new.question ≡ None) ⊎ ((new.question ≡ old.question) × (new.token ≡ old.token))
+
+-- The call for its question, after as many that were made again, was answered, and the pass is so after it. So much is told of the answer, if
+-- it is so (`earlier`) that an earlier line of its connection isn't answered yet, as one wasn't when the question was put.
+pub record IsAnsweredWith (b : BoardId) (F : Format) (earlier : Bool) (asked : Asked) (reply : Option Reply) (after : Pass) : Type 0 where
+  pub question : Posed
+  pub asks : asked.question ≡ Some question
+  pub c : Command
+  pub asks_for : command_of question.request ≡ Some c
+  pub middle : Pass
+  pub before : AreAskedAgain b F question.earlier c asked.tries question.before middle
+  pub answer : Result Bool Fault
+  pub last : IsCallAnswered b F c answer middle after
+  pub told : reply ≡ told_of b asked.tries (earlier && question.earlier) answer
+
+-- a line of its client before that of its question awaits its reply, as one did when the question was put
+abbrev pub StillAwaits : Askers → Asked → Type 0
+StillAwaits a asked = IsSomeAnd asked.question (λ q. (q.earlier ≡ true) × AwaitsBeforeAt a asked.token q.line)
+
+-- its call was answered, and so much is told of the answer, by whether such a line does
+abbrev pub IsAnsweredAt : BoardId → Format → Askers → Asked → Option Reply → Pass → Type 0
+IsAnsweredAt b F a asked reply after = (earlier : Bool) × (IsTrue earlier ↔ StillAwaits a asked) × IsAnsweredWith b F earlier asked reply after
+
+-- nothing is told of it: one more call is to be made
+abbrev pub IsMadeAgain : BoardId → Format → Askers → Asked → Asked → Type 0
+IsMadeAgain b F a old new = (new.tries ≡ old.tries + 1) × IsAnsweredAt b F a old None new.pass
+
+-- its reply is told, and no more call is to be made
+abbrev pub HasAnswered : BoardId → Format → Askers → Asked → Type 0
+HasAnswered b F a asked = (reply : Reply) × (after : Pass) × IsAnsweredAt b F a asked (Some reply) after
+
 -- Why a call isn't played on now; none of it asks whose call it is, or whether its client is still there.
 
 -- it stands before a Sync that would call the device, or before the Claim of a node that another call holds
@@ -87,5 +123,5 @@ abbrev pub IsStopped : Yard → Asked → Type 0
 IsStopped yard a = IsSomeAnd a.stage (λ stage. IsSomeAnd a.call (λ k. StandsBefore yard stage k))
 
 -- it waits for slots: it was answered since, or none may be made again (`tries`)
-abbrev pub WaitsForSlots : Bool → Asked → Asked → Type 0
-WaitsForSlots tries old new = (waits_for_slots new ≡ true) × ((tries ≡ false) ⊎ (new.tries ≡ old.tries + 1))
+abbrev pub WaitsForSlots : BoardId → Format → Askers → Bool → Asked → Asked → Type 0
+WaitsForSlots b F a tries old new = (waits_for_slots new ≡ true) × ((tries ≡ false) ⊎ IsMadeAgain b F a old new)

@@ -1,5 +1,5 @@
 -- Clients as their owner sees them, and which questions are those of their lines.
-use Rattle.std.specs.Prelude.{◌≡◌, ◌≢◌, ◌⊎◌, ⊤, ◌-◌, ◌<◌, ◌≤◌, ◌++◌, ℕ, suc, All, Bool, true, false, List, [], ◌∷◌, drop, length, map, Option, Some, None, IfSome, IsSomeAnd, slice_get}
+use Rattle.std.specs.Prelude.{◌≡◌, ◌≢◌, ◌⊎◌, ⊤, ◌-◌, ◌<◌, ◌≤◌, ◌++◌, ℕ, suc, All, Bool, true, false, List, [], ◌∷◌, drop, length, map, Option, Some, None, IfSome, IsSomeAnd, slice_get, take}
 use Rattle.std.specs.declared.snapshot.Snapshot.{Snapshot}
 use Rattle.lz_list.specs.Traces.{Trace, Begins}
 use Rattle.lz_board.specs.declared.pass.Pass.{Pass}
@@ -14,7 +14,7 @@ use Rattle.lz_proto.specs.declared.end.End.{End}
 use Rattle.lz_proto.specs.declared.end.End.TheVariants.{Done}
 use Rattle.lz_serve.specs.Conversations.{IsReady, IsText}
 use Rattle.lz_serve.specs.Grants.{Posed, key_asked}
-use Rattle.lz_serve.specs.Lines.{IsFree, StandsAt}
+use Rattle.lz_serve.specs.Lines.{AreReplied, IsFree, StandsAt}
 use Rattle.lz_serve.specs.Queues.{is_in}
 
 -- The number of its connection; how many lines were handed out, and how many of them were told their replies; the others; the pass to which
@@ -142,6 +142,14 @@ HasSeenIn admitted known client = IfSome client (λ a. (a.connection ≤ admitte
 abbrev pub KeepsSeen : Option Asker → Option Asker → Type 0
 KeepsSeen old new = (admitted : ℕ) (known : Trace) → HasSeenIn admitted known old → HasSeenIn admitted known new
 
+-- no line of it before the one of this number awaits its reply
+abbrev pub HasRepliedBefore : ℕ → Asker → Type 0
+HasRepliedBefore line a = AreReplied (take (line - suc a.told) a.under)
+
+-- a client is there, and one of them does
+abbrev pub AwaitsBefore : ℕ → Option Asker → Type 0
+AwaitsBefore line client = IsSomeAnd client (λ a. HasRepliedBefore line a → ⊥)
+
 -- the question is one of the client that is there
 abbrev pub IsAskedBy : Option Asker → Posed → Type 0
 IsAskedBy client q = IsSomeAnd client (λ a. (q.connection ≡ a.connection) × IsOwn a q)
@@ -174,6 +182,14 @@ IsNext a token question = (q : Posed) → IsAwaited a token q → q.connection �
 -- no line of the client at this place, if there is one, awaits the question's reply
 abbrev pub IsHeardAt : Askers → ℕ → Posed → Type 0
 IsHeardAt a token q = IfSome (slice_get a.clients token) (λ client. IsHeardOf client q)
+
+-- no line before the one of this number, of the client at this place, if there is one, awaits its reply
+abbrev pub HasRepliedBeforeAt : Askers → ℕ → ℕ → Type 0
+HasRepliedBeforeAt a token line = IfSome (slice_get a.clients token) (λ client. IfSome client (HasRepliedBefore line))
+
+-- a client is at this place, and one of them does
+abbrev pub AwaitsBeforeAt : Askers → ℕ → ℕ → Type 0
+AwaitsBeforeAt a token line = IsSomeAnd (slice_get a.clients token) (AwaitsBefore line)
 
 -- where a line of the client at this place awaited the reply before, that has told what it may, if it is still there
 abbrev pub TellsAt : Askers → ℕ → Posed → Askers → Type 0

@@ -1,18 +1,25 @@
 -- What a loop works at: its clients, its passes, and the calls under way. One of several passes makes no call, and meets the others.
-use Rattle.std.specs.Prelude.{◌≡◌, ◌⊎◌, ◌+◌, ◌≤◌, ℕ, All, List, [], Option, Some, None, IfSome, length}
+use Rattle.std.specs.Prelude.{◌≡◌, ◌⊎◌, ◌+◌, ◌≤◌, ℕ, All, Bool, List, [], Option, Some, None, IfSome, length}
+use Rattle.std.specs.List.{Any}
+use Rattle.lz_slot.specs.declared.format.Format.{Format}
 use Rattle.lz_list.specs.Traces.{Trace}
-use Rattle.lz_board.specs.Seats.{part}
-use Rattle.lz_set.specs.declared.underway.Stage.{Stage}
-use Rattle.lz_serve.specs.Askings.{Asked, IsAnother}
+use Rattle.lz_board.specs.Seats.{BoardId, part}
+use Rattle.lz_serve.specs.Askings.{Asked, HasAnswered, IsAnother, IsMadeAgain}
 use Rattle.lz_serve.specs.Clients.{Askers, HaveSeenIn, IsAwaited, IsHeardAt}
 use Rattle.lz_serve.specs.Grants.{Posed}
 
--- How many passes were taken in, for how many there is room, and how many answer nothing; and where each call under way stands.
+-- How many passes were taken in, for how many there is room, and how many answer nothing; the calls under way; and whether no further line
+-- is to be begun.
 pub record Passes : Type 0 where
   pub given : ℕ
   pub most : ℕ
   pub free : ℕ
-  pub stages : List (Option Stage)
+  pub calls : List Asked
+  pub ends : Bool
+
+-- it answers the question of one of these calls
+abbrev pub AnswersOneOf : List Asked → Asked → Type 0
+AnswersOneOf calls asked = Any (λ a. a.question ≡ asked.question) calls
 
 -- what any client has seen the pass has that meets the others, or where there is none, was seen here
 abbrev pub Knows : Askers → Option Trace → Trace → Type 0
@@ -30,9 +37,10 @@ pub record IsCalled (a : Askers) (meeting : Option Trace) (asked : Asked) : Type
 abbrev pub IsReplied : Askers → Asked → Type 0
 IsReplied a asked = IfSome asked.question (IsHeardAt a asked.token)
 
--- one more call is to be made for its question, or that has its reply and it answers another
-abbrev pub GoesAnew : Askers → Asked → Asked → Type 0
-GoesAnew a old new = (new.tries ≡ old.tries + 1) ⊎ (IsReplied a old × IsAnother old new)
+-- One more call is to be made for its question, or that has its reply and it answers another. The clients were so when its call was
+-- answered, and are so now.
+abbrev pub GoesAnew : BoardId → Format → Askers → Askers → Asked → Asked → Type 0
+GoesAnew b F was now old new = IsMadeAgain b F was old new ⊎ (HasAnswered b F was old × IsReplied now old × IsAnother old new)
 
 -- how many these are
 abbrev pub count_of : {X : Type 0} → Option X → ℕ

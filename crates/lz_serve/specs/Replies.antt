@@ -1,5 +1,5 @@
 -- What the service of one pass replies.
-use Rattle.std.specs.Prelude.{◌≡◌, ◌==◌, ℕ, zero, suc, nat_lt, Bool, true, false, not, ◌&&◌, ◌||◌, Result, Ok, Err, Option, Some, None}
+use Rattle.std.specs.Prelude.{◌≡◌, ◌==◌, ℕ, zero, suc, nat_lt, Bool, true, false, not, ◌&&◌, ◌||◌, if◌then◌else◌, Result, Ok, Err, Option, Some, None}
 use Rattle.lz_slot.specs.declared.command.Command.{Command}
 use Rattle.lz_slot.specs.declared.format.Format.{Format}
 use Rattle.lz_slot.specs.declared.command.Command.TheVariants as command
@@ -53,6 +53,10 @@ most_tries = 1_000
 abbrev pub asks_again : BoardId → ℕ → Bool → Result Bool Fault → Bool
 asks_again b tries earlier (Err (Full counts)) = nat_lt tries most_tries && (not (counts.limbo == 0) || earlier) && not (b.sizes.passes == 1)
 asks_again b tries earlier answer = false
+
+-- what its client is told of that answer: nothing where one more call is made, and else its reply
+abbrev pub told_of : BoardId → ℕ → Bool → Result Bool Fault → Option Reply
+told_of b tries earlier answer = if asks_again b tries earlier answer then None else Some (client_reply answer)
 
 -- A call of the pass for this command, after so many, was answered so that one more is made: where no slot waits, only if an earlier line
 -- of its connection wasn't answered when the question was put.

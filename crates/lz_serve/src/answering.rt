@@ -1,9 +1,9 @@
 //! What a pass of a loop answers next, and how its reply is told.
-ghost use Rattle.std.specs.Prelude.{◌≡◌, ◌≢◌, ◌⊎◌, ◌↔◌, ◌+◌, IfSome, IsSomeAnd, None, Some, false, option_map, true};
+ghost use Rattle.std.specs.Prelude.{◌≡◌, ◌≢◌, ◌⊎◌, ◌↔◌, ◌+◌, IfSome, IsSomeAnd, IsTrue, None, Some, false, option_map, true};
 ghost use Rattle.lz_list.specs.Traces.{Begins};
 ghost use Rattle.lz_board.specs.Seats.{part};
 ghost use Rattle.lz_set.specs.declared.underway.Stage.TheVariants as stage;
-ghost use Rattle.lz_serve.specs.Askings.{IsStopped, WaitsForSlots, waits_for_slots};
+ghost use Rattle.lz_serve.specs.Askings.{AnswersNoOther, HasAnswered, IsMadeAgain, IsStopped, StillAwaits, WaitsForSlots, waits_for_slots};
 ghost use Rattle.lz_serve.specs.Clients.{HaveSeenIn, IsAwaited, IsNext, Keeps, KeepsAwaited};
 ghost use Rattle.lz_serve.specs.Desks.{GoesAnew, IsCalled, IsReplied, Knows};
 ghost use Rattle.lz_serve.specs.Grants.{Posed, Promises};
@@ -57,11 +57,12 @@ where
     ensures kept { KeepsAwaited crowd.old crowd.new }
     ensures met { IfSome meeting.new (λ free. HaveSeenIn crowd.new (part free.pass).known) }
     ensures none { (meeting.new ≡ None) ↔ (meeting.old ≡ None) }
-    ensures waits { result ≡ Next.Waits → WaitsForSlots tries asking.old asking.new ⊎ IsSomeAnd kept.new (λ l. IsStopped l.yard asking.new) }
-    ensures anew { result ≡ Next.GoesOn → GoesAnew crowd.new asking.old asking.new }
+    ensures waits { result ≡ Next.Waits → WaitsForSlots N.board N.format crowd.old tries asking.old asking.new ⊎ IsSomeAnd kept.new (λ l. IsStopped l.yard asking.new) }
+    ensures anew { result ≡ Next.GoesOn → GoesAnew N.board N.format crowd.old crowd.new asking.old asking.new }
     ensures goes { result ≢ Next.Rests → IsCalled crowd.new (option_map (λ free. (part free.pass).known) meeting.new) asking.new }
-    ensures replied { result ≡ Next.Rests → IsReplied crowd.new asking.old }
+    ensures replied { result ≡ Next.Rests → HasAnswered N.board N.format crowd.old asking.old × IsReplied crowd.new asking.old }
     ensures rests { result ≡ Next.Rests → (asking.new.question ≡ None) × HaveSeenIn crowd.new (part asking.new.pass).known }
+    ensures ends { ends ≡ true → AnswersNoOther asking.old asking.new }
 {
     if asking.waits() && !tries {
         return Next::Waits;
@@ -101,17 +102,15 @@ where
     ensures kept { KeepsAwaited crowd.old crowd.new }
     ensures met { IfSome meeting.new (λ free. HaveSeenIn crowd.new (part free.pass).known) }
     ensures none { (meeting.new ≡ None) ↔ (meeting.old ≡ None) }
-    ensures waits { result ≡ Next.Waits → (waits_for_slots asking.new ≡ true) × (asking.new.tries ≡ asking.old.tries + 1) }
-    ensures anew { result ≡ Next.GoesOn → GoesAnew crowd.new asking.old asking.new }
+    ensures waits { result ≡ Next.Waits → (waits_for_slots asking.new ≡ true) × IsMadeAgain N.board N.format crowd.old asking.old asking.new }
+    ensures anew { result ≡ Next.GoesOn → GoesAnew N.board N.format crowd.old crowd.new asking.old asking.new }
     ensures goes { result ≢ Next.Rests → IsCalled crowd.new (option_map (λ free. (part free.pass).known) meeting.new) asking.new }
-    ensures replied { result ≡ Next.Rests → IsReplied crowd.new asking.old }
+    ensures replied { result ≡ Next.Rests → HasAnswered N.board N.format crowd.old asking.old × IsReplied crowd.new asking.old }
     ensures rests { result ≡ Next.Rests → (asking.new.question ≡ None) × HaveSeenIn crowd.new (part asking.new.pass).known }
+    ensures ends { ends ≡ true → AnswersNoOther asking.old asking.new }
 {
     let token = asking.token();
-    let earlier = match asking.question() {
-        Some(question) => question.earlier() && crowd.has_earlier(token, question.line()),
-        None => false,
-    };
+    let earlier = still_awaits(crowd, asking);
     let Some(granted) = asking.answer(rt, set, kept, earlier) else {
         return if asking.waits() {
             Next::Waits
@@ -127,6 +126,17 @@ where
         Next::GoesOn
     } else {
         Next::Rests
+    }
+}
+
+// Whether a line of its client before that of its question still awaits its reply, as one did when the question was put.
+fn still_awaits<S: Stream, N: Named, B: Given>(crowd: &Crowd<S>, asking: &Asking<N, B>) -> bool
+    ensures { IsTrue result ↔ StillAwaits crowd.now asking.now }
+{
+    let token = asking.token();
+    match asking.question() {
+        Some(question) => question.earlier() && crowd.has_earlier(token, question.line()),
+        None => false,
     }
 }
 
@@ -148,8 +158,8 @@ pub(crate) fn meet<D: Disk, G: StepGate, N: Named, B: Given>(
     }
 }
 
-/// Begins to answer the line whose turn it is by this pass, if there is one and the service goes on, and says whether it did. The pass has
-/// seen what those had that answered any of the clients.
+/// Begins to answer the line whose turn it is by this pass, if there is one and the service goes on, and says whether it did. Where it ends no
+/// client has its turn. The pass has seen what those had that answered any of the clients.
 pub(crate) fn begin_next<'a, S, D, G, N, B, R>(
     rt: &R,
     set: &'a Set<D, G, N>,
@@ -171,6 +181,7 @@ where
     ensures later { result ≡ true → IfSome asking.new.question (IsNext crowd.old asking.new.token) }
     ensures begun { result ≡ true → (question : Posed) × (asking.new.question ≡ Some question) × (question.before ≡ asking.old.pass) × IsAwaited crowd.new asking.new.token question }
     ensures rests { result ≡ false → asking.new ≡ asking.old }
+    ensures ends { ends ≡ true → (result ≡ false) × (crowd.new ≡ crowd.old) × (kept.new ≡ kept.old) }
 {
     if ends || asking.halted() {
         return false;

@@ -1,5 +1,5 @@
 //! A pass of a loop at its place, and the request that it answers.
-ghost use Rattle.std.specs.Prelude.{◌≡◌, ◌≢◌, ◌+◌, ◌<◌, IfSome, IsSomeAnd, None, Some, false, true, ◌↔◌, IsTrue};
+ghost use Rattle.std.specs.Prelude.{◌≡◌, ◌≢◌, ◌+◌, IfSome, IsSomeAnd, None, Some, false, option_map, true, ◌↔◌, IsTrue};
 ghost use Rattle.lz_slot.specs.declared.command.Command.{Command as Asks};
 ghost use Rattle.lz_list.specs.Traces.{Begins};
 ghost use Rattle.lz_board.specs.declared.pass.Pass.{Pass as Seen};
@@ -8,26 +8,24 @@ ghost use Rattle.lz_tie.specs.Counting.{Counts};
 ghost use Rattle.lz_set.specs.Names.{MayCall};
 ghost use Rattle.lz_set.specs.Stages.{HasPlayed, StandsAt, StepsUnfailed, StepsWithout};
 ghost use Rattle.lz_machine.specs.declared.kind.Kind.TheVariants as kind;
-ghost use Rattle.lz_serve.specs.Askings.{IsCounting, IsSameQuestion, IsStopped, waits_for_slots};
+ghost use Rattle.lz_serve.specs.Askings.{IsAnsweredWith, IsCounting, IsSameQuestion, IsStopped, waits_for_slots};
 ghost use Rattle.lz_serve.specs.Grants.{IsGrant};
-ghost use Rattle.lz_serve.specs.Replies.{asks_again, client_reply, command_of, most_tries, says_halted};
+ghost use Rattle.lz_serve.specs.Replies.{command_of, says_halted};
 
 use crate::client::Question;
 use crate::free_pass::FreePass;
 use crate::given::Given;
+use crate::replies::{asks_again, client_reply, says_halted};
 use lz_disk::Disk;
 use lz_proto::Reply;
-use lz_set::{Fault, Kept, Named, Pass, Set, Stage, StepGate, Underway};
+use lz_set::{Kept, Named, Pass, Set, Stage, StepGate, Underway};
 use std::marker::{Model, PhantomData};
 use std::snapshot::Snapshot;
 use std::sync::Wait;
 use std::thread;
 use std::time::{Clock, Duration};
 
-/// How many calls a request has at most after its first one, while slots wait for calls that end. A pass that waits makes the first of them
-/// at once, and waits for a millisecond before each further one: for a second in all, beside what the calls take.
-const MOST_TRIES: usize = 1_000;
-
+/// For how many milliseconds a pass waits before a call that is made again, but for the first of them.
 const PAUSE: u64 = 1;
 
 /// A pass of a loop at its place: it rests, or answers a request for the client of a token. Then its owner is to play it on until it is
@@ -158,7 +156,10 @@ impl<N: Named, B: Given> Asking<N, B> {
     }
 
     /// The question that it answers.
-    pub(crate) fn question(&self) -> Option<&Question> {
+    pub(crate) fn question(&self) -> Option<&Question>
+        ensures some { IfSome result (λ question. self.now.question ≡ Some question.now) }
+        ensures none { result ≡ None → self.now.question ≡ None }
+    {
         self.question.as_ref()
     }
 
@@ -279,6 +280,7 @@ impl<N: Named, B: Given> Asking<N, B> {
         ensures token { self.new.token ≡ self.old.token }
         ensures rests { IfSome result (λ granted. self.new.question ≡ None) }
         ensures halted { IfSome result (λ granted. self.new.halted ≡ says_halted granted.reply) }
+        ensures told { IsAnsweredWith N.board N.format earlier self.old (option_map (λ granted. granted.reply) result) self.new.pass }
         ensures again { result ≡ None → (self.new.question ≡ self.old.question) × (self.new.call ≡ None) × (self.new.tries ≡ self.old.tries + 1) × (self.new.halted ≡ self.old.halted) }
     {
         let Some(question) = self.question.take() else {
@@ -336,46 +338,6 @@ pub(crate) fn grant<D: Disk, G: StepGate, N: Named, R: Wait + Clock>(
         after,
         of: PhantomData,
     }
-}
-
-/// Whether one more call is made for a request, after one that was answered so, and so many more before it: no slot was free, and
-/// slots wait for calls that end, or an earlier line of its connection isn't answered, which may free one. One pass alone has no others' calls to wait for.
-fn asks_again<D: Disk, G: StepGate, N: Named>(
-    set: &Set<D, G, N>,
-    tries: usize,
-    earlier: bool,
-    answer: Result<bool, Fault>,
-) -> bool
-    ensures again { result ≡ asks_again N.board tries earlier answer }
-    ensures few { result ≡ true → tries < most_tries }
-{
-    match answer {
-        Err(Fault::Full(counts)) => {
-            tries < MOST_TRIES && (counts.limbo != 0 || earlier) && set.passes() != 1
-        }
-        _ => false,
-    }
-}
-
-// The reply that tells what a call answered.
-fn client_reply(answer: Result<bool, Fault>) -> Reply
-    ensures { result ≡ client_reply answer }
-{
-    match answer {
-        Ok(true) => Reply::Yes,
-        Ok(false) => Reply::No,
-        Err(Fault::Full(_)) => Reply::Full,
-        Err(Fault::Worn) => Reply::Worn,
-        Err(Fault::OldFile) => Reply::OldFile,
-        Err(Fault::Halted | Fault::Device) => Reply::Halted,
-    }
-}
-
-/// Whether the reply tells a client that the service halted.
-pub(crate) fn says_halted(reply: Reply) -> bool
-    ensures { result ≡ says_halted reply }
-{
-    matches!(reply, Reply::Halted)
 }
 
 // The call for what the question asks begins, where it hasn't yet.

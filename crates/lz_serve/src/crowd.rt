@@ -2,7 +2,7 @@
 ghost use Rattle.std.specs.Prelude.{◌≡◌, ◌≤◌, ◌↔◌, ◌⊎◌, [], All, IfOk, IfSome, IsTrue, None, false, length, slice_get, true};
 ghost use Rattle.lz_list.specs.Traces.{Begins};
 ghost use Rattle.lz_board.specs.Seats.{part};
-ghost use Rattle.lz_serve.specs.Clients.{ChangesAt, HasNoneAt, HaveSeenIn, IsAwaited, IsHeardAt, IsInTurn, IsNext, Keeps, KeepsAwaited, OnlyLeave, TakesTurn, TellsAt, Turned};
+ghost use Rattle.lz_serve.specs.Clients.{AwaitsBeforeAt, ChangesAt, HasNoneAt, HasRepliedBeforeAt, HaveSeenIn, IsAwaited, IsHeardAt, IsInTurn, IsNext, Keeps, KeepsAwaited, OnlyLeave, TakesTurn, TellsAt, Turned};
 ghost use Rattle.lz_serve.specs.Grants.{Promises};
 ghost use Rattle.lz_serve.specs.Queues.{queued};
 ghost use Rattle.lz_serve.specs.Streams.{IsFresh};
@@ -202,10 +202,14 @@ impl<S: Stream> Crowd<S> {
     }
 
     /// Whether an earlier line of the client of this token isn't answered.
-    pub fn has_earlier(&self, token: usize, line: u64) -> bool {
-        self.places
-            .get(token)
-            .is_some_and(|place| place.has_earlier(line))
+    pub fn has_earlier(&self, token: usize, line: u64) -> bool
+        ensures none { result ≡ false → HasRepliedBeforeAt self.now token line }
+        ensures some { result ≡ true → AwaitsBeforeAt self.now token line }
+    {
+        match self.places.get(token) {
+            Some(place) => place.has_earlier(line),
+            None => false,
+        }
     }
 
     /// Does for those that were answered, or had no line, what needs no pass.

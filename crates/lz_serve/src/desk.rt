@@ -3,6 +3,7 @@ ghost use Rattle.std.specs.Prelude.{◌≡◌, ◌≢◌, ◌+◌, ◌<◌, All,
 ghost use Rattle.lz_board.specs.Seats.{part};
 ghost use Rattle.lz_set.specs.declared.underway.Stage.TheVariants as stage;
 ghost use Rattle.lz_serve.specs.Clients.{HaveSeenIn, KeepsAwaited};
+ghost use Rattle.lz_serve.specs.Desks.{AnswersOneOf};
 ghost use Rattle.lz_serve.specs.Grants.{Promises};
 
 mod pages;
@@ -59,7 +60,7 @@ impl<S: Stream, N: Named, B: Given> Model for Desk<S, N, B> {
 
     ghost Value = { Passes };
 
-    ghost view = { λ d. record { given = d.given; most = d.most; free = vec_len d.free + count_of d.meeting; stages = map (λ asking. asking.stage) d.calls.items } };
+    ghost view = { λ d. record { given = d.given; most = d.most; free = vec_len d.free + count_of d.meeting; calls = d.calls.items; ends = d.ends } };
 
     ghost invariant = { λ d. IsDesk d.given d.most (vec_len d.free + count_of d.meeting) (vec_capacity d.free) (vec_capacity d.calls) d.crowd (option_map (λ free. (part free.pass).known) d.meeting) d.calls.items (map (λ free. (part free.pass).known) d.free.items) };
 }
@@ -123,9 +124,11 @@ impl<S: Stream, N: Named, B: Given> Desk<S, N, B> {
         with_one(free, meeting)
     }
 
-    /// Begins to answer lines that wait, by the passes that are free: one of each client before a second of any.
+    /// Begins to answer lines that wait, by the passes that are free: one of each client before a second of any. Where no further line is to
+    /// be begun none is.
     pub(crate) fn begin_all<D: Disk, G: StepGate, R: Wait>(&mut self, rt: &R, set: &Set<D, G, N>)
-        ensures { self.new.given ≡ self.old.given }
+        ensures given { self.new.given ≡ self.old.given }
+        ensures ends { self.old.ends ≡ true → self.new.calls ≡ self.old.calls }
     {
         let mut kept = set.keep();
         'passes: for _ in 0..self.free.len() {
@@ -149,7 +152,8 @@ impl<S: Stream, N: Named, B: Given> Desk<S, N, B> {
     }
 
     /// Plays each call on, up to a Sync or a taken node. One that stands before a Sync since the last time is left to `sync_all`. One that
-    /// is answered is told, and its pass begins the line whose turn it is. One that waits for slots is made again once a moment.
+    /// is answered is told, and its pass begins the line whose turn it is, unless no further one is to be. One that waits for slots is made again
+    /// once a moment.
     pub(crate) fn play_all<D, G, R, O>(
         &mut self,
         rt: &R,
@@ -163,7 +167,8 @@ impl<S: Stream, N: Named, B: Given> Desk<S, N, B> {
         R: Wait + Clock,
         O: Observer,
         requires { Promises N.board N.format S.promised S.listed }
-        ensures { self.new.given ≡ self.old.given }
+        ensures given { self.new.given ≡ self.old.given }
+        ensures ends { self.old.ends ≡ true → (self.new.ends ≡ true) × All (AnswersOneOf self.old.calls) self.new.calls }
     {
         let tries = self.tries.pass(rt.monotonic().ok());
         let mut kept = set.keep();
@@ -178,7 +183,7 @@ impl<S: Stream, N: Named, B: Given> Desk<S, N, B> {
             }
             // The only pass is to rest before its next call where a client waits for a page.
             let is_wanted = self.meeting.is_none() && self.crowd.scans() > 0;
-            let rests = self.ends || is_wanted;
+            let rests = self.ends | is_wanted;
             let asking = &mut self.calls[at];
             match play_call(
                 rt,
@@ -195,8 +200,8 @@ impl<S: Stream, N: Named, B: Given> Desk<S, N, B> {
                 Next::Waits => at += 1,
                 Next::Rests => {
                     let free = self.calls.swap_remove(at).into_free();
-                    self.halted = self.halted || free.halted();
-                    self.ends = self.ends || self.halted;
+                    self.halted |= free.halted();
+                    self.ends |= self.halted;
                     put_free(&mut self.free, free);
                 }
             }
@@ -212,7 +217,7 @@ impl<S: Stream, N: Named, B: Given> Desk<S, N, B> {
         set: &Set<D, G, N>,
     )
         ensures given { self.new.given ≡ self.old.given }
-        ensures synced { All (λ s. s ≢ Some stage.Syncs) self.new.stages }
+        ensures synced { All (λ call. call.stage ≢ Some stage.Syncs) self.new.calls }
     {
         let began = rt.monotonic().ok();
         let mut kept = set.keep();

@@ -1,16 +1,17 @@
 //! A pass that answers nothing.
-ghost use Rattle.std.specs.Prelude.{◌≡◌, ◌+◌, ◌≤◌, ◌<◌, ◌++◌, [], ◌∷◌, true, false, All, IfSome, None, Some, option_to_list, vec_capacity, vec_len};
-ghost use Rattle.std.specs.List.{Any};
+ghost use Rattle.std.specs.Prelude.{◌≡◌, ◌+◌, ◌≤◌, ◌<◌, ◌++◌, [], ◌∷◌, true, false, All, IfSome, None, Some, map, option_to_list, vec_capacity, vec_len};
+ghost use Rattle.std.specs.List.{Any, list_any};
 ghost use Rattle.lz_list.specs.Traces.{Begins};
 ghost use Rattle.lz_board.specs.Seats.{part};
 ghost use Rattle.lz_set.specs.Names.{MayCall};
 ghost use Rattle.lz_serve.specs.Desks.{count_of};
 ghost use Rattle.lz_serve.specs.Halts.{IsCalmAfter, SawHalt, SeesMore};
 
-use crate::asking::{Granted, grant, says_halted};
+use crate::asking::{Granted, grant};
 use crate::client::Question;
 use crate::given::Given;
 use crate::listed::{Listed, has_halted, list_page};
+use crate::replies::says_halted;
 use crate::server::Served;
 use lz_disk::Disk;
 use lz_resp::Scan;
@@ -133,6 +134,8 @@ pub fn hand_back<N: Named, B: Given>(free: Vec<FreePass<N, B>>, room: Vec<Pass>)
     requires room { vec_len free ≤ vec_capacity room }
     ensures may_call { All (MayCall N.board) result.passes.items }
     ensures count { vec_len result.passes ≡ vec_len free }
+    ensures passes { result.passes.items ≡ map (λ f. f.pass) free.items }
+    ensures told { result.halted ≡ list_any (λ f. f.halted) free.items }
     ensures unserved { result.unserved ≡ false }
     ensures halted { result.halted ≡ true → Any SawHalt result.passes.items }
     ensures calm { result.halted ≡ false → All (IsCalmAfter B.parts) result.passes.items }

@@ -36,6 +36,7 @@ mod place;
 mod poller;
 mod queue;
 mod reader;
+mod replies;
 mod seated;
 mod server;
 mod serving;

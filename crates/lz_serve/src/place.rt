@@ -1,8 +1,8 @@
 //! The place of one connection.
-ghost use Rattle.std.specs.Prelude.{◌≡◌, ℕ, IfSome, IsSomeAnd, None, Some, false};
+ghost use Rattle.std.specs.Prelude.{◌≡◌, ℕ, IfSome, IsSomeAnd, None, Some, false, true};
 ghost use Rattle.lz_list.specs.Traces.{Begins};
 ghost use Rattle.lz_board.specs.Seats.{part};
-ghost use Rattle.lz_serve.specs.Clients.{AwaitsNoPage, AwaitsPage, ComesAfter, HasNone, HasSeenIn, HasTold, IsAskedBy, IsHeardOf, IsOwnOf, KeepsHeard, KeepsLines, KeepsLinesOf, KeepsOwn, KeepsSeen, Remains, TellsOf, TellsPageOf};
+ghost use Rattle.lz_serve.specs.Clients.{AwaitsBefore, AwaitsNoPage, AwaitsPage, ComesAfter, HasNone, HasRepliedBefore, HasSeenIn, HasTold, IsAskedBy, IsHeardOf, IsOwnOf, KeepsHeard, KeepsLines, KeepsLinesOf, KeepsOwn, KeepsSeen, Remains, TellsOf, TellsPageOf};
 ghost use Rattle.lz_serve.specs.Grants.{Promises};
 
 use crate::asking::Granted;
@@ -311,7 +311,10 @@ impl<S: Stream> Place<S> {
     }
 
     /// Whether an earlier line of its client isn't answered.
-    pub(crate) fn has_earlier(&self, line: u64) -> bool {
+    pub(crate) fn has_earlier(&self, line: u64) -> bool
+        ensures none { result ≡ false → IfSome self.now.client (HasRepliedBefore line) }
+        ensures some { result ≡ true → AwaitsBefore line self.now.client }
+    {
         match &self.client {
             Some(client) => client.has_earlier(line),
             None => false,

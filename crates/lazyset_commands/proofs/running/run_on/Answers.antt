@@ -1,5 +1,5 @@
 use Rattle.std.proofs.Common.{inl, inr, refl, sym, ap, ◌∙◌}
-use Rattle.lz_board.specs.declared.view.Sizes.{Sizes}
+use Rattle.lz_list.specs.declared.layout.Sizes.{Sizes}
 use Rattle.lazyset_commands.proofs.Openings.{failed_open}
 use Rattle.lazyset_commands.proofs.Runs.LeftSets.{seat_faults, seat_set, seat_plain}
 use Rattle.lazyset_commands.proofs.running.run_on.Goals as goal

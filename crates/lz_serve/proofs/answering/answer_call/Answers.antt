@@ -1,4 +1,4 @@
-use Rattle.std.proofs.Common.{◌≡◌, IfSome, option_map, sym, subst}
+use Rattle.std.proofs.Common.{◌≡◌, IfSome, inl, inr, option_map, refl, rules, sym, subst}
 use Rattle.lz_list.specs.Traces.{Trace, Begins}
 use Rattle.lz_list.proofs.Traces.WalkEnd.{begins_before}
 use Rattle.lz_board.specs.declared.pass.Pass.{Pass}
@@ -11,8 +11,8 @@ use Rattle.lz_serve.proofs.answering.answer_call.Goals as goal
 pub reply-requires-2-clause-seen : goal.reply-requires-2-clause-seen
 reply-requires-2-clause-seen g c =
     let q = c.requires.called.question in
-    let gr = c.in-Some-answer.granted in
-    let told = c.in-Some-answer.ensures.granted in
+    let gr = c.in-Some.granted in
+    let told = c.in-Some.ensures.granted in
     let asks = c.requires.called.asks in
     let known = (part c.pass.result.now).known in
     let same : gr.question ≡ q = cc in
@@ -23,3 +23,17 @@ reply-requires-2-clause-seen g c =
     reply_seen c.args.crowd.now (option_map (λ free. (part free.pass).known) c.args.meeting.now) (part q.before).known known (begins_before (part q.before).known (part gr.after).known known from after)
     (some_mapped (λ (t : Trace). Begins t known) (λ free. (part free.pass).known) c.args.meeting.now
     (subst (λ (p : Pass). IfSome c.args.meeting.now (λ free. Begins (part free.pass).known (part p).known)) (sym c.pass.ensures) c.meet.ensures.others)) c.requires.called.knows
+
+pub returns-then-waits-clause-waits : goal.returns-then-waits-clause-waits
+returns-then-waits-clause-waits g c = λ is. (search rules, ((c.in_default.ensures.again refl).2, (c.still_awaits-earlier.result, c.still_awaits-earlier.ensures, c.in_default.ensures.told)))
+
+pub returns-else-waits-clause-anew : goal.returns-else-waits-clause-anew
+returns-else-waits-clause-anew g c = λ is. inl ((c.in_default.ensures.again refl).2, (c.still_awaits-earlier.result, c.still_awaits-earlier.ensures, c.in_default.ensures.told))
+
+pub returns-then-begin_next-clause-anew : goal.returns-then-begin_next-clause-anew
+returns-then-begin_next-clause-anew g c = λ is.
+    inr ((c.in-Some.granted.reply, c.answer.new.self.pass, (c.still_awaits-earlier.result, c.still_awaits-earlier.ensures, c.in-Some.ensures.told)), search rules, search rules)
+
+pub returns-else-begin_next-clause-replied : goal.returns-else-begin_next-clause-replied
+returns-else-begin_next-clause-replied g c = λ is.
+    ((c.in-Some.granted.reply, c.answer.new.self.pass, (c.still_awaits-earlier.result, c.still_awaits-earlier.ensures, c.in-Some.ensures.told)), search rules)

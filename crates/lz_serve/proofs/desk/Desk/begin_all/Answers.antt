@@ -1,4 +1,5 @@
 use Rattle.std.proofs.Common.{◌≡◌, option_map, vec_capacity, vec_len, ap, sym, ◌∙◌, subst, arith}
+use mathlib.Core.Bool.{true≢false}
 use Rattle.lz_list.specs.Traces.{Trace, Begins}
 use Rattle.lz_board.specs.declared.pass.Pass.{Pass}
 use Rattle.lz_board.specs.Seats.{part}
@@ -70,7 +71,10 @@ passes-preserved g c =
     let asked = c.begin_next.new.asking in
     let is : IsCalled b after asked = record { question = begun.0; asks = begun.1; awaited = begun.3; knows = subst (λ (p : Pass). Knows b after (part p).known) (sym begun.2) knows } in
     let more = c.push.ensures.capacity in
+    let over = c.begin_next.ensures.ends in
     record {
       given = c.passes.invariant.given;
+      ends = c.passes.invariant.ends;
+      calls = λ ends. absurd (true≢false (sym c.if-begin_next.true ∙ (over (c.passes.invariant.ends ∙ ends)).0));
       desk = desk_begun (λ free. (part free.pass).known) s.given s.most (vec_capacity s.free) (vec_capacity s.calls) s.crowd b s.meeting c.meet.new.meeting s.calls.items s.free.items (vec_len s.free) inv c.begin_next.ensures.kept.awaited (alike_seen (λ free. (part free.pass).known) b c.meet.new.meeting now alike later) c.meet.ensures.none (vec_capacity c.push.new.self) c.pop.new.self.items last (vec_len c.pop.new.self) asked c.push.new.self.items split fewer c.in-Ok.ensures.items (omega (arith, more, spare_calls)) is (vec_capacity c.pop.new.self) (omega (arith, room, spare_free));
     }

@@ -1,8 +1,7 @@
-use Rattle.std.proofs.Common.{◌≢◌, ◌+◌, ◌<◌, ◌≤◌, ℕ, All, List, Option, Some, map, option_map, take, vec_capacity, vec_len, length, subst, sym, arith}
+use Rattle.std.proofs.Common.{◌≢◌, ◌+◌, ◌<◌, ◌≤◌, ℕ, All, List, Some, map, option_map, take, vec_capacity, vec_len, length, subst, sym, arith}
 use Rattle.std.proofs.lemmas.List.{take_all, take_more_set}
-use Rattle.std.proofs.lemmas.List.Elements.{All-map, All-push}
+use Rattle.std.proofs.lemmas.List.Elements.{All-push}
 use Rattle.lz_board.specs.Seats.{part}
-use Rattle.lz_set.specs.declared.underway.Stage.{Stage}
 use Rattle.lz_set.specs.declared.underway.Stage.TheVariants.{Syncs}
 use Rattle.lz_serve.specs.Askings.{Asked}
 use Rattle.lz_serve.specs.Desks.{count_of}
@@ -27,8 +26,8 @@ loop-at-preserved g c =
     }
 
 -- none of them stands before a Sync
-none_syncs : (calls : List Asked) (at : ℕ) → length calls ≤ at → All (λ (a : Asked). a.stage ≢ Some Syncs) (take at calls) → All (λ (s : Option Stage). s ≢ Some Syncs) (map (λ (a : Asked). a.stage) calls)
-none_syncs calls at past all = All-map (λ (s : Option Stage). s ≢ Some Syncs) (λ (a : Asked). a.stage) calls (subst (λ (l : List Asked). All (λ (a : Asked). a.stage ≢ Some Syncs) l) (take_all at calls past) all)
+none_syncs : (calls : List Asked) (at : ℕ) → length calls ≤ at → All (λ (a : Asked). a.stage ≢ Some Syncs) (take at calls) → All (λ (a : Asked). a.stage ≢ Some Syncs) calls
+none_syncs calls at past all = subst (λ (l : List Asked). All (λ (a : Asked). a.stage ≢ Some Syncs) l) (take_all at calls past) all
 
 pub returns-then-has_synced-2-clause-synced : goal.returns-then-has_synced-2-clause-synced
 returns-then-has_synced-2-clause-synced g c =
