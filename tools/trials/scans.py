@@ -25,7 +25,7 @@ CHANGES, SCANS = 30_000, 40
 SERVED, COUNTS, ROOM = ((1, "1"), (2, "1"), (16, "2")), (0, 100, 1_024), 2
 
 # Slots over which a page goes at most, and keys that it has at most.
-MOST_SLOTS, MOST_KEYS = 4_096, 1_024
+MOST_SLOTS, MOST_KEYS = 4_096, 256
 
 NO_PAGE = b"*2\r\n" + bulk(b"0") + b"*0\r\n"
 CURSOR, SYNTAX = b"-ERR invalid cursor\r\n", b"-ERR syntax error\r\n"
@@ -57,10 +57,9 @@ def asked(room: int, cursor: int, count: int = 0) -> bytes:
     return array(b"SSCAN", b"%d" % room, b"%d" % cursor, *((b"COUNT", b"%d" % count) if count else ()))
 
 
-def pages(client: socket.socket, room: int, count: int = 0) -> Iterator[Page]:
-    """The pages of one scan."""
+def pages(client: socket.socket, room: int, count: int = 0, cursor: int = 0) -> Iterator[Page]:
+    """The pages of one scan, or of its rest from a cursor."""
     with client.makefile("rb") as stream:
-        cursor = 0
         while True:
             client.sendall(asked(room, cursor, count))
             told = page(stream)
@@ -108,9 +107,9 @@ def try_pages(program: Program, folder: str) -> None:
             others += [array(b"SSCAN", b"0", b"0", *more) for more in ([b"MATCH", b"1*"], [b"COUNT"], [b"COUNT", b"0"], [b"COUNT", b"x"])]
             told = NO_PAGE * 2 + CURSOR * 2 + NO_ROOM + SYNTAX * 3 + NO_KEY
             expect(replies(service.port, *others), told, "what no scan comes to")
-        with Service(program, file, 4, "--buckets", "5", *by_frames(4)) as service, connect(service.port) as client, client.makefile("rb") as stream:
-            client.sendall(asked(0, first.cursor, 1_000))
-            expect(sorted(first.keys + page(stream).keys), sorted(rooms[0]), "a scan that goes on after a restart")
+        with Service(program, file, 4, "--buckets", "5", *by_frames(4)) as service, connect(service.port) as client:
+            rest = keys_of(list(pages(client, 0, 1_000, first.cursor)))
+            expect(sorted(first.keys + rest), sorted(rooms[0]), "a scan that goes on after a restart")
 
 
 def try_meanwhile(program: Program, folder: str, changes: int, seed: int) -> None:
@@ -147,15 +146,15 @@ def try_in_order(program: Program, folder: str) -> None:
     """Frames that are sent at once: a page has what was added before it on the connection, and replies leave in order."""
     for passes in (1, 16):
         file = os.path.join(folder, f"f{passes}")
-        program.make(file, 2 * AT_ONCE)
+        program.make(file, 2 * MOST_KEYS)
         with Service(program, file, passes, *by_frames(4)) as service, connect(service.port) as client, client.makefile("rb") as stream:
-            frames = [array(b"SADD", b"0", b"%d" % key) + asked(0, 0, MOST_KEYS) + array(b"PING") for key in range(AT_ONCE)]
+            frames = [array(b"SADD", b"0", b"%d" % key) + asked(0, 0, MOST_KEYS) + array(b"PING") for key in range(MOST_KEYS)]
             threading.Thread(target=client.sendall, args=(b"".join(frames),)).start()
-            for key in range(AT_ONCE):
+            for key in range(MOST_KEYS):
                 expect(number(stream, b":"), 1, "the reply to a key that is added")
                 told = set(page(stream).keys)
                 expect(set(range(key + 1)) - told, set(), "keys that were added before, and aren't told")
-                expect(told <= set(range(AT_ONCE)), True, "that no other key is told")
+                expect(told <= set(range(MOST_KEYS)), True, "that no other key is told")
                 expect(stream.readline(), b"+PONG\r\n", "what comes after a page")
 
 

@@ -10,8 +10,8 @@ use Rattle.lz_resp.specs.declared.item.Item.TheVariants.{Lists}
 use Rattle.lz_resp.specs.declared.naming.Selected.TheVariants.{Room}
 
 asked :
-    (request_text 3 512 ≡ codes "SSCAN 3 512 COUNT 1024\r\n")
-    × (item_of (Room 0) (words_of (codes "SSCAN 3 512 COUNT 1024\r")) ≡ Lists (record { room = 3; from = 512; most = 1024 }))
+    (request_text 3 512 ≡ codes "SSCAN 3 512 COUNT 256\r\n")
+    × (item_of (Room 0) (words_of (codes "SSCAN 3 512 COUNT 256\r")) ≡ Lists (record { room = 3; from = 512; most = 256 }))
 unfolding digits
 asked = (refl, refl)
 

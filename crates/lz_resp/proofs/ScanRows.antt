@@ -10,7 +10,7 @@ use Rattle.lz_resp.specs.declared.naming.Selected.TheVariants.{Room, Nameless}
 asked :
     (item_of (Room 9) (codes "SSCAN" ∷ codes "3" ∷ codes "0" ∷ []) ≡ Lists (record { room = 3; from = 0; most = 10 }))
     × (item_of (Room 0) (codes "sscan" ∷ codes "15" ∷ codes "4096" ∷ codes "Count" ∷ codes "100" ∷ []) ≡ Lists (record { room = 15; from = 4096; most = 100 }))
-    × (item_of (Room 0) (codes "SSCAN" ∷ codes "0" ∷ codes "16777216" ∷ codes "COUNT" ∷ codes "1025" ∷ []) ≡ Lists (record { room = 0; from = 16777216; most = 1024 }))
+    × (item_of (Room 0) (codes "SSCAN" ∷ codes "0" ∷ codes "16777216" ∷ codes "COUNT" ∷ codes "257" ∷ []) ≡ Lists (record { room = 0; from = 16777216; most = 256 }))
 asked = (refl, refl, refl)
 
 refused :

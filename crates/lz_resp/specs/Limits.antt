@@ -15,7 +15,7 @@ most_frame = 65536
 
 -- how many keys a page has at most, as far as a frame says and where it says nothing
 abbrev pub most_listed : ℕ
-most_listed = 1024
+most_listed = 256
 
 abbrev pub few_listed : ℕ
 few_listed = 10

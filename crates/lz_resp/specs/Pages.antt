@@ -13,7 +13,7 @@ use Rattle.lz_resp.specs.declared.fault.Fault.TheVariants.{Count}
 
 -- what asks for the page of a room from this cursor on
 abbrev pub request_text : ℕ → ℕ → List ℕ
-request_text room cursor = codes "SSCAN " ++ decimal room ++ codes " " ++ decimal cursor ++ codes " COUNT 1024\r\n"
+request_text room cursor = codes "SSCAN " ++ decimal room ++ codes " " ++ decimal cursor ++ codes " COUNT 256\r\n"
 
 -- a number as a bulk string
 abbrev pub number_text : ℕ → List ℕ

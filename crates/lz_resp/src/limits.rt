@@ -10,7 +10,7 @@ pub const MOST_WORDS: usize = 1_024;
 pub const MOST_FRAME: usize = 65_536;
 
 /// How many keys a page has at most, as far as a frame says and where it says nothing.
-pub const MOST_LISTED: u64 = 1_024;
+pub const MOST_LISTED: u64 = 256;
 
 pub(crate) const FEW_LISTED: u64 = 10;
 

@@ -28,7 +28,7 @@ pub fn page_request(alloc: Global, room: u8, cursor: u64) -> Result<Text, AllocE
     push_plain(&mut text, u64::from(room))?;
     text.extend_from_slice(b" ")?;
     push_plain(&mut text, cursor)?;
-    text.extend_from_slice(b" COUNT 1024\r\n")?;
+    text.extend_from_slice(b" COUNT 256\r\n")?;
     Ok(Text::new(text))
 }
 

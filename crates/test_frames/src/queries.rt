@@ -70,7 +70,7 @@ fn pages_are_of_the_room_that_is_named(rt: HostRuntime) -> Result<(), Fail> {
     };
     let second = Scan {
         from: Slot::new(512),
-        most: 1_024,
+        most: 256,
         ..first
     };
     assert!(rt; asks_for(items.pop_front(), &first));
