@@ -350,6 +350,20 @@ class RecordTest(EditsTest):
         self.repository.write("crates/low/src/lib.rt", LOW.replace("x < 900", "x < 901"))
         self.assertEqual(gate.choose(top, crates, 0).changed, crates)
 
+    def test_most_seconds(self) -> None:
+        """Of the crates that changed the gate takes those that it has time for, each turn from another on, and one at least."""
+        crates = [self.repository.crate(name) for name in ("low", "high")]
+        third = gate.MOST_SECONDS / 3
+
+        def taken(low: float, high: float, turn: int) -> List[str]:
+            return [it.name for it in gate.within(crates, {"low": low, "high": high}, turn)]
+
+        self.assertEqual(gate.within([], {}, 5), [])
+        self.assertEqual(taken(third, third, 0), ["low", "high"])
+        self.assertEqual(taken(third, third, 1), ["high", "low"])
+        self.assertEqual([taken(2 * third, 2 * third, turn) for turn in (0, 1)], [["low"], ["high"]])
+        self.assertEqual(taken(4 * third, third, 0), ["low"])
+
     def test_hash(self) -> None:
         """It changes with what a refusal rests on, and with nothing else."""
         self.repository.put_edits("high", {"third_is_second": THIRD_IS_SECOND}, MUST_FAIL)
