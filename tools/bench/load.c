@@ -1,12 +1,13 @@
 // Loads a set service, or Redis, over TCP, and tells how many commands a second were answered.
 //
-//     load WHAT PORT CONNECTIONS DEPTH VERB FIRST COUNT SECONDS [once]
+//     load WHAT PORT CONNECTIONS DEPTH VERB FIRST COUNT SECONDS [once|ordered]
 //
 // WHAT is lazyset, whose lines it speaks, or redis, for Redis and for a service that speaks its protocol; the set's name is 0. On each
 // connection DEPTH commands are sent at once, and the next ones when all of them are answered. There are up to 16 threads, each with a share
 // of the connections: with fewer of them a service of many threads leaves too little processor to the load, with more the load leaves too
 // little to a service of one.
-// VERB is add, remove or has; the COUNT keys from FIRST on (a power of two), in a scattered order, are dealt to the connections in turn.
+// VERB is add, remove or has; the COUNT keys from FIRST on (a power of two), in a scattered order, or ascending (ordered), are dealt to the
+// connections in turn.
 // An add or a remove takes each key once, has goes round, but for `once`. It ends after SECONDS, or when the keys are used up, and prints how many
 // commands were answered, how many of them changed or found something, the seconds that it took, and for how many milliseconds a connection waited until
 // all that it had sent at once was answered: half of the times no longer than the first figure, 99 of 100 times no longer than the second.
@@ -36,6 +37,7 @@ struct options {
     unsigned long count;
     double seconds;
     int goes_round;
+    int is_ordered;
     int threads;
 };
 
@@ -144,10 +146,10 @@ static int take_replies(struct worker *worker, struct connection *it) {
     return 0;
 }
 
-// The key at a place of the scattered order.
+// The key at a place of the order.
 static unsigned long key_at(unsigned long place) {
     static const unsigned long stride = 40503;
-    return options.first + place * stride % options.count;
+    return options.first + (options.is_ordered ? place : place * stride % options.count);
 }
 
 // Sends the next commands of a connection: none where the time is over, or the keys are used up.
@@ -245,6 +247,7 @@ static int read_options(char **words) {
     options.count = strtoul(words[7], NULL, 10);
     options.seconds = atof(words[8]);
     options.goes_round = options.verb == HAS && words[9] == NULL;
+    options.is_ordered = words[9] != NULL && strcmp(words[9], "ordered") == 0;
     options.threads = options.connections < MOST_THREADS ? options.connections : MOST_THREADS;
     return options.connections >= 1 && options.connections <= MOST_CONNECTIONS && options.depth >= 1 &&
            options.depth <= MOST_DEPTH && options.count >= (unsigned long)options.connections;

@@ -23,12 +23,13 @@ MOST_THREADS = 64
 MOST_PASSES = 1024
 
 # A loop over a file of format 2, one over a file of format 4, and one over such a file each of whose free slots is torn: more than a crash
-# leaves, which tears those that were being written.
-FEW, WHOLE, TORN = "loop of format 2", "loop of format 4", "loop of format 4, torn"
+# leaves, which tears those that were being written. And one whose keys are removed as they lie in the file, as if in the order of adding.
+FEW, WHOLE, TORN, ORDERED = "loop of format 2", "loop of format 4", "loop of format 4, torn", "loop of format 4, in order"
 
 # Targets that are measured over so many connections alone, and of which format a target's file is, where that is its own.
-NARROW, NARROW_CONNECTIONS = (FEW, TORN), 64
-FORMS = {WHOLE: 4, TORN: 4}
+NARROW, NARROW_CONNECTIONS = (FEW, TORN, ORDERED), 64
+FORMS = {WHOLE: 4, TORN: 4, ORDERED: 4}
+ONLY = {TORN: "add", ORDERED: "remove"}
 
 # A loop that speaks Redis's protocol.
 FRAMES = "frames"
@@ -93,7 +94,8 @@ class Bench:
         self, target: str, port: int, verb: str, connections: int, depth: int, first: int, count: int, seconds: float, once: bool = False
     ) -> "subprocess.Popen[str]":
         what = "redis" if target in ("redis", FRAMES) else "lazyset"
-        words = [what, str(port), str(connections), str(depth), verb, str(first), str(count), str(seconds), *["once"] * once]
+        order = ["ordered"] if target == ORDERED else ["once"] * once
+        words = [what, str(port), str(connections), str(depth), verb, str(first), str(count), str(seconds), *order]
         return subprocess.Popen([self.path("load"), *words], stdout=subprocess.PIPE, text=True)
 
     def slowed(self) -> List[str]:
@@ -140,7 +142,7 @@ def processor_seconds(pid: int) -> float:
 def serves(target: str, connections: int, verb: str = "add") -> bool:
     """Whether a target is measured over so many connections at once: one with a thread for each has few."""
     if target in NARROW:
-        return connections == NARROW_CONNECTIONS and (target, verb) not in ((TORN, "remove"), (TORN, "has"))
+        return connections == NARROW_CONNECTIONS and verb == ONLY.get(target, verb)
     return target != "threads" or connections <= MOST_THREADS
 
 
