@@ -73,7 +73,7 @@ other_request old new p q same first second seven eight = let kept = same.questi
 -- one waits for slots that may be made again, and wasn't answered since
 waits_on : (b : BoardId) (F : Format) (clients : Askers) (a : Asked) → WaitsForSlots b F clients true a a → ⊥
 waits_on b F clients a (waits, inl never) = true≢false never
-waits_on b F clients a (waits, inr again) = let more = again.0 in absurd (omega (arith, more))
+waits_on b F clients a (waits, inr again) = let more = again.more in absurd (omega (arith, more))
 
 -- one is stopped that wasn't played on, or has its reply
 unplayed : (y : Yard) (a : Asked) → a.stage ≡ None → IsStopped y a → ⊥
@@ -162,14 +162,16 @@ module _ (b : BoardId) (F : Format) (p after : Pass) where
 
   -- all slots have members, and the first line awaits its reply: one more call is made
   beside_again : b.sizes.passes ≡ 3 → IsCallAnswered b F (command.Add 5) members p after → IsMadeAgain b F (two p []) (answers (second p true) p 0) (answers (second p true) after 1)
-  beside_again three last = (
-    refl,
-    (
+  beside_again three last = record {
+    question = refl;
+    token = refl;
+    more = refl;
+    answered = (
       true,
       (λ is. awaits_still p, λ still. refl),
       record { question = second p true; asks = refl; c = command.Add 5; asks_for = refl; middle = p; before = refl; answer = members; last = last; told = sym (silent_beside_a_removal b three) },
-    ),
-  )
+    );
+  }
 
   -- where that one had its reply, or the answer is yes, it is told
   full_told : IsCallAnswered b F (command.Add 5) members p after → HasAnswered b F (two p []) (answers (second p false) p 0)
@@ -241,17 +243,24 @@ module _ (b : BoardId) (F : Format) (p after : Pass) (three : b.sizes.passes ≡
 -- no call is made again, and none has its reply, for a pass that rests
 module _ (b : BoardId) (F : Format) (clients : Askers) where
   rests_again : (old new : Asked) → old.question ≡ None → IsMadeAgain b F clients old new → ⊥
-  rests_again old new none (more, (earlier, so, is)) = unasked b F earlier old None new.pass is none
+  rests_again old new none again = let (earlier, so, is) = again.answered in unasked b F earlier old None new.pass is none
 
   rests_answered : (asked : Asked) → asked.question ≡ None → HasAnswered b F clients asked → ⊥
   rests_answered asked none (reply, after, (earlier, so, is)) = unasked b F earlier asked (Some reply) after is none
 
   -- one is that isn't counted, or that is the only pass's
   uncounted : (old new : Asked) → new.tries ≡ old.tries → IsMadeAgain b F clients old new → ⊥
-  uncounted old new same (more, rest) = absurd (omega (arith, same, more))
+  uncounted old new same again = let more = again.more in absurd (omega (arith, same, more))
+
+  -- one is for another line, or for one at another place
+  for_another_line : (p after : Pass) → IsMadeAgain b F clients (answers (posed 1 p) p 0) (answers (second p true) after 1) → ⊥
+  for_another_line p after again = let line = ap number again.question in absurd (omega (arith, line))
+
+  for_another_place : (p after : Pass) → IsMadeAgain b F clients (answers (posed 1 p) p 0) (record (answers (posed 1 p) after 1) { token = 1 }) → ⊥
+  for_another_place p after again = let place = again.token in absurd (omega (arith, place))
 
   alone_again : (old new : Asked) → b.sizes.passes ≡ 1 → IsMadeAgain b F clients old new → ⊥
-  alone_again old new one (more, (earlier, so, is)) = kept_back_alone b F earlier old None new.pass is refl one
+  alone_again old new one again = let (earlier, so, is) = again.answered in kept_back_alone b F earlier old None new.pass is refl one
 
 -- one is made again where no slot waits, beside an earlier line that had its reply when it was put
 again_for_nothing : (b : BoardId) (F : Format) (p : Pass) (new : Asked) (earlier : Bool) (is : IsAnsweredWith b F earlier (answers (second p false) p 0) None new.pass) → is.answer ≡ members → ⊥

@@ -143,7 +143,12 @@ same_answered b F a old new reply after same (earlier, so, with) = (
 
 -- and so is one more call made, or none
 pub same_made : (b : BoardId) (F : Format) (a : Askers) (old middle new : Asked) → IsSameQuestion old middle → IsMadeAgain b F a middle new → IsMadeAgain b F a old new
-same_made b F a old middle new same (more, so) = (subst (λ (n : ℕ). new.tries ≡ n + 1) same.tries more, same_answered b F a old middle None new.pass same so)
+same_made b F a old middle new same again = record {
+  question = again.question ∙ same.question;
+  token = again.token ∙ same.token;
+  more = subst (λ (n : ℕ). new.tries ≡ n + 1) same.tries again.more;
+  answered = same_answered b F a old middle None new.pass same again.answered;
+}
 
 pub same_told : (b : BoardId) (F : Format) (a : Askers) (old middle : Asked) → IsSameQuestion old middle → HasAnswered b F a middle → HasAnswered b F a old
 same_told b F a old middle same (reply, after, so) = (reply, after, same_answered b F a old middle (Some reply) after same so)

@@ -108,9 +108,12 @@ StillAwaits a asked = IsSomeAnd asked.question (λ q. (q.earlier ≡ true) × Aw
 abbrev pub IsAnsweredAt : BoardId → Format → Askers → Asked → Option Reply → Pass → Type 0
 IsAnsweredAt b F a asked reply after = (earlier : Bool) × (IsTrue earlier ↔ StillAwaits a asked) × IsAnsweredWith b F earlier asked reply after
 
--- nothing is told of it: one more call is to be made
-abbrev pub IsMadeAgain : BoardId → Format → Askers → Asked → Asked → Type 0
-IsMadeAgain b F a old new = (new.tries ≡ old.tries + 1) × IsAnsweredAt b F a old None new.pass
+-- nothing is told of it: one more call is to be made for the same question
+pub record IsMadeAgain (b : BoardId) (F : Format) (a : Askers) (old new : Asked) : Type 0 where
+  pub question : new.question ≡ old.question
+  pub token : new.token ≡ old.token
+  pub more : new.tries ≡ old.tries + 1
+  pub answered : IsAnsweredAt b F a old None new.pass
 
 -- its reply is told, and no more call is to be made
 abbrev pub HasAnswered : BoardId → Format → Askers → Asked → Type 0

@@ -27,7 +27,7 @@ same_table zero f g same = refl
 same_table (suc n) f g same = λ i. same_table n f g (λ j low. same j (omega (arith, low))) i ++ same n (omega arith) i ∷ []
 
 -- a row of zeros
-zeros : (n i : ℕ) → slice_index (replicate n 0) i ≡ 0
+pub zeros : (n i : ℕ) → slice_index (replicate n 0) i ≡ 0
 zeros zero i = refl
 zeros (suc n) zero = refl
 zeros (suc n) (suc i) = zeros n i

@@ -25,10 +25,16 @@ reply-requires-2-clause-seen g c =
     (subst (λ (p : Pass). IfSome c.args.meeting.now (λ free. Begins (part free.pass).known (part p).known)) (sym c.pass.ensures) c.meet.ensures.others)) c.requires.called.knows
 
 pub returns-then-waits-clause-waits : goal.returns-then-waits-clause-waits
-returns-then-waits-clause-waits g c = λ is. (search rules, ((c.in_default.ensures.again refl).2, (c.still_awaits-earlier.result, c.still_awaits-earlier.ensures, c.in_default.ensures.told)))
+returns-then-waits-clause-waits g c = λ is.
+    let again = c.in_default.ensures.again refl in (
+      search rules,
+      record { question = again.0; token = c.in_default.ensures.token; more = again.2; answered = (c.still_awaits-earlier.result, c.still_awaits-earlier.ensures, c.in_default.ensures.told) },
+    )
 
 pub returns-else-waits-clause-anew : goal.returns-else-waits-clause-anew
-returns-else-waits-clause-anew g c = λ is. inl ((c.in_default.ensures.again refl).2, (c.still_awaits-earlier.result, c.still_awaits-earlier.ensures, c.in_default.ensures.told))
+returns-else-waits-clause-anew g c = λ is.
+    let again = c.in_default.ensures.again refl in
+    inl (record { question = again.0; token = c.in_default.ensures.token; more = again.2; answered = (c.still_awaits-earlier.result, c.still_awaits-earlier.ensures, c.in_default.ensures.told) })
 
 pub returns-then-begin_next-clause-anew : goal.returns-then-begin_next-clause-anew
 returns-then-begin_next-clause-anew g c = λ is.
