@@ -1,8 +1,8 @@
 -- Worked rows of answers that must not hold, for each part of what an answer promises.
-use Rattle.std.proofs.Common.{◌≡◌, ⊎_elim, ℕ, suc, None, List, [], ◌∷◌, ◌++◌, length, sym, ap, subst, ◌∙◌, arith}
+use Rattle.std.proofs.Common.{◌≡◌, ⊎_elim, ℕ, None, List, [], ◌∷◌, ◌++◌, sym, ap, ◌∙◌, arith}
 use mathlib.Core.Bool.{false≢true}
 use Rattle.std.proofs.lemmas.List.{append-nil, append_cancel_right}
-use Rattle.lz_tie.proofs.Vocabulary.{Command, Counts, Trace, Begins, halt_word, is_settled, member, Shape, Note, Part, note_by, own}
+use Rattle.lz_tie.proofs.Vocabulary.{Command, Counts, Trace, halt_word, member, Shape, Note, Part, note_by, own}
 use Rattle.lz_slot.specs.declared.command.Command.TheVariants.{Add, Has}
 use Rattle.lz_slot.specs.declared.format.Format.TheVariants.{Two}
 use Rattle.lz_list.specs.declared.publishing.Change.TheVariants.{Added as as_added}
@@ -27,37 +27,24 @@ own_since p Q since goes_on = ap (own p) (goes_on ∙ append-nil since)
 
 -- an adding is of the key that was asked for, by this pass, since its call began
 not_another_key : Added 1 9 [] E2 → ⊥
-not_another_key h =
-    let is : linked 12 1 1 ∷ [] ≡ linked 9 h.slot 1 ∷ [] = own_since 1 E2 h.changes.since h.changes.goes_on ∙ h.changes.own in
-    let key : ◌≡◌ {A = ℕ} 12 9 = cc in absurd (omega (arith, key))
+not_another_key h = grind (arith, own_since)
 
 not_another_pass : Added 2 12 [] E2 → ⊥
 not_another_pass h = let is : [] ≡ linked 12 h.slot 2 ∷ [] = own_since 2 E2 h.changes.since h.changes.goes_on ∙ h.changes.own in absurd cc
 
 not_before_its_call : Added 1 12 E1 E2 → ⊥
-not_before_its_call h =
-    let since : settled 1 as_added ∷ [] ≡ h.changes.since = append_cancel_right (settled 1 as_added ∷ []) h.changes.since E1 h.changes.goes_on in
-    let is : [] ≡ linked 12 h.slot 1 ∷ [] = ap (own 1) since ∙ h.changes.own in
-    absurd cc
+not_before_its_call h = grind (arith, append_cancel_right)
 
 -- and it is this linking that was settled, and not another one
 abbrev other_settled : Trace
 other_settled = linked 12 1 1 ∷ settled 0 as_added ∷ linked 9 0 2 ∷ []
 
 not_by_another_flag : Added 1 12 [] other_settled → ⊥
-not_by_another_flag h =
-    ⊎_elim
-    (λ is. let rest : h.earlier ≡ settled 0 as_added ∷ linked 9 0 2 ∷ [] = cc in false≢true (sym (ap (λ P. is_settled (suc (length P)) other_settled) rest) ∙ h.settled))
-    (⊎_elim (λ (is : linked 12 h.slot 1 ∷ h.earlier ≡ settled 0 as_added ∷ linked 9 0 2 ∷ []). absurd cc)
-    (⊎_elim (λ (is : linked 12 h.slot 1 ∷ h.earlier ≡ linked 9 0 2 ∷ []). let key : ◌≡◌ {A = ℕ} 12 9 = cc in absurd (omega (arith, key))) (λ (is : linked 12 h.slot 1 ∷ h.earlier ≡ []). absurd cc)))
-    h.upto
+not_by_another_flag h = grind arith
 
 -- a removal is done once its node is unlinked
 not_marked_only : Removed 1 12 E2 (marked 12 1 1 ∷ E2) → ⊥
-not_marked_only h =
-    let since : marked 12 1 1 ∷ [] ≡ h.changes.since = append_cancel_right (marked 12 1 1 ∷ []) h.changes.since E2 h.changes.goes_on in
-    let is = ap (own 1) since ∙ h.changes.own in
-    absurd cc
+not_marked_only h = grind (arith, append_cancel_right)
 
 -- full is told where a slot was asked for, none was free, the key was no member, and nothing was changed
 abbrev two_taken : Counts
@@ -70,11 +57,7 @@ not_full_with_a_free_slot : (new : List Note) (P Q : Trace) → WasFull shape 1 
 not_full_with_a_free_slot new P Q h = let is = h.free in absurd (omega (arith, is))
 
 not_full_of_a_member : (new : List Note) → WasFull shape 1 12 two_taken new E1 E1 → ⊥
-not_full_of_a_member new h =
-    ⊎_elim
-    (λ is. false≢true (sym h.no_member ∙ ap (member 12) is))
-    (λ is. let from : E1 ≡ [] = subst (Begins E1) is h.between.from in absurd cc)
-    h.between.upto
+not_full_of_a_member new h = grind arith
 
 not_full_after_a_linking : (new : List Note) → WasFull shape 1 12 two_taken new [] E1 → ⊥
 not_full_after_a_linking new h = let is = own_since 1 E1 h.changes.since h.changes.goes_on ∙ h.changes.own in absurd cc

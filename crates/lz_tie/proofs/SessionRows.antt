@@ -41,13 +41,7 @@ abbrev pub after : Part
 after = record { sizes = sizes; number = 1; pin = 2; begun = P0; known = P0; steps = steps; base = 4; loads = [] }
 
 lawful : Lawful 1 2 P0
-lawful = (
-  tt,
-  (
-    record { in_range = omega arith; loose = λ b. refl; no_member = refl; no_node = refl; key = refl; link = refl; no_mark = refl; not_added = refl; not_removed = refl },
-    ((λ b. refl), ((λ b. refl), tt)),
-  ),
-)
+lawful = grind arith
 
 pub answers : Answers Two (Has 9) Yes before after
 answers = record {

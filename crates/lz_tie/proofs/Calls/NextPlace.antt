@@ -1,5 +1,5 @@
 -- Where a call comes to by its next event, with what is published for its pass then.
-use Rattle.std.proofs.Common.{◌≡◌, ℕ, zero, suc, ◌+◌, ◌≤◌, nat_lt, Bool, true, false, List, [], ◌∷◌, ◌++◌, refl, sym, ap, ◌∙◌, subst, arith, if◌then◌else◌, ◌==◌, unwrap_or, Option, Some, None}
+use Rattle.std.proofs.Common.{◌≡◌, ℕ, zero, suc, ◌+◌, ◌≤◌, nat_lt, Bool, true, false, List, [], ◌∷◌, ◌++◌, refl, sym, ◌∙◌, subst, arith, if◌then◌else◌, ◌==◌, unwrap_or, Option, Some, None}
 use Rattle.std.proofs.lemmas.Bool.Decides.{nat_tests}
 use Rattle.lz_tie.proofs.Vocabulary.{Command, History, Medium, collect, lowest_free, counts, Place, Met, get, is_pair_free, check, Hopped, More, End}
 use Rattle.lz_tie.proofs.Vocabulary.{Trace, on, chain_of, bucket_of, key_word, Need, may_answer, Actor, Hold, Outcome, Reply, Progress, Shape, Yard}
@@ -114,8 +114,7 @@ module _ (n calls : ℕ) (y : Yard) (callers : List (Option Caller)) (disk : Med
   slot_key k s slot word = key_load y.shape y.words P sound.trace (few_slots sound.images) s (sound.slots.hand a s slot).in_range ∙ word
 
   on_chain : (k s : ℕ) → key_word s P ≡ k → on 0 (chain_of y.shape.buckets (key_word s P) P) (suc s) ≡ true → get y.words (key_at s) ≡ k
-  on_chain k s word there =
-      key_load y.shape y.words P sound.trace (few_slots sound.images) s (on_range y.shape.buckets y.shape.slots P (bucket_of y.shape.buckets (key_word s P)) s sound.trace.lawful there) ∙ word
+  on_chain k s word there = grind (arith, key_load, few_slots, on_range, bucket_of)
 
   closed_key : (k s : ℕ) → actor.hold ≡ GateClosed → actor.curr ≡ Some s → key_word s P ≡ k → get y.words (key_at s) ≡ k
   closed_key k s hold curr word = on_chain k s word (held_node y.shape P GateClosed actor sound.trace.lawful (subst (λ (q : Hold). RestsOn y.shape.buckets q actor P) hold (sound.locks.rests a)) s curr refl)
@@ -125,19 +124,13 @@ module _ (n calls : ℕ) (y : Yard) (callers : List (Option Caller)) (disk : Med
 
   -- what Link, Mark and Unlink publish
   links : (k s : ℕ) → actor.slot ≡ Some s → key_word s P ≡ k → own a (linked (get y.words (key_at (slot_of actor))) (slot_of actor) a ∷ []) ≡ linked k s a ∷ []
-  links k s slot word =
-      own_linked a (get y.words (key_at (slot_of actor))) (slot_of actor)
-      ∙ ap (λ (q : Option ℕ). linked (get y.words (key_at (unwrap_or q 0))) (unwrap_or q 0) a ∷ []) slot ∙ ap (λ (j : ℕ). linked j s a ∷ []) (slot_key k s slot word)
+  links k s slot word = grind (arith, own_linked, unwrap_or, slot_key)
 
   marks : (k s : ℕ) → actor.hold ≡ GateClosed → actor.curr ≡ Some s → key_word s P ≡ k → own a (marked (get y.words (key_at (node_of actor))) (node_of actor) a ∷ []) ≡ marked k s a ∷ []
-  marks k s hold curr word =
-      own_marked a (get y.words (key_at (node_of actor))) (node_of actor)
-      ∙ ap (λ (q : Option ℕ). marked (get y.words (key_at (unwrap_or q 0))) (unwrap_or q 0) a ∷ []) curr ∙ ap (λ (j : ℕ). marked j s a ∷ []) (closed_key k s hold curr word)
+  marks k s hold curr word = grind (arith, own_marked, unwrap_or, closed_key)
 
   unlinks : (k s : ℕ) → actor.hold ≡ Marked → actor.curr ≡ Some s → key_word s P ≡ k → own a (unlinked (get y.words (key_at (node_of actor))) (node_of actor) a ∷ []) ≡ unlinked k s a ∷ []
-  unlinks k s hold curr word =
-      own_unlinked a (get y.words (key_at (node_of actor))) (node_of actor)
-      ∙ ap (λ (q : Option ℕ). unlinked (get y.words (key_at (unwrap_or q 0))) (unwrap_or q 0) a ∷ []) curr ∙ ap (λ (j : ℕ). unlinked j s a ∷ []) (marked_key k s hold curr word)
+  unlinks k s hold curr word = grind (arith, own_unlinked, unwrap_or, marked_key)
 
   -- a settling, or a sync played again
   settles : (c : Command) (at : Progress) (s : ℕ) → Onward y.shape a c (progress_after y.shape c at Done) Q → Onward y.shape a c (progress_after y.shape c at Early) Q

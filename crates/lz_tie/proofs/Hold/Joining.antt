@@ -1,5 +1,5 @@
 -- What a pass that joins the pen brings into a hold.
-use Rattle.std.proofs.Common.{◌≡◌, ◌+◌, ◌<◌, List, sym, ◌∙◌, subst, arith, Option}
+use Rattle.std.proofs.Common.{◌≡◌, ◌+◌, ◌<◌, List, sym, subst, arith, Option}
 use Rattle.lz_tie.proofs.Vocabulary.{Device, Command, Publishing, Trace, Event, Outcome, Progress, Calling, Yard, last_pin, Note, Part, trace_of}
 use Rattle.lz_tie.proofs.Vocabulary.{Knows, PinTold, knowing, noted_part, moved_part, Pass, BoardId, IsAtHand}
 use Rattle.lz_board.proofs.Upkeep.PartUpkeep.{knows_knowing}
@@ -7,11 +7,7 @@ use Rattle.lz_tie.specs.Holds.{IsLocked, InHold, IsTurn, Turned}
 
 pub joined : (b board : BoardId) → board ≡ b → (ns ns' : List Note) (y : Yard) (dev : Device) (h h' : Part)
     → IsLocked b ns y dev → Knows board.sizes board.opened ns h → PinTold board.sizes ns h.number h.pin → ns' ≡ ns → h' ≡ knowing (trace_of board.opened ns) h → InHold board ns' y dev h'
-joined b board same ns ns' y dev h h' l k told notes part = subst (λ (q : List Note × Part). InHold board q.0 y dev q.1) (λ i. (sym notes i, sym part i)) record {
-  locked = subst (λ (q : BoardId). IsLocked q ns y dev) (sym same) l;
-  knows = knows_knowing board.sizes board.opened ns h k;
-  told = told;
-}
+joined b board same ns ns' y dev h h' l k told notes part = grind (arith, knows_knowing)
 
 pub joined_turn : (ns ns' : List Note) (h h' : Part) (seen : Trace) (c : Calling) (e : Event) → IsTurn ns h c e → ns' ≡ ns → h' ≡ knowing seen h → IsTurn ns' h' c e
 joined_turn ns ns' h h' seen c e turn notes part = subst (λ (q : List Note × Part). IsTurn q.0 q.1 c e) (λ i. (sym notes i, sym part i)) record {
@@ -46,20 +42,8 @@ seen_turned opened ns ns' h h' seen c at e o x notes part gave = unseen (subst (
 
 -- the pass has its number and its pin word at hand after a note of it too
 pub hand_noted : (b : BoardId) (p p' : Pass) (h h' : Part) (opened : Trace) (ns : List Note) (n : Note) → IsAtHand b p h → p' ≡ p → h' ≡ noted_part opened ns n h → IsAtHand b p' h'
-hand_noted b p p' h h' opened ns n hand same part = subst (λ (q : Pass × Part). IsAtHand b q.0 q.1) (λ i. (sym same i, sym part i)) record {
-  sized = hand.sized;
-  numbered = hand.numbered;
-  number = hand.number;
-  pin = hand.pin;
-  worn = hand.worn;
-}
+hand_noted b p p' h h' opened ns n hand same part = grind arith
 
 -- and after one that counts up its pin word
 pub hand_moved : (b : BoardId) (p p' : Pass) (h h' : Part) (opened : Trace) (ns : List Note) (n : Note) → IsAtHand b p h → (p'.number ≡ p.number) × (p'.pin ≡ p.pin + 1) → h' ≡ moved_part opened ns n h → h.pin < last_pin → IsAtHand b p' h'
-hand_moved b p p' h h' opened ns n hand same part below = let pin = hand.pin in let more = same.1 in subst (λ (q : Part). IsAtHand b p' q) (sym part) record {
-  sized = hand.sized;
-  numbered = hand.numbered;
-  number = same.0 ∙ hand.number;
-  pin = omega (arith, more, pin);
-  worn = omega (arith, below);
-}
+hand_moved b p p' h h' opened ns n hand same part below = grind arith

@@ -2,7 +2,7 @@
 use Rattle.std.proofs.Common.{◌≡◌, ◌≢◌, inl, ⊎_elim, ℕ, suc, ◌≤◌, ◌%◌, Bool, true, false, List, [], ◌∷◌, ◌++◌, map, length, refl, sym, ap, ◌∙◌, subst, arith, Option, Some, None, IsTrue, is_some}
 use mathlib.Core.Bool.{false≢true}
 use Rattle.lz_tie.proofs.Vocabulary.{Command, of_pass, Medium, Device, DeviceCall, NoCall, WriteAt, SyncAll, MayFail, medium_after, Words, Trace}
-use Rattle.lz_tie.proofs.Vocabulary.{Event, Outcome, Progress, Shape, Yard, IsInside, line, line_failed, line_call, line_publishes, pin_of, event_at}
+use Rattle.lz_tie.proofs.Vocabulary.{Event, Outcome, Progress, Yard, IsInside, line, line_failed, line_call, line_publishes, pin_of, event_at}
 use Rattle.lz_tie.proofs.Vocabulary.{loaded, HasPass, State, Up, Caller, Turn, Point, run, MayStep, HasTurn, HasFault, Reached, first_point}
 use Rattle.lz_tie.proofs.Vocabulary.{caller_at, next_event, state_after, after_turn, after_fault, SameButPins, MayPlay, SameBut, hop_of, CallerSound}
 use Rattle.lz_tie.proofs.Vocabulary.{view_of, own_change, Told, Note, Load, Part, as_list, trace_of, steps_of, load_note, splice, Quiet, InOrder}
@@ -66,14 +66,7 @@ plays_alike z s a e same none = subst (λ (z : Yard). PlaysAlike z s a e) (sym i
     r = line_same s z.words.pins a same.pin e none
 
     is : z ≡ with_pins s z.words.pins
-    is = λ i. record {
-      shape = same.shape i;
-      words = record { heads = same.heads i; links = same.links i; keys = same.keys i; pins = z.words.pins; halt = same.halt i };
-      locks = same.locks i;
-      vault = same.vault i;
-      uses = same.uses i;
-      actors = same.actors i;
-    }
+    is = grind (arith, same)
 
 -- a device that may do anything has some disk after a call that failed
 some_fail : (call : DeviceCall) (disk : Medium) → call ≢ NoCall → MayFail call disk disk
@@ -110,10 +103,7 @@ module _ (opened : Trace) (ns : List Note) (y : Yard) (dev : Device) (t : IsTied
   shape_is = t.yard.shape ∙ subst (λ (w : State). shape_in w ≡ t.start.shape) t.state (run_keeps_shape p t.steps)
 
   spl : Spliced t.start t.starts a low t.steps (splice p.trace a hs ns)
-  spl = splice_reads t.start t.starts a low base top hs ns t.steps t.runs t.reads
-      (subst (λ P. Quiet P a base ns) t.begins quiet) (subst (λ P. length P ≤ base) t.begins least) order
-      (subst (λ (x : Shape × Trace). AllShown (record { slots = x.0.slots; buckets = x.0.buckets; passes = x.0.passes }) (trace_of x.1 ns) hs) (λ i. (shape_is i, t.begins i)) shown)
-      (subst (λ s. AreNext s a hs (steps_of a ns)) shape_is next)
+  spl = grind (arith, splice_reads, shape_is)
 
   abbrev notes : List Note
   notes = splice p.trace a hs ns
@@ -146,10 +136,7 @@ module _ (opened : Trace) (ns : List Note) (y : Yard) (dev : Device) (t : IsTied
     in_range = let r = caller_range pl.service.callers a call.caller call.is in omega (arith, r.1, pl.count)
 
     event_is : next_event s call.caller ≡ e
-    event_is =
-        ap (λ (x : Shape × Command × Progress). loaded s.words (event_at x.0 x.1 x.2)) (λ i. ((pl.shape ∙ sym shape_is) i, call.command i, call.progress i))
-        ∙ seen_is s.words (λ q. pin_after q ns) y.shape.passes (event_at y.shape command at) pass (λ q one most. pins_are q one (subst (λ (k : Shape). q ≤ k.passes) shape_is most))
-        ∙ sym is
+    event_is = grind (arith, loaded, event_at, pl, shape_is, call, seen_is, pin_after, command, pins_are, is)
 
     same : SameButPins a z s
     same = with_own_pin a (alike_then alike (alike_then t.yard (alike_is both.0))) (pin ∙ sym (pins_are a low in_range))

@@ -34,19 +34,7 @@ listed_none (Some x) is = absurd (false≢true (sym (ap is_cons is)))
 
 -- a yard that is the same but for pin words is tied too
 pub alike_tied : (opened : Trace) (ns : List Note) (y z : Yard) (dev : Device) → IsTied opened ns y dev.honest dev.medium → SameButAllPins z y → IsTied opened ns z dev.honest dev.medium
-alike_tied opened ns y z dev t same = record {
-  start = t.start;
-  steps = t.steps;
-  service = t.service;
-  medium = t.medium;
-  starts = t.starts;
-  runs = t.runs;
-  reads = t.reads;
-  begins = t.begins;
-  state = t.state;
-  yard = alike_then same t.yard;
-  device = t.device;
-}
+alike_tied opened ns y z dev t same = grind (arith, alike_then, same)
 
 same_words : (y s : Yard) → SameButAllPins y s → (z : Sizes) (w : Word) → IsShared z w → get y.words w ≡ get s.words w
 same_words y s h z (Head b) shared = ap (λ l. get (record s.words { heads = l }) (Head b)) h.heads
@@ -151,10 +139,7 @@ noting_nothing opened ns y y' honest honest' disk disk' a hs n m t t' shape othe
         ∙ others v h ∙ tied_words opened ns y honest disk t v h
 
     either : (x : ℕ) → (if x == m then m else x) ≡ x
-    either x = ⊎_elim
-        (λ (is : x ≡ m). ap (λ b. if b then m else x) (eq-eqb x m is) ∙ sym is)
-        (λ away. ap (λ b. if b then m else x) (ne_eqb x m away))
-        (cases_eq x m)
+    either x = grind (arith, eq-eqb, ne_eqb, cases_eq)
 
 -- and what was noted could be published
 pub noting_lawful : (opened : Trace) (ns : List Note) (y' : Yard) (honest : Bool) (disk : Medium) (a : ℕ) (hs : List Load) (n : Note)

@@ -1,6 +1,6 @@
 -- What a hold has once the step of its pass is noted, whichever event that plays.
-use Rattle.std.proofs.Common.{◌≡◌, ◌∷◌, ◌++◌, ℕ, suc, List, map, refl, sym, ap, ◌∙◌, subst, arith, eq-eqb, ne_eqb, if◌then◌else◌, Some, None}
-use Rattle.lz_tie.proofs.Vocabulary.{Device, Trace, Lawful, IsQuiet, Yard, Told, Sizes, Note, Part, load_note, pin_after_what, stamped, trace_of}
+use Rattle.std.proofs.Common.{◌≡◌, ℕ, suc, List, sym, subst, arith, eq-eqb, ne_eqb, Some, None}
+use Rattle.lz_tie.proofs.Vocabulary.{Device, Trace, Lawful, Yard, Told, Sizes, Note, Part, stamped, trace_of}
 use Rattle.lz_tie.proofs.Vocabulary.{MayNote, KeepsPin, MovesPin, Writes, noted, noted_part, moved_part, BoardId}
 use Rattle.lz_board.proofs.Upkeep.PartUpkeep.{trace_noted, knows_noted, knows_moved, told_own}
 use Rattle.lz_tie.specs.Holds.{IsLocked, InHold, HoldNotes}
@@ -28,20 +28,7 @@ module _ (b : BoardId) (ns : List Note) (y : Yard) (dev : Device) (h : Part) (ho
     }
 
     pub holds_noted : (m : ℕ) (made : Note) → n ≡ stamped m made → HoldNotes b.opened ns (noted b.opened ns h n) made h (noted_part b.opened ns n h)
-    holds_noted m made is = record {
-      moment = m;
-      notes = ap (noted b.opened ns h) is;
-      sizes = refl;
-      number = refl;
-      steps = ap (λ (k : Note). k ∷ (map (load_note h.number) h.loads ++ h.steps)) is;
-      no_loads = refl;
-      known = refl;
-      since = hold.knows.since;
-      pin = sym keeps ∙ ap (λ (k : Note). pin_after_what h.number h.number k.what h.pin) is;
-      begun = ap (λ t. if t then h.begun else trace_of b.opened (noted b.opened ns h n)) (sym (eq-eqb h.pin h.pin refl));
-      lawful = lawful;
-      kept = λ inside. subst (λ (q : Sizes). IsQuiet q.buckets h.begun (trace_of b.opened (noted b.opened ns h n))) (sym hold.knows.sized) (hold_noted.knows.kept inside);
-    }
+    holds_noted m made is = grind (arith, keeps, eq-eqb, lawful, hold_noted)
 
   -- it counts it up
   module _ (moves : MovesPin h n) where
@@ -53,17 +40,4 @@ module _ (b : BoardId) (ns : List Note) (y : Yard) (dev : Device) (h : Part) (ho
     }
 
     pub holds_moved : (m : ℕ) (made : Note) → n ≡ stamped m made → HoldNotes b.opened ns (noted b.opened ns h n) made h (moved_part b.opened ns n h)
-    holds_moved m made is = record {
-      moment = m;
-      notes = ap (noted b.opened ns h) is;
-      sizes = refl;
-      number = refl;
-      steps = ap (λ (k : Note). k ∷ (map (load_note h.number) h.loads ++ h.steps)) is;
-      no_loads = refl;
-      known = refl;
-      since = hold.knows.since;
-      pin = sym moves.0 ∙ ap (λ (k : Note). pin_after_what h.number h.number k.what h.pin) is;
-      begun = ap (λ t. if t then h.begun else trace_of b.opened (noted b.opened ns h n)) (sym (ne_eqb (suc h.pin) h.pin (λ same. absurd (omega (arith, same)))));
-      lawful = lawful;
-      kept = λ inside. subst (λ (q : Sizes). IsQuiet q.buckets (trace_of b.opened (noted b.opened ns h n)) (trace_of b.opened (noted b.opened ns h n))) (sym hold.knows.sized) (hold_moved.knows.kept inside);
-    }
+    holds_moved m made is = grind (arith, moves, ne_eqb, lawful, hold_moved)

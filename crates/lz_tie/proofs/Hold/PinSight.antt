@@ -1,11 +1,10 @@
 -- The pen finds a pin word in a hold, and notes it.
-use Rattle.std.proofs.Common.{◌≡◌, ◌≢◌, ⊎_elim, ℕ, true, List, [], ◌∷◌, refl, sym, ap, ◌∙◌, subst, arith, eq-eqb, ne_eqb, le_refl, ◌≤◌, if◌then◌else◌}
+use Rattle.std.proofs.Common.{◌≡◌, ℕ, true, List, [], ◌∷◌, refl, sym, ap, ◌∙◌, subst, arith, eq-eqb, ne_eqb, le_refl, ◌≤◌, if◌then◌else◌}
 use Rattle.std.proofs.lemmas.Bool.{cases_eq}
-use Rattle.lz_tie.proofs.Vocabulary.{Device, Yard, Calling, HasPass, Sizes, Note, Part, steps_of, pin_after, is_calling, PinTold, found_note, BoardId}
+use Rattle.lz_tie.proofs.Vocabulary.{Device, Yard, Calling, HasPass, Sizes, Note, Part, pin_after, is_calling, PinTold, found_note, BoardId}
 use Rattle.lz_machine.specs.declared.event.Event.TheVariants.{SeePin}
 use Rattle.lz_board.proofs.Upkeep.Splice.{other_step}
 use Rattle.lz_board.proofs.Upkeep.PartUpkeep.{knows_found}
-use Rattle.lz_tie.specs.NotedRuns.{seen_event}
 use Rattle.lz_tie.specs.Held.{IsNextOf}
 use Rattle.lz_tie.specs.Holds.{IsLocked, InHold, IsTurn}
 use Rattle.lz_tie.proofs.Reuse.EventUpkeep.{silent_told}
@@ -22,15 +21,7 @@ found_locked b ns y dev l q v low high told =
     }
 
 found_told : (z : Sizes) (ns : List Note) (p pin q v : ℕ) → 1 ≤ p → (p ≡ q → pin ≡ v) → PinTold z ns p pin → PinTold z (found_note q v ∷ ns) p pin
-found_told z ns p pin q v low same told = ⊎_elim
-    (λ (here : q ≡ p).
-    let is : pin_after p (found_note q v ∷ ns) ≡ pin = ap (λ b. if b then v else pin_after p ns) (eq-eqb q p here) ∙ sym (same (sym here)) in
-    record { past = subst (λ m. m ≤ pin) (sym is) (le_refl pin); worn = told.worn; calling = λ calling. is })
-    (λ (away : q ≢ p).
-    let is : pin_after p (found_note q v ∷ ns) ≡ pin_after p ns = ap (λ b. if b then v else pin_after p ns) (ne_eqb q p away) in
-    let steps : steps_of p (found_note q v ∷ ns) ≡ steps_of p ns = other_step [] p (found_note q v) ns (λ is. absurd (omega (arith, low, is))) in
-    record { past = subst (λ m. m ≤ pin) (sym is) told.past; worn = told.worn; calling = λ calling. is ∙ told.calling (subst (λ l. is_calling z l ≡ true) steps calling) })
-    (cases_eq q p)
+found_told z ns p pin q v low same told = grind (arith, eq-eqb, le_refl, ne_eqb, other_step, cases_eq)
 
 found_hold : (b : BoardId) (ns : List Note) (y : Yard) (dev : Device) (h : Part) → InHold b ns y dev h → (q v : ℕ) → 1 ≤ q → q ≤ b.sizes.passes → PinTold b.sizes ns q v → (h.number ≡ q → h.pin ≡ v) → InHold b (found_note q v ∷ ns) y dev h
 found_hold b ns y dev h hold q v low high told own = record {
@@ -46,12 +37,7 @@ found b ns ns' y dev h h' hold q v range told own notes part = subst (λ (x : Li
 
 -- and a look at that word is the next event of a call that looks at it
 pub found_turn : (ns ns' : List Note) (h : Part) (c : Calling) (q o v : ℕ) → IsNextOf h c (SeePin q o) → ns' ≡ found_note q v ∷ ns → IsTurn ns' h c (SeePin q v)
-found_turn ns ns' h c q o v next notes = subst (λ (x : List Note). IsTurn x h c (SeePin q v)) (sym notes) record {
-  call = next.call;
-  event = ap (SeePin q) (sym (ap (λ b. if b then v else pin_after q ns) (eq-eqb q q refl))) ∙ ap (seen_event (λ r. pin_after r (found_note q v ∷ ns))) next.event;
-  load = refl;
-  found = (ns, refl);
-}
+found_turn ns ns' h c q o v next notes = grind (arith, eq-eqb)
 
 -- the pass that is looked at is one of the board's
 pub seen_range : (h : Part) (c : Calling) (q v : ℕ) → IsNextOf h c (SeePin q v) → (1 ≤ q) × (q ≤ h.sizes.passes)

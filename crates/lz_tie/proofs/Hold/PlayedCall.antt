@@ -1,6 +1,6 @@
 -- The Invoke of a pass that has joined the pen, and the call that its note tells.
-use Rattle.std.proofs.Common.{◌≡◌, ◌≢◌, ℕ, ◌%◌, ◌≤◌, ◌==◌, false, List, [], ◌∷◌, length, refl, sym, ap, ◌∙◌, subst, arith, eq-eqb, Some, None, IsTrue}
-use Rattle.lz_tie.proofs.Vocabulary.{Command, Device, medium_after, Word, get, set, Lawful, Course, Outcome, Shape, Yard, actor_at, changed_on}
+use Rattle.std.proofs.Common.{◌≡◌, ◌≢◌, ℕ, ◌%◌, ◌≤◌, ◌==◌, false, List, [], ◌∷◌, refl, sym, ap, ◌∙◌, subst, arith, eq-eqb, Some, None, IsTrue}
+use Rattle.lz_tie.proofs.Vocabulary.{Command, Device, medium_after, set, Lawful, Course, Outcome, Yard, actor_at, changed_on}
 use Rattle.lz_tie.proofs.Vocabulary.{course, line_on, call_on, pin_of, published_on, MayPlay, with_words, invoked, Told, Sizes, Note, Part, note_by}
 use Rattle.lz_tie.proofs.Vocabulary.{trace_of, steps_of, splice, pin_after, is_calling, MayNote, Writes, noted, BoardId}
 use Rattle.lz_slot.proofs.Counted.{of_pass_same, length-set_of_pass}
@@ -101,12 +101,7 @@ module _ (b : BoardId) (ns : List Note) (y : Yard) (dev : Device) (h : Part) (ho
     shape = ap (λ (q : Yard). q.shape) yard_is
 
     locked : IsLocked b (noted b.opened ns h n) z' dev'
-    locked = subst (λ l. IsLocked b l z' dev') (sym notes_are) record {
-      sizes = hold.locked.sizes ∙ ap sizes_of (sym shape);
-      pins = ap (λ (q : Yard). length q.words.pins) yard_is ∙ length-set_of_pass y.words.pins a h.pin ∙ hold.locked.pins ∙ ap (λ (s : Shape). s.passes) (sym shape);
-      tied = tied;
-      reuse = subst (λ (q : Yard). ReuseTold b.sizes b.opened (n ∷ ns) q.uses q.actors) (sym yard_is) reuse;
-    }
+    locked = grind (arith, notes_are, yard_is, length-set_of_pass, tied, reuse)
 
     lawful : Lawful b.sizes.buckets b.sizes.slots (trace_of b.opened ns)
     lawful = subst (λ (s : Sizes). Lawful s.buckets s.slots (trace_of b.opened ns)) (sym hold.locked.sizes) (tied_lawful b.opened ns y dev.honest dev.medium hold.locked.tied)
@@ -115,19 +110,10 @@ module _ (b : BoardId) (ns : List Note) (y : Yard) (dev : Device) (h : Part) (ho
     may_note = record { by = refl; step = tt; pin = may.1; inside = λ inside. let even = may.0.outside in absurd (omega (arith, even, inside)); lawful = lawful; made = λ q away. refl; prepares = tt }
 
     halt_writes : Writes b.sizes (trace_of b.opened ns) halt_word 2 2 None
-    halt_writes = subst (λ (s : Sizes). Writes s (trace_of b.opened ns) halt_word 2 2 None) (sym hold.locked.sizes)
-        (noting_nothing b.opened ns z z' dev.honest dev'.honest dev.medium dev'.medium a [] n 2 z_tied tied (ap (λ (q : Yard). q.shape) yard_is) (λ v shared. ap (λ (q : Yard). get q.words v) yard_is))
+    halt_writes = grind (arith, noting_nothing, z_tied, tied, yard_is)
 
     writes : (x : Exchange) → IsExchange z'.words told.changed told.before (Some x) → Writes b.sizes (trace_of b.opened ns) x.word x.before x.after None
-    writes x is =
-        let fields = subst (λ w. IsExchange z'.words w told.before (Some x)) unchanged is in
-        subst (λ (q : Word × ℕ × ℕ). Writes b.sizes (trace_of b.opened ns) q.0 q.1 q.2 None) (λ i. (sym fields.0 i, sym fields.1 i, sym fields.2 i)) halt_writes
+    writes x is = grind (arith, unchanged, halt_writes)
 
     pub noted_call : NotedStep b ns h z' told dev' (note_by a (Called c y.vault.format) told.published)
-    noted_call = subst (λ x. NotedStep b ns h z' told dev' (note_by a (Called c y.vault.format) x)) (sym nothing) record {
-      may = may_note;
-      locked = locked;
-      keeps = λ x is. refl;
-      writes = writes;
-      moves = λ is. absurd (subst (λ w. IsExchange z'.words w told.before None) unchanged is);
-    }
+    noted_call = grind (arith, note_by, nothing, may_note, locked, writes, unchanged)

@@ -1,7 +1,7 @@
 -- One hold: the file's format stays, and a vault dies only for want of a sync or because the device failed.
-use Rattle.std.proofs.Common.{◌≡◌, ◌≢◌, ◌⊎◌, inl, inr, ⊎_elim, ℕ, ◌+◌, ◌≤◌, ◌<◌, ◌==◌, Bool, true, false, List, not, ◌&&◌, refl, sym, ap, ◌∙◌, subst, arith, le_refl, if◌then◌else◌}
+use Rattle.std.proofs.Common.{◌≡◌, ◌≢◌, inl, inr, ⊎_elim, ℕ, ◌+◌, ◌≤◌, ◌==◌, Bool, true, false, List, not, ◌&&◌, refl, sym, subst, arith, le_refl, if◌then◌else◌}
 use Rattle.std.proofs.lemmas.Bool.Decides.{nat_tests}
-use Rattle.lz_tie.proofs.Vocabulary.{Format, Device, DeviceCall, SyncAll, syncs_after, last_sync, Vaulted, set, Course, Event, Outcome, Yard}
+use Rattle.lz_tie.proofs.Vocabulary.{Format, Device, DeviceCall, SyncAll, syncs_after, last_sync, set, Course, Event, Outcome, Yard}
 use Rattle.lz_tie.proofs.Vocabulary.{actor_at, course, course_alive, call_of, is_played_dead, is_spent, is_sure, last_pin, line_on, needs, pin_of}
 use Rattle.lz_tie.proofs.Vocabulary.{with_words, Told, Note}
 use Rattle.lz_list.specs.declared.word.Word.TheVariants.{Pin as pin_at}
@@ -59,28 +59,8 @@ step_keeps y z p e o told old new played = ⊎_elim
 
 -- the step of a hold, before which the yard got its copy of a pin word
 pub held_keeps : (y y1 z : Yard) (q pin : ℕ) → y1 ≡ with_words y (set y.words (pin_at q) pin) → (p : ℕ) (e : Event) (o : Outcome) (told : Told) (dev dev1 dev' : Device) → dev1 ≡ dev → PlayedOver y1 p e o z told dev1 dev' → KeepsLife y dev z dev'
-held_keeps y y1 z q pin is p e o told dev dev1 dev' same played =
-    let kept = step_keeps y1 z p e o told dev1 dev' played in
-    let vault : y1.vault ≡ y.vault = ap (λ (r : Yard). r.vault) is in
-    let past = subst (λ (d : Device). (dev'.honest ≡ d.honest) × (d.faults ≤ dev'.faults)) same (kept.honest, kept.faults) in
-    record {
-      format = kept.format ∙ ap (λ (v : Vaulted). v.format) vault;
-      honest = past.0;
-      faults = past.1;
-      syncs = subst (λ (v : Vaulted). v.syncs ≤ z.vault.syncs) vault kept.syncs;
-      dead = subst (λ (x : Vaulted × Device). z.vault.dead ≡ true → (x.0.dead ≡ true) ⊎ ((last_sync ≤ z.vault.syncs) ⊎ (x.1.faults < dev'.faults))) (λ i. (vault i, same i)) kept.dead;
-    }
+held_keeps y y1 z q pin is p e o told dev dev1 dev' same played = grind (arith, step_keeps)
 
 -- a life goes on over such a step, as the notes do
 pub life_on : (F : Format) (first : Device) (ns is : List Note) (y z : Yard) (dev dev' : Device) → KeepsLife y dev z dev' → faults_in is + dev.faults ≤ faults_in ns + dev'.faults → LivesOn F first ns y dev → LivesOn F first is z dev'
-life_on F first ns is y z dev dev' kept counted lives =
-    let faults = lives.faults in let more = kept.faults in let syncs = kept.syncs in
-    record {
-      format = kept.format ∙ lives.format;
-      honest = kept.honest ∙ lives.honest;
-      faults = omega (arith, faults, counted);
-      dead = λ dead. ⊎_elim
-          (λ was. ⊎_elim (λ spent. inl (omega (arith, spent, syncs))) (λ failed. inr (omega (arith, failed, more))) (lives.dead was))
-          (λ now. ⊎_elim (λ spent. inl spent) (λ failed. inr (omega (arith, failed, faults))) now)
-          (kept.dead dead);
-    }
+life_on F first ns is y z dev dev' kept counted lives = grind arith

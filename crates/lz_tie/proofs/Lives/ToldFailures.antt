@@ -58,10 +58,7 @@ failed_read p (n ∷ ns) steps (new, before, is, tells, rest) = subst (λ (l : L
     one past t = subst (λ (l : List Transition). failed_in (l ++ before) ≤ faults_with n.what (faults_in ns)) (sym t.steps) (step_failed (run p before).state n t.step before (faults_in ns) t.tells past)
 
     go : (what : What) → failed_in before ≤ faults_in ns → TellsOf (run p before).state n what new → failed_in (new ++ before) ≤ faults_with n.what (faults_in ns)
-    go (Found q v) past t =
-        let none = ap (λ (l : List Transition). failed_in (l ++ before)) t.2.steps ∙ looks_failed t.2.looks q before in
-        let more = more_faults n.what (faults_in ns) in
-        omega (arith, none, more, past)
+    go (Found q v) past t = grind (arith, looks_failed, more_faults)
     go _ past t = one past t
 
 -- At most one call is told that the device failed, and only where a step did.

@@ -143,10 +143,7 @@ module _ (shape : Shape) (p : ℕ) where
           number = ap (λ b. if b then suc (calls_in ns) else last_call_number p ns) (eq-eqb by p is)
 
           fresh : (q : ℕ) → q ≢ p → suc (calls_in ns) ≢ last_call_number q (with_step what)
-          fresh q away same =
-              let high = number_within q ns in
-              let over : suc (calls_in ns) ≡ last_call_number q ns = same ∙ other_number q (step_note what) ns (λ so. away (sym so ∙ is)) in
-              absurd (omega (arith, high, over))
+          fresh q away same = grind (arith, number_within, same, other_number)
 
       other_called : by ≢ p → Own (with_step what)
       other_called away = record {
@@ -177,11 +174,7 @@ module _ (shape : Shape) (p : ℕ) where
 
       -- an event before the reply
       goes_on : reply_in (place shape (steps_of by ns)) ≡ None → Own (with_step event)
-      goes_on none = stays event refl (λ q. refl) (ap (λ r. calls_of p (mark_of_turn (last_call_number by ns) r ++ marks_in shape ns)) none)
-          (⊎_elim
-          (λ (is : by ≡ p). own_told event is ∙ ap (λ r. told_with event r told_at) (ap (λ q. reply_in (place shape (steps_of q ns))) (sym is) ∙ none))
-          (other_told event)
-          (cases_eq by p))
+      goes_on none = grind (arith, stays, own_told, other_told, cases_eq)
 
       -- and the one that gives it
       module _ (reply : Reply) (some : reply_in (place shape (steps_of by ns)) ≡ Some reply) where
@@ -199,9 +192,7 @@ module _ (shape : Shape) (p : ℕ) where
         }
 
         other_ends : by ≢ p → Own (with_step event)
-        other_ends away = stays event refl (λ q. refl)
-            (ends ∙ missed (last_call_number by ns) (ending_of reply) (calls_at ns) (all_numbers (IsOwn ns) (λ j. j ≢ last_call_number by ns) (λ i own. own.1 by away) (calls_at ns) h.apart))
-            (other_told event away)
+        other_ends away = grind (arith, stays, missed, all_numbers, other_told)
 
       played : (r : Option Reply) → reply_in (place shape (steps_of by ns)) ≡ r → Own (with_step event)
       played None none = goes_on none

@@ -1,5 +1,5 @@
 -- The marks of a run are those that its notes show.
-use Rattle.std.proofs.Common.{◌≡◌, ◌≢◌, ⊎_elim, ℕ, zero, suc, ◌≤◌, List, [], ◌∷◌, ◌++◌, length, refl, sym, ap, ◌∙◌, subst, arith, eq-eqb, ne_eqb, if◌then◌else◌, replicate, Option, Some, None}
+use Rattle.std.proofs.Common.{◌≡◌, ◌≢◌, ℕ, zero, suc, ◌≤◌, List, [], ◌∷◌, ◌++◌, length, refl, sym, ap, ◌∙◌, subst, arith, eq-eqb, ne_eqb, if◌then◌else◌, replicate, Option, Some, None}
 use Rattle.std.proofs.lemmas.Bool.{cases_eq}
 use Rattle.std.proofs.lemmas.Option.{same_Some, none-some}
 use Rattle.lz_tie.proofs.Vocabulary.{Command, set_of_pass, Medium, Event, Outcome, Reply, Progress, Start, State, Up, Down, Service, Caller}
@@ -38,12 +38,7 @@ record Marked (start : Start) (p : Point) (ns : List Note) : Type 0 where
 set_numbers : (callers : List (Option Caller)) (n : Note) (ns : List Note) → ((a : ℕ) (caller : Caller) → caller_at callers a ≡ Some caller → caller.number ≡ last_call_number a ns)
     → (b : ℕ) (x : Option Caller) → n.by ≡ b → 1 ≤ b → b ≤ length callers → ((caller : Caller) → x ≡ Some caller → caller.number ≡ last_call_number b (n ∷ ns))
     → (a : ℕ) (caller : Caller) → caller_at (set_of_pass callers b x) a ≡ Some caller → caller.number ≡ last_call_number a (n ∷ ns)
-set_numbers callers n ns numbers b x by low high new a caller at = ⊎_elim
-    (λ (same : a ≡ b).
-    let there : x ≡ Some caller = sym (of_pass_same callers b x None low high) ∙ ap (caller_at (set_of_pass callers b x)) (sym same) ∙ at in
-    new caller there ∙ ap (λ q. last_call_number q (n ∷ ns)) (sym same))
-    (λ (away : a ≢ b). numbers a caller (sym (of_pass_other callers b a x None away) ∙ at) ∙ sym (other_number a n ns (λ same. away (sym same ∙ by))))
-    (cases_eq a b)
+set_numbers callers n ns numbers b x by low high new a caller at = grind (arith, of_pass_same, of_pass_other, other_number, cases_eq)
 
 -- a step that a note tells
 module _ (start : Start) (service : Service) (disk : Medium) (n : Note) (ns : List Note) (count : length service.callers ≡ service.yard.shape.passes)
@@ -61,10 +56,7 @@ module _ (start : Start) (service : Service) (disk : Medium) (n : Note) (ns : Li
   -- what an event of the actor b shows
   event_shows : (b : ℕ) (caller : Caller) (e : Event) (o : Outcome) → caller_at service.callers b ≡ Some caller → n.by ≡ b → n.what ≡ Played e o
       → mark_of_turn caller.number (reply_at caller.progress) ≡ marks_with start.shape n.by n.what ns
-  event_shows b caller e o is by what =
-      ap (λ i. mark_of_turn i (reply_at caller.progress)) (numbers b caller is)
-      ∙ ap (mark_of_turn (last_call_number b ns)) (sym (placed_call b caller is))
-      ∙ ap (λ (x : ℕ × What). marks_with start.shape x.0 x.1 ns) (λ i. (sym by i, sym what i))
+  event_shows b caller e o is by what = grind (arith, placed_call)
 
   event_made : (e : Event) (o : Outcome) → n.what ≡ Played e o → calls_in ns ≡ calls_in (n ∷ ns)
   event_made e o what = ap (λ w. calls_with w (calls_in ns)) (sym what)
@@ -165,11 +157,7 @@ first_none (suc n) (suc zero) = refl
 first_none (suc n) (suc (suc i)) = first_none n (suc i)
 
 reads_marked : (start : Start) (ns : List Note) (steps : List Transition) → IsRun (first_point start) steps → ReadsAs (first_point start) ns steps → Marked start (run (first_point start) steps) ns
-reads_marked start [] steps runs reads = subst (λ (l : List Transition). Marked start (run (first_point start) l) []) (sym reads) record {
-  calls = refl;
-  marks = refl;
-  numbers = λ a caller is. absurd (none-some _ (sym (first_none start.shape.passes a) ∙ is));
-}
+reads_marked start [] steps runs reads = grind (arith, none-some, first_none)
 reads_marked start (n ∷ ns) steps runs (new, before, is, tells, rest) =
     let p = first_point start in
     let past = run_before p new before (subst (IsRun p) is runs) in

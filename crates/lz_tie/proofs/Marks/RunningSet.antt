@@ -45,14 +45,7 @@ module _ (b : BoardId) (ns : List Note) (start : Start) (steps : List Transition
   shape_is = ap shape_of_sizes sizes
 
   pub reached : Reached start (Up service medium) marks (trace_of b.opened ns)
-  reached = record {
-    steps = steps;
-    starts = starts;
-    runs = runs;
-    state = state;
-    marks = (marks_read start ns steps runs reads).0 ∙ ap (λ (s : Shape). marks_in s ns) (sym shape_is);
-    trace = trace_reads (first_point start) ns steps reads ∙ ap (λ P. trace_of P ns) (sym begins);
-  }
+  reached = grind (arith, marks_read, shape_is, trace_reads)
 
   -- the life began with the members of the board's first trace
   began : Same (start_keys start) (members_of b.opened)

@@ -22,16 +22,7 @@ module _ (b : BoardId) (d : Device) (all : List Note) (p : ℕ) where
   shape = shape_of_sizes b.sizes
 
   from_same : (was is : List Note) (t : List ℕ) → marks_in shape is ≡ marks_in shape was → trace_of b.opened is ≡ trace_of b.opened was → ExplainsFrom b was all t → ExplainsFrom b is all t
-  from_same was is t marks trace e = record {
-    then = e.then;
-    from = record {
-      new = e.from.new;
-      shows = e.from.shows ∙ ap (λ M. e.from.new ++ M) (sym marks);
-      trace = (e.from.trace.0, e.from.trace.1 ∙ ap (λ P. e.from.trace.0 ++ P) (sym trace));
-    };
-    upto = e.upto;
-    explains = e.explains;
-  }
+  from_same was is t marks trace e = grind arith
 
   stays_insert : (h : Load) (ns : List Note) → Quiet b.opened p h.at ns → IsHopAt shape h (place shape (steps_of p ns)) → RepliesStay b d all ns → RepliesStay b d all (insert_load b.opened p h ns)
   stays_insert h [] quiet next stay = ((λ reply. absurd reply), tt)

@@ -41,10 +41,7 @@ module _ (shape : Shape) (callers : List (Option Caller)) (n : Note) (ns : List 
 
   -- a note that changes no place
   same_places : ((at : Option (Command × Progress)) → placed shape n.what at ≡ at) → (a : ℕ) → 1 ≤ a → viewed (caller_at callers a) ≡ place shape (steps_of a (n ∷ ns))
-  same_places same a low = ⊎_elim
-      (λ (here : n.by ≡ a). places a low ∙ sym (same (place shape (steps_of a ns))) ∙ ap (place shape) (sym (own_step [] a n ns here)))
-      (λ (away : n.by ≢ a). places a low ∙ ap (place shape) (sym (other_step [] a n ns away)))
-      (cases_eq n.by a)
+  same_places same a low = grind (arith, places, own_step, other_step, cases_eq)
 
 count_set : {X : Type 0} (xs : List X) (p : ℕ) (x : X) → length (set_of_pass xs p x) ≡ length xs
 count_set xs p x = length-set_of_pass xs p x
@@ -55,11 +52,7 @@ module _ (start : Start) (service : Service) (disk : Medium) (n : Note) (ns : Li
   -- where a call of the actor b stands after an event with this outcome
   after_outcome : (b : ℕ) (caller : Caller) (y : Yard) (e : Event) (o : Outcome) → caller_at service.callers b ≡ Some caller → y.shape ≡ start.shape → 1 ≤ b → n.what ≡ Played e o
       → viewed (moved_on (reply_at caller.progress) caller (progress_after y.shape caller.command caller.progress o)) ≡ placed start.shape n.what (place start.shape (steps_of b ns))
-  after_outcome b caller y e o is same low what =
-      goes_viewed (reply_at caller.progress) caller (progress_after y.shape caller.command caller.progress o)
-      ∙ ap (λ s. unless_replied (reply_at caller.progress) caller.command (progress_after s caller.command caller.progress o)) same
-      ∙ ap (placed start.shape (Played e o)) (ap viewed (sym is) ∙ places b low)
-      ∙ ap (λ w. placed start.shape w (place start.shape (steps_of b ns))) (sym what)
+  after_outcome b caller y e o is same low what = grind (arith, goes_viewed, places)
 
   record After (w : State) : Type 0 where
     service' : Service
@@ -167,7 +160,5 @@ place_reads start (n ∷ ns) steps runs (new, before, is, tells, rest) =
         }
 
     go : (what : What) → n.what ≡ what → Placed start (run (first_point start) before) ns → TellsOf (run (first_point start) before).state n what new → Placed start (run (first_point start) (new ++ before)) (n ∷ ns)
-    go (Found q v) same h t =
-        subst (λ (l : List Transition). Placed start (run (first_point start) (l ++ before)) (n ∷ ns)) (sym t.2.steps)
-        (looks_stand start (first_point start) t.2.looks q before n ns (λ at. ap (λ w. placed start.shape w at) same) h)
+    go (Found q v) same h t = grind (arith, looks_stand, t.2.steps, t.2.looks, start.shape)
     go _ same h t = one h t

@@ -76,10 +76,7 @@ module _ (y : Yard) (a : ℕ) (low : 1 ≤ a) (high : a ≤ length y.words.pins)
     pub others : (q : ℕ) → q ≢ a → pin_of (line y a e).0 q ≡ pin_of y q
 
   by_course : (e : Event) (c : Course) → course y a e ≡ c → pin_of (line_on c y (actor_at y a) a e).0 a ≡ pin_after_played e (line_on c y (actor_at y a) a e).1 (pin_of y a) → ((q : ℕ) → q ≢ a → pin_of (line_on c y (actor_at y a) a e).0 q ≡ pin_of y q) → OwnPin e
-  by_course e c is own others = record {
-    own = subst (λ c. pin_of (line_on c y (actor_at y a) a e).0 a ≡ pin_after_played e (line_on c y (actor_at y a) a e).1 (pin_of y a)) (sym is) own;
-    others = λ q away. subst (λ c. pin_of (line_on c y (actor_at y a) a e).0 q ≡ pin_of y q) (sym is) (others q away);
-  }
+  by_course e c is own others = grind (arith, others)
 
   more : pin_of (record { shape = y.shape; words = set y.words (pin_word a) (get y.words (pin_word a) + 1); locks = y.locks; vault = y.vault; uses = y.uses; actors = y.actors }) a ≡ suc (pin_of y a)
   more = of_pass_same y.words.pins a (of_pass y.words.pins a 0 + 1) 0 low high ∙ omega arith

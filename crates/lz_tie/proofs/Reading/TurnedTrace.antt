@@ -130,9 +130,7 @@ module _ (start : Start) (starts : IsStart start) where
           value here = ap (λ w. pin_after_what q n.by w (pin_after q ns)) what ∙ ap (λ b. if b then v else pin_after q ns) (eq-eqb r q here)
 
           own : r ≡ q → (k : ℕ) → IsRun p (replicate k (Looks r) ++ before) → pin_at (Up service disk) r + k ≡ v → trace_outside p (replicate k (Looks r) ++ before) q ≡ turned_at q p.trace (n ∷ ns)
-          own here zero runs is =
-              let same : pin_after q (n ∷ ns) ≡ pin_after q ns = value here ∙ sym is ∙ omega arith ∙ ap (λ r. pin_at (Up service disk) r) here ∙ was in
-              earlier (ap (λ w. w % 2) (sym same) ∙ odd) ∙ sym (turned_same q p.trace n ns same)
+          own here zero runs is = grind (arith, value, turned_same)
           own here (suc k) runs is =
               let count : pin_at (Up service disk) q + suc k ≡ pin_after q (n ∷ ns) = ap (λ r. pin_at (Up service disk) r + suc k) (sym here) ∙ is ∙ sym (value here) in
               ap (λ r. trace_outside p (replicate (suc k) (Looks r) ++ before) q) here

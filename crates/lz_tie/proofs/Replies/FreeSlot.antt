@@ -1,13 +1,12 @@
 -- Where a key is linked the members are fewer than the slots: each has a node, in a slot that holds its key, and so has the new one.
-use Rattle.std.proofs.Common.{◌≡◌, inl, inr, ℕ, zero, suc, ◌<◌, ◌==◌, ◌&&◌, ◌||◌, not, if◌then◌else◌, Bool, true, false, List, [], ◌∷◌, ◌++◌, length, refl, sym, ap, ◌∙◌, subst, arith, nat_eq, length-append}
-use mathlib.Core.Bool.{false≢true}
+use Rattle.std.proofs.Common.{◌≡◌, inl, inr, ℕ, zero, suc, ◌<◌, ◌==◌, ◌&&◌, ◌||◌, not, if◌then◌else◌, Bool, true, false, List, [], ◌∷◌, ◌++◌, length, refl, sym, ◌∙◌, subst, arith, nat_eq, length-append}
 use Rattle.std.specs.List.{IsDistinct}
 use Rattle.std.specs.Cmp.{nat_eq_equiv}
 use Rattle.std.proofs.lemmas.Map.Keys.{IsDistinct-push}
 use Rattle.std.proofs.lemmas.Map.Made.{length-le_from_is_member}
 use Rattle.std.proofs.lemmas.Bool.{cases_Bool, cases_eq, and_parts, not-true, or_cases, or_left, or_right}
 use Rattle.std.proofs.lemmas.Bool.Decides.{nat_tests}
-use Rattle.lz_tie.proofs.Vocabulary.{Keys, Same, members, Trace, has_key, bucket_of, chain_of, key_word, next_link, member, Lawful}
+use Rattle.lz_tie.proofs.Vocabulary.{Keys, Same, members, Trace, bucket_of, key_word, member, Lawful}
 use Rattle.lz_slot.proofs.Sets.{members_among}
 use Rattle.lz_list.specs.declared.publishing.Publishing.TheVariants.{Linked as linked}
 use Rattle.lz_list.proofs.Chains.TraceChain.{words_show_chain}
@@ -59,12 +58,7 @@ picked_members test (x ∷ xs) q = go (test x && not (members (picked test xs) x
 
 module _ (buckets slots k s p : ℕ) (P : Trace) (law : Lawful buckets slots (linked k s p ∷ P)) where
   member_slot : (q : ℕ) → member q P ≡ true → members (slot_keys P slots) q ≡ true
-  member_slot q is = elim (cases_Bool (has_key q (chain_of buckets q P))) [
-    | inl has ↦
-        let at = node_of_key (next_link buckets (bucket_of buckets q) P) (λ t. key_word t P) q 0 (chain_of buckets q P) (words_show_chain buckets slots P law.1 (bucket_of buckets q)).shows has in
-        subst (λ (j : ℕ). members (slot_keys P slots) j ≡ true) at.2 (slot_has P slots at.0 (on_range buckets slots P (bucket_of buckets q) at.0 law.1 at.1))
-    | inr none ↦ absurd (false≢true (sym (unlinked_is_settled buckets q slots P law.1 none).0 ∙ is))
-  ]
+  member_slot q is = grind (arith, cases_Bool, node_of_key, bucket_of, words_show_chain, slot_has, on_range, unlinked_is_settled)
 
   own_slot : members (slot_keys P slots) k ≡ true
   own_slot = subst (λ (j : ℕ). members (slot_keys P slots) j ≡ true) law.0.key (slot_has P slots s law.0.in_range)
@@ -74,10 +68,7 @@ module _ (buckets slots k s p : ℕ) (P : Trace) (law : Lawful buckets slots (li
   keys = picked (keys_in P) (slot_keys P slots)
 
   all_keys : (q : ℕ) → member q P ≡ members keys q
-  all_keys q = elim (cases_Bool (member q P)) [
-    | inl is ↦ is ∙ sym (picked_members (keys_in P) (slot_keys P slots) q ∙ and_true (member q P) (members (slot_keys P slots) q) is (member_slot q is))
-    | inr none ↦ none ∙ sym (picked_members (keys_in P) (slot_keys P slots) q ∙ ap (λ (b : Bool). b && members (slot_keys P slots) q) none)
-  ]
+  all_keys q = grind (arith, cases_Bool, picked_members, and_true, member_slot)
 
   distinct : IsDistinct nat_eq (keys ++ k ∷ [])
   distinct = IsDistinct-push nat_eq_equiv keys k (picked_distinct (keys_in P) (slot_keys P slots)) (sym (members_among keys k) ∙ sym (all_keys k) ∙ law.0.no_member)

@@ -1,8 +1,8 @@
 -- The turn of an Answer: it is done, publishes nothing, and leaves the pass outside.
-use Rattle.std.proofs.Common.{◌≡◌, ◌≢◌, ⊎_elim, ℕ, suc, ◌%◌, ◌==◌, if◌then◌else◌, List, [], length, refl, sym, ap, ◌∙◌, subst, arith, eq-eqb, Option, Some, None}
+use Rattle.std.proofs.Common.{◌≡◌, ◌≢◌, ℕ, suc, ◌%◌, ◌==◌, if◌then◌else◌, List, [], length, refl, sym, ap, ◌∙◌, subst, arith, eq-eqb, Option, Some, None}
 use Rattle.std.proofs.lemmas.Bool.Decides.{nat_tests}
 use Rattle.lz_tie.proofs.Vocabulary.{Command, NoCall, Publishing, Trace, Course, Outcome, Reply, Progress, Yard, actor_at, IsInside, course, line}
-use Rattle.lz_tie.proofs.Vocabulary.{line_on, call_on, published_on, last_pin, reply_at, HasTurn, Relies, View, view_of, own_change, Note, Part}
+use Rattle.lz_tie.proofs.Vocabulary.{call_on, published_on, last_pin, reply_at, HasTurn, Relies, View, view_of, own_change, Note, Part}
 use Rattle.lz_tie.proofs.Vocabulary.{trace_of, pin_after_what, pin_after_played}
 use Rattle.lz_machine.specs.declared.course.Course.TheVariants.{Refused}
 use Rattle.lz_machine.specs.declared.event.Event.TheVariants.{Answer}
@@ -17,10 +17,7 @@ use Rattle.lz_tie.specs.Holds.{Turned}
 use Rattle.lz_tie.proofs.Hold.NoteCondition.{listed_none}
 
 done_in_time : (y : Yard) (a : ℕ) → (line y a Answer).1 ≢ NotNow → (line y a Answer).1 ≡ Done
-done_in_time y a now = ⊎_elim
-    (λ plays. ap (λ (k : Course). (line_on k y (actor_at y a) a Answer).1) plays.1)
-    (λ late. absurd (now (ap (λ (k : Course). (line_on k y (actor_at y a) a Answer).1) late)))
-    (answer_plays y a)
+done_in_time y a now = grind (arith, answer_plays)
 
 publishes_nothing : (y : Yard) (a : ℕ) (c : Course) → published_on c y (actor_at y a) a Answer ≡ []
 publishes_nothing y a (Refused o) = refl

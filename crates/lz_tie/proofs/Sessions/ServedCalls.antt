@@ -69,9 +69,7 @@ module _ (p : ℕ) where
   -- a list that fits it leads to a plain set
   pub fits_plain : (S T : Keys) (L : List ℕ) (calls : AnsweredCalls) (rest : List (Command × Option Reply)) → CutLast calls → Whole p rest → Fits S (marks_alone p (told_after calls rest)) L T → IsPlain S (marks_alone p (told_after calls rest)) T
   fits_plain S T L [] rest cut whole fits = served (suc (length rest)) (marks_alone p rest) S L T whole.ended whole.clean fits
-  fits_plain S T L (call ∷ []) rest cut whole fits =
-      let n = suc (length rest) in
-      served_reply (suc n) n p call.0 call.1 (marks_alone p rest) S L T (omega arith) whole.ended whole.clean fits
+  fits_plain S T L (call ∷ []) rest cut whole fits = grind (arith, served_reply)
   fits_plain S T L (call ∷ next ∷ calls) rest cut whole fits = fits_plain S T L (next ∷ calls) ((call.0, Some call.1) ∷ rest) cut.1 (whole_more call.0 call.1 rest cut.0 whole) fits
 
   -- The set to which the history leads, after these calls, is the one that the pass has seen.

@@ -1,19 +1,19 @@
 -- A pass's load may be put into the notes: they are read as a run then too, by the law that walks move.
-use Rattle.std.proofs.Common.{◌≡◌, ◌≢◌, ◌⊎◌, inl, inr, ⊎_elim, ℕ, zero, suc, ◌+◌, ◌<◌, ◌≤◌, Bool, false, ◌||◌, List, [], ◌∷◌, ◌++◌, length, refl, sym, ap, ◌∙◌, subst, arith, append_assoc, length-append, ne_eqb, replicate, Option, Some, None, IsSome, IsNone}
+use Rattle.std.proofs.Common.{◌≡◌, ◌≢◌, ◌⊎◌, ⊎_elim, ℕ, zero, suc, ◌+◌, ◌<◌, ◌≤◌, Bool, false, ◌||◌, List, [], ◌∷◌, ◌++◌, length, refl, sym, ap, ◌∙◌, subst, arith, append_assoc, length-append, ne_eqb, replicate, Option, Some, None, IsSome, IsNone}
 use mathlib.Core.Bool.{false≢true}
 use Rattle.std.specs.List.{list_any}
 use Rattle.std.proofs.lemmas.Bool.{cases_Bool, cases_eq}
 use Rattle.std.proofs.lemmas.List.Folds.{list_any-append}
-use Rattle.lz_tie.proofs.Vocabulary.{Medium, is_outside, Word, Publishing, Words, get, Trace, word_after, Course, Shape, Yard, actor_at, course, line}
+use Rattle.lz_tie.proofs.Vocabulary.{Medium, Word, Publishing, Words, get, Trace, word_after, Course, Shape, Yard, actor_at, course, line}
 use Rattle.lz_tie.proofs.Vocabulary.{line_on, line_publishes, published_on, pin_of, event_at, loaded, Start, IsStart, State, Up, Down, Service}
 use Rattle.lz_tie.proofs.Vocabulary.{Caller, Transition, Calls, Turn, Fails, Looks, CrashesIn, Point, run, IsRun, MayStep, first_point, caller_at}
-use Rattle.lz_tie.proofs.Vocabulary.{next_event, HasTurn, is_of, SameBut, KeepsRun, next_hop, hop_of, hop_of_caller, TraceSound, Sizes, What, Note}
+use Rattle.lz_tie.proofs.Vocabulary.{next_event, HasTurn, is_of, SameBut, KeepsRun, next_hop, hop_of_caller, TraceSound, Sizes, What, Note}
 use Rattle.lz_tie.proofs.Vocabulary.{Load, as_list, trace_of, steps_of, Extends, load_note, insert_load, Quiet, IsShared, Shown, place}
 use Rattle.lz_list.specs.declared.word.Word.TheVariants.{Head, Link, Key, Pin as PinOf, Halt}
 use Rattle.lz_list.proofs.Tables.WordTable.{table_at}
 use Rattle.lz_machine.specs.declared.course.Course.TheVariants.{Refused, Plays}
 use Rattle.lz_machine.specs.declared.event.Event.TheVariants.{Hop}
-use Rattle.lz_machine.specs.declared.event.Outcome.TheVariants.{Value, Fault, NotNow}
+use Rattle.lz_machine.specs.declared.event.Outcome.TheVariants.{Value, NotNow}
 use Rattle.lz_machine.proofs.Theorem.Reached.{reached_sound, walks_move, up_at}
 use Rattle.lz_board.specs.declared.view.What.TheVariants.{Called, Played, Found}
 use Rattle.lz_board.proofs.Upkeep.Splice.{at_place, other_step}
@@ -31,10 +31,7 @@ words_shown shape words P h Halt in_range = h.halt
 
 -- a load is played, or it comes too early
 hop_course : (y : Yard) (a : ℕ) (w : Word) → (course y a (Hop w) ≡ Plays) ⊎ (course y a (Hop w) ≡ Refused NotNow)
-hop_course y a w = elim (cases_Bool y.vault.dead) [
-  | inl dead ↦ elim (cases_Bool (is_outside (pin_of y a))) [ inl out ↦ inr (rw (dead, out) refl) | inr inside ↦ inl (rw (dead, inside) refl) ]
-  | inr live ↦ elim (cases_Bool (is_outside (pin_of y a))) [ inl out ↦ inr (rw (live, out) refl) | inr inside ↦ inl (rw (live, inside) refl) ]
-]
+hop_course y a w = grind (arith, cases_Bool)
 
 hop_plays : (y : Yard) (a : ℕ) (w : Word) → (line y a (Hop w)).1 ≢ NotNow → course y a (Hop w) ≡ Plays
 hop_plays y a w now = ⊎_elim (λ is. is) (λ is. absurd (now (ap (λ (c : Course). (line_on c y (actor_at y a) a (Hop w)).1) is))) (hop_course y a w)
@@ -58,13 +55,11 @@ any_append f xs ys none rest = list_any-append f xs ys ∙ ap (λ b. b || list_a
 -- what a note tells of one state it tells of another that differs in another actor's call
 same_turn : (a : ℕ) (one other : Service) (b : ℕ) (n : Note) (q q' : Option Caller) → one.yard ≡ other.yard → q ≡ q' → TellsTurn one b q n → TellsTurn other b q' n
 same_turn a one other b n None q' yard same t = absurd t
-same_turn a one other b n (Some caller) q' yard same t = subst (λ (q : Option Caller). TellsTurn other b q n) same
-    (subst (λ (y : Yard). (n.what ≡ Played (next_event y caller) (line y b (next_event y caller)).1) × (as_list n.published ≡ line_publishes y b (next_event y caller))) yard t)
+same_turn a one other b n (Some caller) q' yard same t = grind arith
 
 same_fault : (one other : Service) (n : Note) (q q' : Option Caller) → one.yard ≡ other.yard → q ≡ q' → TellsFault one q n → TellsFault other q' n
 same_fault one other n None q' yard same t = absurd t
-same_fault one other n (Some caller) q' yard same t = subst (λ (q : Option Caller). TellsFault other q n) same
-    (subst (λ (y : Yard). (n.what ≡ Played (next_event y caller) Fault) × (n.published ≡ None)) yard t)
+same_fault one other n (Some caller) q' yard same t = grind arith
 
 same_step : (a : ℕ) (w w' : State) (n : Note) (step : Transition) → n.by ≢ a → SameBut a w w' → TellsStep w n step → TellsStep w' n step
 same_step a (Up one disk) (Up other disk') n (Calls b c) away same t = subst (λ (y : Yard). (n.by ≡ b) × (n.what ≡ Called c y.vault.format) × (n.published ≡ None)) same.0 t
@@ -90,11 +85,7 @@ same_looks a q v (Up one disk) (Up other disk') new same t = record {
 }
 same_looks a q v (Up one disk) (Down shape disk') new same t = absurd same
 same_looks a q v (Down shape disk) (Up other disk') new same t = absurd same
-same_looks a q v (Down shape disk) (Down shape' disk') new same t = record {
-  looks = t.looks;
-  steps = t.steps;
-  found = λ service medium is. absurd (subst IsUp (sym is) tt);
-}
+same_looks a q v (Down shape disk) (Down shape' disk') new same t = grind arith
 
 tells_same : (a : ℕ) (w w' : State) (n : Note) (new : List Transition) → n.by ≢ a → SameBut a w w' → NoteTells w n new → NoteTells w' n new
 tells_same a w w' n new away same t = go n.what t
@@ -156,9 +147,7 @@ module _ (start : Start) (starts : IsStart start) (a : ℕ) (low : 1 ≤ a) (h :
   -- the actor's call, of which the load is the next event
   hop_tells : (service : Service) (q : Option Caller) → IsHopAt start.shape h (viewed q) → service.yard.shape ≡ start.shape → caller_at service.callers a ≡ q → IsSome (hop_of_caller service q)
   hop_tells service None is shape at = absurd is
-  hop_tells service (Some caller) is shape at =
-      let e : next_event service.yard caller ≡ Hop h.word = ap (λ s. loaded service.yard.words (event_at s caller.command caller.progress)) shape ∙ ap (loaded service.yard.words) is in
-      subst (λ e. IsSome (hop_of e)) (sym e) refl
+  hop_tells service (Some caller) is shape at = grind arith
 
   turn_tells : (service : Service) (q : Option Caller) → IsHopAt start.shape h (viewed q) → service.yard.shape ≡ start.shape → HasTurn service a q → h.value ≡ get service.yard.words h.word → TellsTurn service a q (load_note a h)
   turn_tells service None is shape may value = absurd is
