@@ -168,7 +168,7 @@ one_more p keeps = let is : ◌≡◌ {A = ℕ} 2 1 = cc in absurd (omega (arith
 
 -- a call goes on that stands where it stood
 stands_still : (b : BoardId) (F : Format) (was now : Askers) (a : Asked) (q : Posed) → a.question ≡ Some q → GoesAnew b F was now a a → ⊥
-stands_still b F was now a q is (inl again) = let more = again.0 in absurd (omega (arith, more))
+stands_still b F was now a q is (inl again) = let more = again.more in absurd (omega (arith, more))
 stands_still b F was now a q is (inr both) =
     let (question, next, later) = both.2 in
     let same : q ≡ question = cc in
