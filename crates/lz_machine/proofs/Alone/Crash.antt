@@ -1,6 +1,5 @@
 -- Where one actor is alone, each text that a crash may leave holds a set that its calls lead to.
 use Rattle.std.proofs.Common.{◌≡◌, ◌≢◌, inl, inr, ℕ, suc, ◌≤◌, Bool, true, false, List, [], ◌∷◌, ◌++◌, length, Option, Some, None, refl, sym, ap, ◌∙◌, subst, arith}
-use mathlib.Core.Bool.{false≢true}
 use Rattle.std.proofs.lemmas.Bool.{cases_Bool}
 use Rattle.std.proofs.lemmas.Option.{none-some}
 use Rattle.lz_slot.specs.declared.command.Command.{Command}
@@ -97,11 +96,7 @@ module _ (start : Start) (a : ℕ) (service : Service) (disk : Medium) (M : Hist
     here = of_pass_same service.callers a (Some new_call) None actor.0 range
 
     call_told : (H : History) → AloneUp a (suc calls) service H → AloneUp a (suc (suc calls)) calling (Call (suc calls) a c ∷ H)
-    call_told H h = record {
-      others = away (Some new_call) h.others;
-      told = subst (λ (who : Option Caller). IsTold a (suc (suc calls)) who (Call (suc calls) a c ∷ H)) (sym here) (H, refl, omega arith, subst (λ (who : Option Caller). IsTold a (suc calls) who H) none h.told);
-      halted = λ cut. ((h.halted cut).0, subst HasHalting (sym here) (begun_halting (is_old y.vault.format c)));
-    }
+    call_told H h = grind (arith, away, here, begun_halting)
 
     pub call_alone : IsSound start called → AloneAt start a called
     call_alone sound' =
@@ -290,8 +285,7 @@ module _ (start : Start) (a : ℕ) (service : Service) (disk : Medium) (M : Hist
   callers_count none actor = grind arith
 
   pub up_alone : (step : Transition) → IsOwn a step → AloneAfter step
-  up_alone (Calls b d) own may sound' = subst (λ (q : ℕ). AloneAfter (Calls q d)) (sym own) (λ may sound'.
-      let none = none_of (caller_at service.callers a) may.1 in call_alone d may.0 none (callers_count none may.0) sound') may sound'
+  up_alone (Calls b d) own may sound' = grind (arith, none_of, call_alone, callers_count)
   up_alone (Turn b) own may sound' = subst (λ (q : ℕ). AloneAfter (Turn q)) (sym own) (λ may sound'. turn_of (caller_at service.callers a) refl may sound') may sound'
   up_alone (Fails b new) own may sound' = subst (λ (q : ℕ). AloneAfter (Fails q new)) (sym own) (λ may sound'. fault_of new (caller_at service.callers a) refl may sound') may sound'
   up_alone (Looks b) own may sound' = subst (λ (q : ℕ). AloneAfter (Looks q)) (sym own) (λ may sound'. look_alone (none_of (caller_at service.callers a) may.1) sound') may sound'
@@ -307,11 +301,7 @@ module _ (start : Start) (a : ℕ) (service : Service) (disk : Medium) (M : Hist
 
 -- no calls yet
 opened_alone : (a calls : ℕ) (shape : Shape) (t : List ℕ) → AloneUp a (suc calls) (opened_service shape t) []
-opened_alone a calls shape t = record {
-  others = λ b other. pass_of shape.passes b None;
-  told = subst (λ (who : Option Caller). IsTold a (suc calls) who []) (sym (pass_of shape.passes a None)) tt;
-  halted = λ cut. absurd (false≢true cut);
-}
+opened_alone a calls shape t = grind (arith, pass_of)
 
 -- what an open read is its only image
 opened_texts : (a : ℕ) (shape : Shape) (b : Bool) (t u : List ℕ) → MayLeave (Up (opened_service shape t) (at_rest b t)) u → u ≡ t
@@ -342,15 +332,13 @@ module _ (start : Start) (a : ℕ) (shape : Shape) (disk : Medium) (M : History)
 
   pub down_alone : (step : Transition) → IsOwn a step → DownAfter step
   down_alone Trips own may sound' = alone
-  down_alone Stops own may sound' =
-      lives_stay start a down (point_after down Stops) (λ life st h. tt) (λ life t h old leaves list. old t leaves) (lives (start_keys start) M) sound sound' (λ t leaves. left_at start (point_after down Stops) t sound' leaves) alone
+  down_alone Stops own may sound' = grind (arith, lives_stay, left_at)
   down_alone (Crashes u) own may sound' =
       lives_stay start a down (point_after down (Crashes u)) (λ life st h. tt) (λ life t h old leaves list. old t (subst (IsImage disk) (sym (rest_image u t leaves)) may)) (lives (start_keys start) M) sound sound' (λ t leaves. left_at start (point_after down (Crashes u)) t sound' leaves) alone
   down_alone Opens own may sound' = open_alone may
   down_alone (OpenFails why true) own may sound' =
       lives_stay start a down (point_after down (OpenFails why true)) (λ life st h. tt) (λ life t h old leaves list. old t (subst (IsImage disk) (sym (rest_image disk.seen t leaves)) read_image)) (lives (start_keys start) M) sound sound' (λ t leaves. left_at start (point_after down (OpenFails why true)) t sound' leaves) alone
-  down_alone (OpenFails why false) own may sound' =
-      lives_stay start a down (point_after down (OpenFails why false)) (λ life st h. tt) (λ life t h old leaves list. old t leaves) (lives (start_keys start) M) sound sound' (λ t leaves. left_at start (point_after down (OpenFails why false)) t sound' leaves) alone
+  down_alone (OpenFails why false) own may sound' = grind (arith, lives_stay, left_at)
   down_alone _ own may sound' = absurd may
 
 step_alone : (start : Start) (a : ℕ) (w : State) (M : History) (P : Trace) (calls : ℕ) (step : Transition) → IsOwn a step → MayStep w step → IsSound start (point w M P calls) → AloneAt start a (point w M P calls) → IsSound start (point_after (point w M P calls) step) → AloneAt start a (point_after (point w M P calls) step)

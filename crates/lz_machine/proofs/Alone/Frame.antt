@@ -1,5 +1,5 @@
 -- What an event leaves of the other actors, where one actor is alone, and of the slots whose gate isn't durable to be open.
-use Rattle.std.proofs.Common.{◌≡◌, ◌≢◌, ◌⊎◌, ⊎_elim, inl, inr, ℕ, zero, suc, ◌%◌, Bool, true, false, List, [], ◌∷◌, length, map, Option, Some, None, refl, sym, ap, ◌∙◌, subst, arith, length-set, get_or-set_same, get_or-set_other}
+use Rattle.std.proofs.Common.{◌≡◌, ◌≢◌, ◌⊎◌, inl, inr, ℕ, zero, suc, ◌%◌, Bool, true, false, List, [], ◌∷◌, map, Option, Some, None, refl, sym, ap, ◌∙◌, arith, length-set, get_or-set_same, get_or-set_other}
 use Rattle.std.specs.Prelude.{if◌then◌else◌, slice_set}
 use mathlib.Core.Bool.{false≢true}
 use Rattle.std.proofs.lemmas.Bool.{cases_eq, cases_lt}
@@ -8,7 +8,7 @@ use Rattle.lz_slot.specs.Counted.{of_pass}
 use Rattle.lz_slot.proofs.Counted.{of_pass_other}
 use Rattle.lz_vault.specs.declared.vault.Stage.{Stage}
 use Rattle.lz_vault.specs.declared.vault.Stage.TheVariants.{Opening, Closing}
-use Rattle.lz_vault.specs.Stages.{Cell, cell_synced, stage_put}
+use Rattle.lz_vault.specs.Stages.{Cell, cell_synced}
 use Rattle.lz_list.specs.Words.{change_flags}
 use Rattle.lz_list.specs.Locks.{is_pair_free}
 use Rattle.lz_flush.specs.Settling.{settle}
@@ -19,9 +19,8 @@ use Rattle.lz_machine.specs.declared.actor.Hold.TheVariants.{Nothing, Locks}
 use Rattle.lz_machine.specs.declared.event.Event.{Event}
 use Rattle.lz_machine.specs.declared.event.Event.TheVariants.{Invoke, Pin, Reserve, WriteKey, Claim, Check, WriteOpen, Link, WriteClose, Mark, Release, Sync, Settle, Unlink, Retire, SeePin, Answer}
 use Rattle.lz_machine.specs.declared.event.Outcome.TheVariants.{NotNow, Dead}
-use Rattle.lz_vault.specs.Members.{no_cell}
 use Rattle.lz_machine.specs.Yards.{Yard, idle_actor, actor_at, cell_at, cell_in, stage_in}
-use Rattle.lz_machine.specs.Table.{course, course_alive, line, line_on, pin_of, is_played_dead, actors_after, words_after, cells_after, uses_after, reserved, is_sure, set_actor, slot_of}
+use Rattle.lz_machine.specs.Table.{course, course_alive, line, line_on, pin_of, is_played_dead, actors_after, words_after, cells_after, uses_after, reserved, is_sure, set_actor}
 use Rattle.lz_allot.specs.Uses.{Use, Taken, collect, lowest_free}
 use Rattle.lz_machine.proofs.Alone.Sights.{HasLeft, left_set, left_collect, left_seen}
 use Rattle.lz_machine.proofs.Steps.Unlink.{redirect_pins}
@@ -91,13 +90,7 @@ NoneOpening cells = (s : ℕ) → stage_in cells s ≢ Opening
 
 -- one cell of a list
 pub cell_cases : (cells : List Cell) (r s : ℕ) (x : Cell) → ((s ≡ r) × (cell_in (slice_set cells r x) s ≡ x)) ⊎ (cell_in (slice_set cells r x) s ≡ cell_in cells s)
-cell_cases cells r s x = elim (cases_eq s r) [
-  | inl same ↦ elim (cases_lt s (length cells)) [
-    | inl lt ↦ inl (same, subst (λ (q : ℕ). cell_in (slice_set cells q x) s ≡ x) same (get_or-set_same cells s x no_cell lt))
-    | inr past ↦ inr (get_or_past (slice_set cells r x) s no_cell (omega (arith, past, length-set cells r x)) ∙ sym (get_or_past cells s no_cell past))
-  ]
-  | inr other ↦ inr (get_or-set_other cells r s x no_cell other)
-]
+cell_cases cells r s x = grind (arith, cases_eq, cases_lt, get_or-set_same, get_or_past, length-set, get_or-set_other)
 
 pub synced_none : (cells : List Cell) → NoneOpening (map cell_synced cells)
 synced_none [] s is = absurd cc
@@ -109,15 +102,10 @@ is_opening_event WriteOpen = true
 is_opening_event _ = false
 
 set_none : (cells : List Cell) (r k : ℕ) (stage : Stage) → stage ≢ Opening → NoneOpening cells → NoneOpening (slice_set cells r (record { stage = stage; key = k }))
-set_none cells r k stage other none s is = ⊎_elim
-    (λ set. other (sym (ap (λ (x : Cell). x.stage) set.1) ∙ is))
-    (λ same. none s (sym (ap (λ (x : Cell). x.stage) same) ∙ is))
-    (cell_cases cells r s (record { stage = stage; key = k }))
+set_none cells r k stage other none s is = grind (arith, cell_cases)
 
 pub none_stays : (y : Yard) (actor : Actor) (e : Event) → is_opening_event e ≡ false → NoneOpening y.vault.cells → NoneOpening (cells_after y actor e)
-none_stays y actor (WriteKey k) other none =
-    let stage = stage_put y.vault.format (stage_in y.vault.cells (slot_of actor)) in
-    set_none y.vault.cells (slot_of actor) k stage (λ is. opened_shut stage (inl is) (put_free y.vault.format (stage_in y.vault.cells (slot_of actor)))) none
+none_stays y actor (WriteKey k) other none = grind (arith, set_none, opened_shut, put_free)
 none_stays y actor WriteOpen other none = absurd (false≢true (sym other))
 none_stays y actor WriteClose other none = set_none y.vault.cells _ _ Closing (λ is. absurd cc) none
 none_stays y actor (Sync s) other none = go (is_sure y s)

@@ -63,9 +63,7 @@ own_up service disk _ one count may = tt
 
 own_step : (start : Start) (w : State) (M : History) (P : Trace) (calls : ℕ) (step : Transition) → start.shape.passes ≡ 1 → MayStep w step → (L : List Life) → PointSound start (point w M P calls) L → IsOwn 1 step
 own_step start w M P calls step one may [] sound = absurd sound
-own_step start (Up service disk) M P calls step one may (life ∷ earlier) sound =
-    let passes : service.yard.shape.passes ≡ 1 = ap (λ shape. shape.passes) sound.0 ∙ one in
-    own_up service disk step passes (sound.2.2.sound.callers.count ∙ passes) may
+own_step start (Up service disk) M P calls step one may (life ∷ earlier) sound = grind (arith, own_up)
 own_step start (Down shape disk) M P calls (Calls b c) one may (life ∷ earlier) sound = absurd may
 own_step start (Down shape disk) M P calls (Turn b) one may (life ∷ earlier) sound = absurd may
 own_step start (Down shape disk) M P calls (Fails b new) one may (life ∷ earlier) sound = absurd may

@@ -15,12 +15,11 @@ use Rattle.lz_vault.specs.Stages.{MayRead}
 use Rattle.lz_vault.specs.Vaults.{DeviceCall, medium_after}
 use Rattle.lz_allot.specs.declared.counts.Counts.{Counts}
 use Rattle.lz_list.specs.Traces.{Trace}
-use Rattle.lz_machine.specs.declared.actor.Actor.{Actor}
 use Rattle.lz_machine.specs.declared.event.Reply.{Reply}
 use Rattle.lz_machine.specs.declared.event.Reply.TheVariants.{Yes, No, Full, OldFile, Device}
 use Rattle.lz_machine.specs.declared.caller.Progress.{Progress}
 use Rattle.lz_machine.specs.declared.caller.Progress.TheVariants.{Answering}
-use Rattle.lz_machine.specs.Yards.{Shape, Yard, slots_read, opened_yard, first_trace, idle_actor, cell_in, pin_in}
+use Rattle.lz_machine.specs.Yards.{Shape, Yard, first_trace, cell_in, pin_in}
 use Rattle.lz_machine.specs.Table.{line, line_failed, is_old}
 use Rattle.lz_machine.specs.Calls.{first_progress, halts, begun}
 use Rattle.lz_machine.specs.Runs.{Start, IsStart, Caller, Service, State, Up, Down, Transition, Calls, Turn, Fails, Looks, Stops, Crashes, CrashesIn, Opens, OpenFails, Point, MayStep, HasTurn, HasFault, IsRun, run, first_point, point_after, state_after, trace_after, caller_at, next_event, reply_at, moved_on, after_turn, after_fault, opened_service, marks_of_turn, mark_of, turn_publishes, start_keys, looked, invoked}
@@ -58,16 +57,7 @@ FullAt a (Down shape disk) P = Unit {0}
 
 -- a service that is opened
 opened_full : (a : ℕ) (shape : Shape) (t : List ℕ) (P : Trace) (disk : Medium) → FullAt a (Up (opened_service shape t) disk) P
-opened_full a shape t P disk = subst (λ (who : Option Caller). AloneFull a (opened_yard shape t) who P) (sym (pass_of shape.passes a None)) (record {
-  others = λ b other. record {
-    outside = ap (λ (v : ℕ). v % 2) (pass_of shape.passes b 0);
-    slot = ap (λ (x : Actor). x.slot) (pass_of shape.passes b idle_actor);
-    hold = ap (λ (x : Actor). x.hold) (pass_of shape.passes b idle_actor);
-  };
-  left = λ no s seen is. absurd (no_limbo_read (slots_read t shape.slots) s seen is);
-  opening = λ lives s is. absurd (no_opening_read (slots_read t shape.slots) s is);
-  stands = tt;
-})
+opened_full a shape t P disk = grind (arith, pass_of, no_limbo_read, no_opening_read)
 
 module _ (n calls : ℕ) (y : Yard) (callers : List (Option Caller)) (disk : Medium) (M : History) (P : Trace) (notes : Notes) (sound : Sound n calls y callers disk M P notes) (a : ℕ) (h : AloneFull a y (caller_at callers a) P) where
   abbrev serving : Service

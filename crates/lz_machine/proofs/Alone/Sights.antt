@@ -1,6 +1,6 @@
 -- What has been seen of the passes, where one actor is alone: which limbo slots a pass has left.
 use Rattle.std.proofs.Common.{◌≡◌, ◌≢◌, ◌⊎◌, ⊎_elim, inl, inr, ℕ, zero, suc, ◌≤◌, ◌%◌, true, false, List, [], ◌∷◌, length, refl, sym, ap, ◌∙◌, subst, arith, length-set, get_or-set_same, get_or-set_other}
-use Rattle.std.specs.Prelude.{slice_set, slice_index_or}
+use Rattle.std.specs.Prelude.{slice_set}
 use Rattle.std.specs.List.{list_all}
 use mathlib.Core.Bool.{false≢true}
 use Rattle.std.proofs.lemmas.Bool.{cases_eq, cases_lt}
@@ -30,10 +30,7 @@ set_cases uses r s u = elim (cases_eq s r) [
 ]
 
 pub left_set : (uses : List Use) (r b : ℕ) (u : Use) → ((seen : List Sight) → u ≢ Limbo seen) → HasLeft uses b → HasLeft (slice_set uses r u) b
-left_set uses r b u no_limbo left s seen is = ⊎_elim
-    (λ set. absurd (no_limbo seen (sym set ∙ is)))
-    (λ same. left s seen (sym same ∙ is))
-    (set_cases uses r s u)
+left_set uses r b u no_limbo left s seen is = grind (arith, set_cases)
 
 collect_limbo : (u : Use) (seen : List Sight) → collect_at u ≡ Limbo seen → (u ≡ Limbo seen) × (list_all has_left seen ≡ false)
 collect_limbo u seen is = grind arith
@@ -48,21 +45,12 @@ left_collect uses b left s seen is = left s seen (collected_limbo uses s seen is
 sight_cases : (seen : List Sight) (p b : ℕ) (x : Sight) → ((b ≡ p) × (of_pass (set_of_pass seen p x) b Left ≡ x)) ⊎ (of_pass (set_of_pass seen p x) b Left ≡ of_pass seen b Left)
 sight_cases seen zero b x = inr refl
 sight_cases seen (suc i) zero x = inr refl
-sight_cases seen (suc i) (suc j) x = elim (cases_eq j i) [
-  | inl same ↦ elim (cases_lt j (length seen)) [
-    | inl lt ↦ inl (ap suc same, subst (λ (q : ℕ). slice_index_or (slice_set seen q x) j Left ≡ x) same (get_or-set_same seen j x Left lt))
-    | inr past ↦ inr (get_or_past (slice_set seen i x) j Left (omega (arith, past, length-set seen i x)) ∙ sym (get_or_past seen j Left past))
-  ]
-  | inr other ↦ inr (get_or-set_other seen i j x Left other)
-]
+sight_cases seen (suc i) (suc j) x = grind (arith, cases_eq, cases_lt, get_or-set_same, get_or_past, length-set, get_or-set_other)
 
 -- what is looked at of a pass itself
 own_sight : (seen : List Sight) (p : ℕ) (x : Sight) → (of_pass (set_of_pass seen p x) p Left ≡ x) ⊎ (of_pass (set_of_pass seen p x) p Left ≡ Left)
 own_sight seen zero x = inr refl
-own_sight seen (suc i) x = elim (cases_lt i (length seen)) [
-  | inl lt ↦ inl (get_or-set_same seen i x Left lt)
-  | inr past ↦ inr (get_or_past (slice_set seen i x) i Left (omega (arith, past, length-set seen i x)))
-]
+own_sight seen (suc i) x = grind (arith, cases_lt, get_or-set_same, get_or_past, length-set)
 
 seen_limbo : (p v : ℕ) (u : Use) (seen : List Sight) → see_pin_at p v u ≡ Limbo seen → (old : List Sight) × (u ≡ Limbo old) × (seen ≡ set_of_pass old p (sight_after v (of_pass old p Left)))
 seen_limbo p v (Limbo x) seen is = (x, refl, sym (limbo_same is))

@@ -277,13 +277,7 @@ module _ (n calls : ℕ) (service : Service) (disk : Medium) (life : Life) (P : 
   ]
 
   image_has : HasList N life P t
-  image_has = record {
-    found = now;
-    calls = numbers (listed (kept_rows P drop (entries service.yard.shape.passes service.callers notes)) (length P) ++ tail.rows);
-    holds = image_holds;
-    fits = image_fits;
-    lasts = record { has = lasts_yes; lacks = lasts_no };
-  }
+  image_has = grind (arith, image_holds, image_fits, lasts_yes, lasts_no)
 
 -- each image holds a set, and the life has a list that leads to it
 pub images_fit : (n calls : ℕ) (service : Service) (disk : Medium) (life : Life) (P : Trace) (notes : Notes) → UpSound n calls service disk life P notes → (t : List ℕ) → IsImage disk t → HasList service.yard.shape.slots life P t

@@ -189,9 +189,7 @@ module _ (n calls : ℕ) (y : Yard) (callers : List (Option Caller)) (disk : Med
 
         go : (hold : Hold) → (actor_in y.actors a).hold ≡ hold → opens y.vault.dead hold ≡ true → IsGateOpened (stage_in y.vault.cells s) → key_word s P ≡ k → IsOpened y P s k
         go Checked at does stage word = opened stage (ap rests_on_pair at) ((resting Checked at).beside s hand) word
-        go GateOpened at does stage word =
-            let h = resting GateOpened at in
-            opened stage (ap rests_on_pair at) (subst (λ (q : ℕ). IsBeside y.shape.buckets (key_word q P) (actor_in y.actors a).pred (actor_in y.actors a).curr P) (same_Some _ _ (sym h.slot ∙ hand)) h.beside) word
+        go GateOpened at does stage word = grind (arith, resting, same_Some, hand)
         go _ at does stage word = absurd (false≢true does)
 
     -- a slot that is read as a key's is its node's, or an actor has opened it for the key

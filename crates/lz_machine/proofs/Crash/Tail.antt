@@ -99,9 +99,7 @@ module _ (n calls : ℕ) (y : Yard) (callers : List (Option Caller)) (disk : Med
   own_chain s k at = subst (λ (q : ℕ). on 0 (chain_of y.shape.buckets q P) (suc s) ≡ true) (sym at.1) at.0
 
   pub asks_removal : (s k : ℕ) → IsNodeOf y P s k → is_marked s P ≡ false → is_opening (stage_in y.vault.cells s) ≡ false → IsReadShut (slot_at t s) → asks y P t s ≡ Some (Remove k)
-  asks_removal s k at no_mark not_opening shut =
-      asked_removal (on 0 (chain_of y.shape.buckets (key_word s P) P) (suc s)) (is_marked s P) (is_opening (stage_in y.vault.cells s)) (key_word s P) (slot_at t s) (own_chain s k at) no_mark not_opening shut
-      ∙ ap (λ (q : ℕ). Some (Remove q)) at.1
+  asks_removal s k at no_mark not_opening shut = grind (arith, asked_removal, own_chain)
 
   -- a call of the command is under way
   removal_waits : (s k : ℕ) → s < y.shape.slots → on 0 (chain_of y.shape.buckets (key_word s P) P) (suc s) ≡ true → is_marked s P ≡ false → is_opening (stage_in y.vault.cells s) ≡ false → IsReadShut (slot_at t s) → key_word s P ≡ k → IsWaiting (Remove k) (entries y.shape.passes callers notes) M

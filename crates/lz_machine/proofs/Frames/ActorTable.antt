@@ -1,5 +1,5 @@
 -- One actor's step: what was changed of it, and that the others' is as before.
-use Rattle.std.proofs.Common.{◌≡◌, ◌≢◌, ℕ, List, ap, ◌∙◌, arith}
+use Rattle.std.proofs.Common.{◌≡◌, ◌≢◌, ℕ, List, arith}
 use Rattle.lz_machine.specs.declared.actor.Actor.{Actor}
 use Rattle.lz_machine.specs.Yards.{actor_in}
 
@@ -10,5 +10,4 @@ by_actor A a mine others b = grind arith
 -- what one actor keeps when it becomes x stays for all
 pub field_stays : (A : Type 0) (field : Actor → A) (actors actors' : List Actor) (a : ℕ) (x : Actor) → actor_in actors' a ≡ x → ((b : ℕ) → b ≢ a → actor_in actors' b ≡ actor_in actors b)
     → field x ≡ field (actor_in actors a) → (b : ℕ) → field (actor_in actors' b) ≡ field (actor_in actors b)
-field_stays A field actors actors' a x hand_a hand_b mine =
-    by_actor (λ b. field (actor_in actors' b) ≡ field (actor_in actors b)) a (ap field hand_a ∙ mine) (λ b other. ap field (hand_b b other))
+field_stays A field actors actors' a x hand_a hand_b mine = grind (arith, by_actor)

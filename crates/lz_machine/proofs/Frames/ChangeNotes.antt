@@ -80,9 +80,7 @@ told_ended new a P notes last even b n inside low told = elim (cases_eq b a) [
 
 -- it ends as its pass goes out
 pub told_out : (pins : List ℕ) (a : ℕ) (P : Trace) (notes : Notes) (last : List Row) → pin_in pins a % 2 ≡ 1 → 1 ≤ a → a ≤ length pins → IsTold (set_of_pass pins a (pin_in pins a + 1)) P notes.changed P (ends_now notes a last).changed
-told_out pins a P notes last odd low high =
-    let now : pin_in (set_of_pass pins a (pin_in pins a + 1)) a ≡ pin_in pins a + 1 = of_pass_same pins a (pin_in pins a + 1) 0 low high in
-    told_ended (set_of_pass pins a (pin_in pins a + 1)) a P notes last (omega (arith, now, odd))
+told_out pins a P notes last odd low high = grind (arith, of_pass_same, told_ended)
 
 -- a trace has no change beyond its end
 pub none_beyond : (b n : ℕ) (P : Trace) → length P ≤ n → own_change b n P ≡ None

@@ -1,6 +1,6 @@
 -- The key that a call writes is one that the file can hold.
 use Rattle.std.specs.Prelude.{nat_lt}
-use Rattle.std.proofs.Common.{◌≡◌, ℕ, zero, suc, ◌≤◌, false, Option, Some, None, refl, subst, arith}
+use Rattle.std.proofs.Common.{◌≡◌, ℕ, zero, suc, ◌≤◌, false, Option, Some, None, refl, arith}
 use Rattle.std.proofs.lemmas.Option.{none-some}
 use Rattle.std.proofs.lemmas.Bool.Decides.{nat_tests}
 use Rattle.lz_slot.specs.declared.command.Command.{Command}
@@ -66,6 +66,4 @@ module _ (words : Words) (shape : Shape) (v : View) (c : Command) (P0 P : Trace)
   writes _ h is = absurd (none-some _ is)
 
   pub writes_fitting : (at : Progress) → (is_before_pin at ≡ false → is_old v.format c ≡ false) → Relies v c at P0 P changed → Writes at → k ≤ largest_of v.format
-  writes_fitting at fits h is =
-      let own = writes at h is in
-      subst (λ (q : ℕ). q ≤ largest_of v.format) own.1 (adds_fitting v.format c own.0 (fits own.2))
+  writes_fitting at fits h is = grind (arith, writes, adds_fitting)

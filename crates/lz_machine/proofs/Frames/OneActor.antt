@@ -27,10 +27,7 @@ use Rattle.lz_machine.proofs.Ledger.Order.{times_append}
 -- an actor with a call is one of the service's
 pub caller_range : (callers : List (Option Caller)) (a : ℕ) (caller : Caller) → caller_at callers a ≡ Some caller → (1 ≤ a) × (a ≤ length callers)
 caller_range callers zero caller at = absurd (none-some _ at)
-caller_range callers (suc i) caller at = elim (cases_lt i (length callers)) [
-  | inl within ↦ (omega arith, omega (arith, within))
-  | inr past ↦ absurd (none-some _ (sym (get_or_past callers i None past) ∙ at))
-]
+caller_range callers (suc i) caller at = grind (arith, cases_lt, none-some, get_or_past)
 
 -- the call where it has come to next
 abbrev pub moved : Caller → Progress → Caller
@@ -58,9 +55,7 @@ module _ (callers : List (Option Caller)) (a : ℕ) (caller : Caller) (at : call
   row_of_moved (Some j) = refl
 
   same_row : (changed : ℕ → Option ℕ) (b : ℕ) → pending_row (caller_at (moving callers a caller next) b) (changed b) ≡ pending_row (caller_at callers b) (changed b)
-  same_row changed = by_actor (λ b. pending_row (caller_at (moving callers a caller next) b) (changed b) ≡ pending_row (caller_at callers b) (changed b)) a
-      (ap (λ (q : Option Caller). pending_row q (changed a)) moved_same ∙ row_of_moved (changed a) ∙ ap (λ (q : Option Caller). pending_row q (changed a)) (sym at))
-      (λ b other. ap (λ (q : Option Caller). pending_row q (changed b)) (moved_other b other))
+  same_row changed = grind (arith, by_actor, moved_same, row_of_moved, moved_other)
 
   same_pending : (changed : ℕ → Option ℕ) (m : ℕ) → pending (moving callers a caller next) changed m ≡ pending callers changed m
   same_pending changed zero = refl
@@ -71,12 +66,7 @@ module _ (callers : List (Option Caller)) (a : ℕ) (caller : Caller) (at : call
 
   -- what is said of each open call, of its number and command
   pub number_still : (b : ℕ) (one : Caller) → caller_at (moving callers a caller next) b ≡ Some one → (old : Caller) × (caller_at callers b ≡ Some old) × (old.number ≡ one.number) × (old.command ≡ one.command)
-  number_still b one is = elim (cases_eq b a) [
-    | inl same ↦
-        let new = same_Some _ _ (sym moved_same ∙ ap (caller_at (moving callers a caller next)) (sym same) ∙ is) in
-        (caller, ap (caller_at callers) same ∙ at, ap (λ (q : Caller). q.number) new, ap (λ (q : Caller). q.command) new)
-    | inr other ↦ (one, sym (moved_other b other) ∙ is, refl, refl)
-  ]
+  number_still b one is = grind (arith, cases_eq, same_Some, moved_same, moved_other)
 
   pub ledger_turn : (n calls passes : ℕ) (P : Trace) (M : History) (notes : Notes) → LedgerSound n calls passes callers P M notes → LedgerSound n calls passes (moving callers a caller next) P M notes
   ledger_turn n calls passes P M notes h =
@@ -138,8 +128,7 @@ has_pending callers changed a j caller at does (suc m) low le none = elim (cases
 
 -- a call that has changed something has a row
 pub has_entry : (passes a j : ℕ) (callers : List (Option Caller)) (notes : Notes) (caller : Caller) → caller_at callers a ≡ Some caller → notes.changed a ≡ Some j → a ≤ passes → times caller.number (entries passes callers notes) ≡ 0 → ⊥
-has_entry passes a j callers notes caller at does le none =
-    has_pending callers notes.changed a j caller at does passes (caller_range callers a caller at).0 le (omega (arith, none, times_append caller.number notes.ended (pending callers notes.changed passes)))
+has_entry passes a j callers notes caller at does le none = grind (arith, has_pending, caller_range, times_append)
 
 -- what is known of the actor whose turn it is
 pub mine : (shape : Shape) (vault : Vaulted) (pins : List ℕ) (actors : List Actor) (callers : List (Option Caller)) (P : Trace) (notes : Notes) (a : ℕ) (caller : Caller)

@@ -67,7 +67,4 @@ module _ (buckets slots k x s p : ℕ) (P : Trace) (law : Lawful buckets slots P
 
       still : (z : ℕ) → y ≡ z → on 0 (chain_of buckets j P) z ≡ true → bucket_of buckets k ≡ bucket_of buckets j → on 0 (without k (chain_of buckets j P)) z ≡ true
       still zero is_y there same = on_start 0 (without k (chain_of buckets j P))
-      still (suc t) is_y there same =
-          let shown = words_show_chain buckets slots P law (bucket_of buckets j) in
-          let node : on 0 (chain_of buckets j P) (suc s) ≡ true = subst (λ (b : ℕ). on 0 (chain buckets b P) (suc s) ≡ true) same node_there in
-          on_without_other (next_link buckets (bucket_of buckets j) P) (λ t. key_word t P) k t 0 (chain_of buckets j P) shown.shows (λ key. (apart (sym same)).1 (is_y ∙ one_node (next_link buckets (bucket_of buckets j) P) (λ t. key_word t P) 0 (chain_of buckets j P) shown.shows (suc t) (suc s) there node (omega (arith, mine.before.key)))) there
+      still (suc t) is_y there same = grind (arith, words_show_chain, node_there, on_without_other, one_node)

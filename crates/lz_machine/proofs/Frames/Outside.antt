@@ -45,8 +45,7 @@ worn_out actor pin last = ap (λ (q : ℕ). (q == last_pin) || (is_outside q && 
 
 -- a refused call
 pub refused_out : (actor : Actor) (pin : ℕ) → pin % 2 ≡ 0 → actor.refused ≡ true → stays_out actor pin ≡ true
-refused_out actor pin even refused =
-    ap (λ (b : Bool). (pin == last_pin) || (b && actor.refused)) (outside_even pin even) ∙ ap (λ (b : Bool). (pin == last_pin) || b) refused ∙ or_true (pin == last_pin)
+refused_out actor pin even refused = grind (arith, outside_even, or_true)
 
 -- its Answer has what it needs
 pub out_needs : (actor : Actor) (pin : ℕ) → stays_out actor pin ≡ true → (not (is_outside pin) || stays_out actor pin) ≡ true

@@ -1,5 +1,5 @@
 -- What is noted of a pass when it goes in: the trace as it was.
-use Rattle.std.proofs.Common.{◌≡◌, ◌≢◌, inl, inr, ℕ, ◌+◌, ◌≤◌, ◌%◌, ◌==◌, if◌then◌else◌, Bool, true, false, List, length, refl, ap, ◌∙◌, subst, arith}
+use Rattle.std.proofs.Common.{◌≡◌, ◌≢◌, inl, inr, ℕ, ◌+◌, ◌≤◌, ◌%◌, ◌==◌, if◌then◌else◌, Bool, true, false, List, length, ap, subst, arith}
 use Rattle.std.proofs.lemmas.Bool.{cases_eq}
 use Rattle.std.proofs.lemmas.Bool.Decides.{nat_tests}
 use Rattle.lz_slot.specs.Counted.{set_of_pass}
@@ -13,9 +13,7 @@ IsNoted pins new P begun noted = (b : ℕ) → IsInside (pin_in new b) → (IsIn
 
 -- the pins stay
 pub noted_same : (pins new : List ℕ) (P : Trace) (begun : ℕ → Trace) → new ≡ pins → IsNoted pins new P begun begun
-noted_same pins new P begun same b inside =
-    let was : IsInside (pin_in pins b) = subst (λ (q : List ℕ). IsInside (pin_in q b)) same inside in
-    ((λ still. refl), λ even. absurd (omega (arith, was, even)))
+noted_same pins new P begun same b inside = grind arith
 
 module _ (pins : List ℕ) (a : ℕ) (P : Trace) (begun : ℕ → Trace) where
   abbrev counted : List ℕ
@@ -37,9 +35,4 @@ module _ (pins : List ℕ) (a : ℕ) (P : Trace) (begun : ℕ → Trace) where
 
   -- the pass goes out
   pub noted_out : pin_in pins a % 2 ≡ 1 → 1 ≤ a → a ≤ length pins → IsNoted pins counted P begun begun
-  noted_out odd low high b inside = elim (cases_eq b a) [
-    | inl same ↦
-        let now : pin_in counted b ≡ pin_in pins a + 1 = ap (pin_in counted) same ∙ of_pass_same pins a (pin_in pins a + 1) 0 low high in
-        absurd (omega (arith, now, odd, inside))
-    | inr other ↦ ((λ _. refl), λ was. absurd (omega (arith, was, other_pin b other inside)))
-  ]
+  noted_out odd low high b inside = grind (arith, cases_eq, of_pass_same, other_pin)

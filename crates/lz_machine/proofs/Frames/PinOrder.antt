@@ -1,12 +1,12 @@
 -- A call that was made after another one's answer has pinned after it, after each turn, look and pin too. And the life began as before.
-use Rattle.std.proofs.Common.{◌≡◌, ◌≢◌, ◌⊎◌, ⊎_elim, inl, inr, ℕ, ◌<◌, ◌≤◌, Bool, true, false, List, [], ◌∷◌, ◌++◌, length, Option, Some, None, refl, sym, ap, ◌∙◌, subst, arith}
+use Rattle.std.proofs.Common.{◌≡◌, ◌≢◌, ◌⊎◌, ⊎_elim, inl, inr, ℕ, ◌≤◌, Bool, false, List, [], ◌∷◌, ◌++◌, length, Option, Some, None, refl, sym, ◌∙◌, subst, arith}
 use Rattle.std.proofs.lemmas.Bool.{cases_Bool, cases_eq}
 use Rattle.std.proofs.lemmas.Option.{none-some}
 use Rattle.lz_slot.specs.Sets.{Keys}
 use Rattle.lz_slot.specs.Counted.{set_of_pass}
-use Rattle.lz_slot.specs.Histories.{History, IsAnswered, IsBefore}
+use Rattle.lz_slot.specs.Histories.{History, IsAnswered}
 use Rattle.lz_slot.proofs.Counted.{of_pass_same, of_pass_other}
-use Rattle.lz_list.specs.Traces.{Trace, member, linking, is_settled}
+use Rattle.lz_list.specs.Traces.{Trace}
 use Rattle.lz_machine.specs.declared.caller.Progress.{Progress}
 use Rattle.lz_machine.specs.Runs.{Caller, caller_at}
 use Rattle.lz_machine.specs.Ledgers.{Row, HasRow}
@@ -28,14 +28,7 @@ AddsOpen rows rows' M = (r : Row) → HasRow r rows' → HasRow r rows ⊎ ((ans
 -- a turn that leaves pins and history
 pub turn_after : (pins pins' : List ℕ) (callers : List (Option Caller)) (a : ℕ) (caller : Caller) (at : caller_at callers a ≡ Some caller) (next : Progress) (rows rows' : List Row) (M : History) (begun : ℕ → Trace)
     → pins' ≡ pins → AddsOpen rows rows' M → IsAfter pins callers rows M begun → IsAfter pins' (moving callers a caller next) rows' M begun
-turn_after pins pins' callers a caller at next rows rows' M begun same adds h = record {
-  each = λ b one r at_b inside has before.
-      let old = number_still callers a caller at next b one at_b in
-      ⊎_elim
-      (λ there. h.each b old.0 r old.1 (subst (λ (q : List ℕ). IsInside (pin_in q b)) same inside) there (subst (λ (q : ℕ). IsBefore M r.number q) (sym old.2) before))
-      (λ none. let told = was_answered r.number one.number M before in absurd (none told.0 told.1))
-      (adds r has);
-}
+turn_after pins pins' callers a caller at next rows rows' M begun same adds h = grind (arith, number_still, was_answered)
 
 -- the same rows add none
 pub adds_none : (rows rows' : List Row) (M : History) → rows' ≡ rows → AddsOpen rows rows' M
@@ -67,51 +60,25 @@ module _ (n calls passes : ℕ) (callers : List (Option Caller)) (P : Trace) (M 
   row_is r has = each_has (IsRowOf n P) r (entries passes callers notes) ledger.ledger.each has
 
   at_pin : (r : Row) → HasRow r (entries passes callers notes) → (r.position ≤ length P) × (r.position ≡ length P → r.changes ≡ false)
-  at_pin r has = (
-    (row_is r has).late,
-    λ last. elim (cases_Bool r.changes) [
-      | inl does ↦ absurd (omega (arith, last, ((row_is r has).changing does).within))
-      | inr none ↦ none
-    ],
-  )
+  at_pin r has = grind (arith, row_is, cases_Bool)
 
   -- the callers may be others, with the same numbers
   pub pin_after : (pins : List ℕ) (a v : ℕ) (callers' : List (Option Caller)) → ((b : ℕ) → b ≢ a → caller_at callers' b ≡ caller_at callers b) → (rows' : List Row) → rows' ≡ entries passes callers notes
       → IsAfter pins callers (entries passes callers notes) M notes.begun → IsAfter (set_of_pass pins a v) callers' rows' M (begins_now notes a P).begun
-  pin_after pins a v callers' others rows' same h = record {
-    each = λ b one r at_b inside has before. elim (cases_eq b a) [
-      | inl me ↦
-          subst (λ (q : Trace). (r.position ≤ length q) × (r.position ≡ length q → r.changes ≡ false)) (sym (ap (begins_now notes a P).begun me ∙ begun_same notes a P))
-          (at_pin r (subst (HasRow r) same has))
-      | inr other ↦
-          subst (λ (q : Trace). (r.position ≤ length q) × (r.position ≡ length q → r.changes ≡ false)) (sym (begun_other notes a P b other))
-          (h.each b one r (sym (others b other) ∙ at_b) (subst IsInside (of_pass_other pins a b v 0 other) inside) (subst (HasRow r) same has) before)
-    ];
-  }
+  pin_after pins a v callers' others rows' same h = grind (arith, cases_eq, begun_same, at_pin, begun_other, of_pass_other)
 
 -- the pass that goes in does so in this life
 pub since_pin : (n : ℕ) (pins : List ℕ) (P : Trace) (notes : Notes) (a v : ℕ) → n ≤ length P → ((b : ℕ) → IsInside (pin_in pins b) → n ≤ length (notes.begun b)) → (b : ℕ) → IsInside (pin_in (set_of_pass pins a v) b) → n ≤ length ((begins_now notes a P).begun b)
-since_pin n pins P notes a v opened h b inside = elim (cases_eq b a) [
-  | inl me ↦ subst (λ (q : Trace). n ≤ length q) (sym (ap (begins_now notes a P).begun me ∙ begun_same notes a P)) opened
-  | inr other ↦ subst (λ (q : Trace). n ≤ length q) (sym (begun_other notes a P b other)) (h b (subst IsInside (of_pass_other pins a b v 0 other) inside))
-]
+since_pin n pins P notes a v opened h b inside = grind (arith, cases_eq, begun_same, begun_other, of_pass_other)
 
 -- a pass that goes out
 pub since_out : (n : ℕ) (pins : List ℕ) (begun : ℕ → Trace) (a v : ℕ) → IsInside (pin_in pins a) ⊎ (IsInside v → ⊥) → 1 ≤ a → a ≤ length pins → ((b : ℕ) → IsInside (pin_in pins b) → n ≤ length (begun b)) → (b : ℕ) → IsInside (pin_in (set_of_pass pins a v) b) → n ≤ length (begun b)
-since_out n pins begun a v outside low high h b inside = elim (cases_eq b a) [
-  | inl me ↦ ⊎_elim (λ was. h b (subst (λ (q : ℕ). IsInside (pin_in pins q)) (sym me) was)) (λ never. absurd (never (subst IsInside (ap (λ (q : ℕ). pin_in (set_of_pass pins a v) q) me ∙ of_pass_same pins a v 0 low high) inside))) outside
-  | inr other ↦ h b (subst IsInside (of_pass_other pins a b v 0 other) inside)
-]
+since_out n pins begun a v outside low high h b inside = grind (arith, cases_eq, of_pass_same, of_pass_other)
 
 -- a pass without a call that goes out
 pub out_after : (pins : List ℕ) (a v : ℕ) (callers : List (Option Caller)) (rows : List Row) (M : History) (begun : ℕ → Trace) → caller_at callers a ≡ None
     → IsAfter pins callers rows M begun → IsAfter (set_of_pass pins a v) callers rows M begun
-out_after pins a v callers rows M begun none h = record {
-  each = λ b one r at_b inside has before. elim (cases_eq b a) [
-    | inl me ↦ absurd (none-some _ (sym none ∙ ap (caller_at callers) (sym me) ∙ at_b))
-    | inr other ↦ h.each b one r at_b (subst IsInside (of_pass_other pins a b v 0 other) inside) has before
-  ];
-}
+out_after pins a v callers rows M begun none h = grind (arith, cases_eq, none-some, of_pass_other)
 
 longer : (Q P : Trace) → length P ≤ length (Q ++ P)
 longer [] P = omega arith
@@ -124,9 +91,4 @@ upto_grown n (e ∷ Q) P le = upto_more n e (Q ++ P) (omega (arith, le, longer Q
 
 -- so the life began as it did
 pub begun_grown : (n : ℕ) (found : Keys) (Q P : Trace) → n ≤ length P → HasBegun n found P → HasBegun n found (Q ++ P)
-begun_grown n found Q P le h =
-    let same = sym (upto_grown n Q P le) in
-    record {
-      members = λ k. subst (λ (R : Trace). member k R ≡ found k) same (h.members k);
-      sure = λ k. subst (λ (R : Trace). 0 < linking k R → (member k R ≡ true) × (is_settled (linking k R) R ≡ true)) same (h.sure k);
-    }
+begun_grown n found Q P le h = grind (arith, upto_grown)

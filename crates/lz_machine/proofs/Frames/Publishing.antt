@@ -1,6 +1,6 @@
 -- What a caller relies on stays when another actor publishes.
 use Rattle.lz_vault.specs.Stages.{Cell}
-use Rattle.std.proofs.Common.{List, ◌≡◌, ◌⊎◌, ⊎_elim, inl, inr, ℕ, zero, suc, Bool, true, false, ◌∷◌, Option, Some, None, refl, sym, ap, ◌∙◌, subst, arith}
+use Rattle.std.proofs.Common.{List, ◌≡◌, ◌⊎◌, inl, inr, ℕ, zero, suc, Bool, true, false, ◌∷◌, Option, Some, None, refl, sym, ap, ◌∙◌, subst, arith}
 use mathlib.Core.Bool.{false≢true}
 use Rattle.std.proofs.lemmas.Bool.{cases_Bool}
 use Rattle.std.proofs.lemmas.Bool.Decides.{eqb_tells}
@@ -14,7 +14,7 @@ use Rattle.lz_list.specs.declared.publishing.Publishing.TheVariants.{Linked as l
 use Rattle.lz_list.specs.declared.walk.Look.{Look}
 use Rattle.lz_list.specs.declared.walk.Look.TheVariants.{AtHead, AtKey, AtMet, AtBelow}
 use Rattle.lz_list.specs.Words.{place_number, link_to}
-use Rattle.lz_list.specs.Traces.{Trace, May, has_key, Lawful, Adjacent, on, chain, chain_of, bucket_of, key_word, linking, linking_in, is_removed, halt_word, member, rank_at, next_link}
+use Rattle.lz_list.specs.Traces.{Trace, May, has_key, Lawful, Adjacent, on, chain, chain_of, bucket_of, key_word, linking, linking_in, is_removed, halt_word, rank_at, next_link}
 use Rattle.lz_list.specs.Pinned.{Stood, IsKept, IsQuiet}
 use Rattle.lz_list.specs.Laws.{IsHigh}
 use Rattle.lz_list.proofs.Chains.PlaceRank.{adjacent_on, has_on}
@@ -32,10 +32,9 @@ use Rattle.lz_machine.specs.declared.caller.Sequence.TheVariants.{Pinning, Resti
 use Rattle.lz_machine.specs.declared.caller.Progress.{Progress}
 use Rattle.lz_machine.specs.declared.caller.Progress.TheVariants.{Playing, LoadsHalt, Walking, Reserving, SeeingPins, Claiming, Checking, Answering}
 use Rattle.lz_machine.specs.Runs.{Caller}
-use Rattle.lz_machine.specs.Kept.{upto}
 use Rattle.lz_machine.specs.Stands.{IsWalking, WasBetween}
 use Rattle.lz_machine.specs.Yards.{IsInside}
-use Rattle.lz_machine.specs.CallersSound.{View, IsWritten, IsAimed, IsBeyond, HasEnded, IsLooking, IsSince, RestsYes, RestsNo, WasAbsent, IsSettledChange, MayAnswer, HasAdded, HasMarked, MayRest, IsEmptyHanded, ReliesWriting, ReliesAdding, ReliesRemoving, ReliesOn, Relies, IsCaller, CallerSound, is_before_pin, side_of}
+use Rattle.lz_machine.specs.CallersSound.{View, IsWritten, IsAimed, IsBeyond, HasEnded, IsLooking, IsSince, RestsYes, RestsNo, WasAbsent, IsSettledChange, MayAnswer, HasAdded, HasMarked, MayRest, IsEmptyHanded, ReliesWriting, ReliesAdding, ReliesRemoving, ReliesOn, Relies, IsCaller, CallerSound, is_before_pin}
 use Rattle.lz_machine.specs.SlotsSound.{shuts}
 use Rattle.lz_machine.proofs.Ledger.Growth.{upto_more, yes_stays, no_stays}
 use Rattle.lz_machine.proofs.Frames.Outside.{side_even}
@@ -107,9 +106,7 @@ module _ (buckets slots : ℕ) (e : Publishing) (P : Trace) (law : Lawful bucket
 
     beyond_stays : (k : ℕ) (pred : Place) (curr : Option ℕ) → WasBetween buckets k pred (link_to curr) P0 P → IsBeyond k P curr → IsBeyond k (e ∷ P) curr
     beyond_stays k pred curr h (inl high) = inl (high_stays k pred curr h high)
-    beyond_stays k pred curr h (inr (t, is, key, mark)) =
-        let there = met_there k pred curr t h is in
-        inr (t, is, word_stays k pred t k there key, mark_stays buckets slots P0 (bucket_of buckets k) t e P kept (next_is k pred t there) mark)
+    beyond_stays k pred curr h (inr (t, is, key, mark)) = grind (arith, met_there, word_stays, mark_stays, kept, next_is)
 
     pub ended_stays : (c : Command) (aim : Option ℕ) (pred : Place) (curr : Option ℕ) → HasEnded c aim buckets P0 P pred curr → HasEnded c aim buckets P0 (e ∷ P) pred curr
     ended_stays (Add k) (Some s) pred curr h = (between_stays k pred (link_to curr) h.0, beyond_stays k pred curr h.0 h.1)
@@ -123,17 +120,7 @@ module _ (buckets slots : ℕ) (e : Publishing) (P : Trace) (law : Lawful bucket
     looking_stays k (AtBelow s) h = walking_stays k (suc s) h
 
     pub added_stays : (k s : ℕ) (changed : Option ℕ) → HasAdded buckets k s P0 P changed → HasAdded buckets k s P0 (e ∷ P) changed
-    added_stays k s changed h =
-        let at = upto_more (suc h.at) e P (omega (arith, h.within)) in
-        record {
-          at = h.at;
-          is = h.is;
-          within = omega (arith, h.within);
-          in_slot = linking_stays buckets slots P0 (bucket_of buckets k) s e P law quiet h.stood ∙ h.in_slot;
-          is_member = ap (λ (R : Trace). member k R) at ∙ h.is_member;
-          named = ap (λ (R : Trace). linking k R) at ∙ h.named;
-          stood = inr h.stood;
-        }
+    added_stays k s changed h = grind (arith, upto_more, linking_stays)
 
   pub since_stays : (P0 R : Trace) → IsSince P0 R P → IsSince P0 R (e ∷ P)
   since_stays P0 R h = record { from = h.from; upto = inr h.upto }
@@ -151,14 +138,7 @@ module _ (buckets slots : ℕ) (e : Publishing) (P : Trace) (law : Lawful bucket
   absent_stays k P0 h = record { then = h.then; since = since_stays P0 h.then h.since; gone = h.gone }
 
   pub change_stays : (k : ℕ) (changed : Option ℕ) → IsSettledChange k P changed → IsSettledChange k (e ∷ P) changed
-  change_stays k changed h =
-      let at = upto_more (suc h.at) e P (omega (arith, h.within)) in
-      record {
-        at = h.at;
-        is = h.is;
-        within = omega (arith, h.within);
-        settled = ⊎_elim (λ yes'. inl (rw at (yes_stays e P (upto (suc h.at) P) k yes'))) (λ no'. inr (rw at (no_stays e P (upto (suc h.at) P) k no'))) h.settled;
-      }
+  change_stays k changed h = grind (arith, upto_more, yes_stays, no_stays)
 
   answer_stays : (c : Command) (reply : Reply) (P0 : Trace) (changed : Option ℕ) → MayAnswer c reply P0 P changed → MayAnswer c reply P0 (e ∷ P) changed
   answer_stays (Has k) Yes P0 changed h = (h.0, rests_yes_stays k P0 h.1)
@@ -216,27 +196,15 @@ module _ (buckets slots : ℕ) (e : Publishing) (P : Trace) (law : Lawful bucket
     node_word_stays t k is hold at relies key = node_word t (bucket_of buckets (key_word t P)) (node_there t is hold at relies) ∙ key
 
     marked_stays : (k t : ℕ) → actor.curr ≡ Some t → actor.hold ≡ Marked → HasMarked k t P changed → HasMarked k t (e ∷ P) changed
-    marked_stays k t is at h =
-        let more = upto_more (suc h.at) e P (omega (arith, h.within)) in
-        record {
-          at = h.at;
-          is = h.is;
-          within = omega (arith, h.within);
-          key = node_word_stays t k is Marked at refl h.key;
-          gone = ap (λ (R : Trace). member k R) more ∙ h.gone;
-          named = ap (λ (R : Trace). linking k R) more ∙ h.named ∙ sym (node_linking t (bucket_of buckets (key_word t P)) (node_there t is Marked at refl));
-        }
+    marked_stays k t is at h = grind (arith, upto_more, node_word_stays, node_linking, node_there)
 
     removed_stays : (k t : ℕ) → actor.curr ≡ Some t → actor.hold ≡ Marked → key_word t P ≡ k → is_removed (linking k P) P ≡ true → is_removed (linking k (e ∷ P)) (e ∷ P) ≡ true
-    removed_stays k t is at key removed =
-        let there = subst (λ (q : ℕ). on 0 (chain_of buckets q P) (suc t) ≡ true) key (node_there t is Marked at refl) in
-        ap (λ (n : ℕ). is_removed n (e ∷ P)) (key_linking k t there key) ∙ removed_later (linking k P) P (e ∷ P) (inr (begins_itself P)) removed
+    removed_stays k t is at key removed = grind (arith, node_there, key_linking, removed_later, begins_itself)
 
     removing_stays : (k s i : ℕ) → actor.curr ≡ Some s → ReliesRemoving v k s i P changed → ReliesRemoving v k s i (e ∷ P) changed
     removing_stays k s zero is h = (h.0, node_word_stays s k is Checked h.0 refl h.1, h.2)
     removing_stays k s (suc zero) is h = (h.0, node_word_stays s k is GateClosed h.0 refl h.1, h.2)
-    removing_stays k s (suc (suc (suc (suc zero)))) is h =
-        (h.0, node_word_stays s k is Marked h.0 refl h.1, removed_stays k s is h.0 h.1 h.2, change_stays k changed h.3)
+    removing_stays k s (suc (suc (suc (suc zero)))) is h = grind (arith, node_word_stays, removed_stays, change_stays)
     removing_stays k s (suc (suc (suc (suc (suc zero))))) is h = (h.0, change_stays k changed h.1)
     removing_stays k s (suc (suc (suc (suc (suc (suc zero)))))) is h = (h.0, change_stays k changed h.1)
     removing_stays k s (suc (suc (suc (suc (suc (suc (suc i))))))) is h = absurd h
@@ -282,19 +250,8 @@ module _ (buckets slots : ℕ) (e : Publishing) (P : Trace) (law : Lawful bucket
 
     caller_stands : (caller : Option Caller) → (IsInside pin → IsQuiet buckets P0 P) → IsCaller v pin caller P0 P changed → IsCaller v pin caller P0 (e ∷ P) changed
     caller_stands None quiet h = (idle_stays actor h.0, h.1)
-    caller_stands (Some caller) quiet h = (
-      h.0,
-      h.1,
-      elim (cases_Bool (is_before_pin caller.progress)) [
-        | inl before ↦ outside_stays caller.command caller.progress before h.2
-        | inr after ↦ let inside : IsInside pin = side_even pin caller.progress h.0 ∙ ap side_of after in relies_stays inside (quiet inside) caller.command caller.progress h.2
-      ],
-    )
+    caller_stands (Some caller) quiet h = grind (arith, cases_Bool, outside_stays, side_even, relies_stays)
 
     -- so the caller stays sound
     pub caller_published : (caller : Option Caller) → CallerSound v pin caller P0 P changed → CallerSound v pin caller P0 (e ∷ P) changed
-    caller_published caller h = record {
-      quiet = λ inside. (leaves.kept inside, h.quiet inside);
-      begins = λ inside. inr (h.begins inside);
-      stands = caller_stands caller h.quiet h.stands;
-    }
+    caller_published caller h = grind (arith, caller_stands)

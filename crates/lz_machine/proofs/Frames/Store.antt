@@ -59,16 +59,7 @@ module _ (shape : Shape) (words : Words) (P : Trace) (trace : TraceSound shape w
     key_other t other = let apart : (s == t) ≡ false = grind (arith, nat_tests, other) in rw apart refl
 
     pub trace_key : TraceSound shape (set words (key_at s) v) (key_prepared s v ∷ P)
-    trace_key = record {
-      lawful = (loose, trace.lawful);
-      some = trace.some;
-      small = trace.small;
-      heads = trace.heads;
-      links = trace.links;
-      keys = ap (λ (l : List ℕ). slice_set l s v) trace.keys ∙ table_set shape.slots (λ t. word_after buckets P (key_at t)) (λ t. word_after buckets (key_prepared s v ∷ P) (key_at t)) s v lt key_same key_other;
-      halt = trace.halt;
-      pins = trace.pins;
-    }
+    trace_key = grind (arith, table_set, key_same, key_other)
 
     -- a next link is written, without bits
     link_same : word_after buckets (link_prepared s v ∷ P) (link_at s) ≡ v

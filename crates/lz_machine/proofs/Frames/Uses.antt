@@ -40,10 +40,7 @@ pub record KeepsUses (old new : List Use) : Type 0 where
 -- a pass that is inside is one of the table's
 pub inside_range : (pins : List ℕ) (a : ℕ) → IsInside (pin_in pins a) → (1 ≤ a) × (a ≤ length pins)
 inside_range pins zero inside = absurd (omega (arith, inside))
-inside_range pins (suc i) inside = elim (cases_lt i (length pins)) [
-  | inl within ↦ (omega arith, omega (arith, within))
-  | inr past ↦ absurd (omega (arith, inside, get_or_past pins i 0 past))
-]
+inside_range pins (suc i) inside = grind (arith, cases_lt, get_or_past)
 
 -- pins are seen
 module _ (p v : ℕ) where

@@ -1,6 +1,5 @@
 -- The ledger where a call changes something: its row, without an answer yet, is put among those of the open calls.
 use Rattle.std.proofs.Common.{◌≡◌, ◌≢◌, ◌⊎◌, ⊎_elim, inl, inr, ℕ, zero, suc, ◌<◌, ◌≤◌, ◌+◌, ◌==◌, ◌&&◌, if◌then◌else◌, Bool, true, false, List, [], ◌∷◌, ◌++◌, length, Option, Some, None, refl, sym, ap, ◌∙◌, subst, arith, append_assoc}
-use mathlib.Core.Bool.{false≢true}
 use Rattle.std.proofs.lemmas.Bool.{cases_Bool, cases_eq, cases_lt}
 use Rattle.std.proofs.lemmas.Bool.Decides.{nat_tests, eqb_tells}
 use Rattle.std.proofs.lemmas.List.{append-nil}
@@ -202,17 +201,7 @@ module _ (n calls passes : ℕ) (callers : List (Option Caller)) (e : Publishing
   upto_now = upto_more (length P) e P (omega arith) ∙ upto_all (length P) P (omega arith)
 
   row_is : IsRowOf n (e ∷ P) r
-  row_is = record {
-    early = sound.opened;
-    late = omega arith;
-    quiet = λ no_change. absurd (false≢true (sym no_change));
-    changing = λ does. record {
-      within = omega arith;
-      answer = inl refl;
-      was = ap (λ (R : Trace). reply caller.command (member (key_of caller.command) R)) upto_now ∙ was;
-      changed = ap (changes_key (key_of caller.command)) (last_publishing e P) ∙ shows;
-    };
-  }
+  row_is = grind (arith, was, upto_now, last_publishing)
 
   row_in : IsRowIn M r
   row_in = grind arith

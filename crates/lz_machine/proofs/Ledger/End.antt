@@ -40,17 +40,7 @@ module _ (p r : Row) (same : p.command ≡ r.command) where
 
   -- a row that changes alone at its position is put elsewhere
   moved_change : (f : Publishing) (A C D : List Row) → IsChangeOf f (A ++ (C ++ (p ∷ D))) → IsChangeOf f ((A ++ r ∷ []) ++ (C ++ D))
-  moved_change f A C D h =
-      let le = short f (A ++ (C ++ (p ∷ D))) h in
-      let count = length_app A (C ++ (p ∷ D)) in
-      let more = length_app C (p ∷ D) in
-      let a_nil = is_nil A (omega (arith, le, count, more)) in
-      let c_nil = is_nil C (omega (arith, le, count, more)) in
-      let d_nil = is_nil D (omega (arith, le, count, more)) in
-      subst (λ (x : List Row). IsChangeOf f ((x ++ r ∷ []) ++ (C ++ D))) (sym a_nil)
-      (subst (λ (x : List Row). IsChangeOf f (r ∷ (x ++ D))) (sym c_nil)
-      (subst (λ (x : List Row). IsChangeOf f (r ∷ x)) (sym d_nil)
-      (swapped f (subst (λ (x : List Row). IsChangeOf f (p ∷ x)) d_nil (subst (λ (x : List Row). IsChangeOf f (x ++ (p ∷ D))) c_nil (subst (λ (x : List Row). IsChangeOf f (x ++ (C ++ (p ∷ D)))) a_nil h))))))
+  moved_change f A C D h = grind (arith, short, length_app, is_nil, swapped)
 
 -- what a mark that ends a call says: it is no call, and an answer or a refusal is of this one
 pub record EndsCall (m : Mark) (i : ℕ) (leaves_tail : Bool) : Type 0 where
@@ -211,10 +201,7 @@ module _ (n calls passes : ℕ) (callers : List (Option Caller)) (P : Trace) (M 
       ]
 
       new_answer : (j : ℕ) (b : Bool) → m ≡ Answer j b → (r : Row) × HasRow r ((E ++ last) ++ (F ++ B)) × (r.number ≡ j)
-      new_answer j b now =
-          let same : j ≡ i = (ends.answers j b now).0 in
-          let found = is_last.answered b (now ∙ ap (λ (q : ℕ). Answer q b) same) in
-          (found.0, last_new i E F B pended last (all_pend (notes.changed a)) is_last.all none_left found.0 found.1, each_has (λ r. r.number ≡ i) found.0 last is_last.all found.1 ∙ sym same)
+      new_answer j b now = grind (arith, last_new, all_pend, none_left, each_has)
 
       old_answer : (j : ℕ) (b : Bool) → IsAnswered M j b → (r : Row) × HasRow r ((E ++ last) ++ (F ++ B)) × (r.number ≡ j)
       old_answer j b is =
@@ -259,10 +246,7 @@ module _ (n calls passes : ℕ) (callers : List (Option Caller)) (P : Trace) (M 
 
   -- where neither the pending row nor the last one changes anything at a position
   change_kept : (j : ℕ) → change_at j pended ≡ [] → change_at j last ≡ [] → change_at j (entries passes (ending callers a) notes') ≡ change_at j (entries passes callers notes)
-  change_kept j no_pend no_last =
-      ap (change_at j) new_is ∙ change_append j (E ++ last) (F ++ B) ∙ ap (λ (l : List Row). l ++ change_at j (F ++ B)) (change_append j E last ∙ ap (λ (l : List Row). change_at j E ++ l) no_last ∙ append-nil (change_at j E))
-      ∙ ap (λ (l : List Row). change_at j E ++ l) (change_append j F B ∙ ap (λ (l : List Row). change_at j F ++ l) (sym (change_append j pended B ∙ ap (λ (l : List Row). l ++ change_at j B) no_pend)) ∙ sym (change_append j F (pended ++ B)))
-      ∙ sym (change_append j E (F ++ (pended ++ B))) ∙ sym (ap (change_at j) old_is)
+  change_kept j no_pend no_last = grind (arith, new_is, change_append, append-nil, old_is)
 
   -- a call that has changed nothing, and whose last row changes nothing
   pub ledger_quiet : notes.changed a ≡ None → ((j : ℕ) → change_at j last ≡ []) → LedgerSound n calls passes (ending callers a) P (m ∷ M) notes'

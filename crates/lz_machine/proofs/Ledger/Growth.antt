@@ -1,13 +1,12 @@
 -- What is said of a row stays as the trace grows.
-use Rattle.std.proofs.Common.{◌≡◌, ⊎_elim, inl, inr, ℕ, ◌<◌, ◌≤◌, ◌∷◌, length, ap, ◌∙◌, arith}
+use Rattle.std.proofs.Common.{◌≡◌, ⊎_elim, inl, inr, ℕ, ◌<◌, ◌≤◌, ◌∷◌, length, arith}
 use Rattle.std.proofs.lemmas.Bool.Decides.{nat_tests}
-use Rattle.lz_slot.specs.Sets.{key_of, reply}
 use Rattle.lz_list.specs.declared.publishing.Publishing.{Publishing}
-use Rattle.lz_list.specs.Traces.{Trace, member, SettledYes, SettledNo}
+use Rattle.lz_list.specs.Traces.{Trace, SettledYes, SettledNo}
 use Rattle.lz_list.proofs.Traces.Absence.{begins_itself}
 use Rattle.lz_list.proofs.Traces.WalkEnd.{settled_later, removed_later}
 use Rattle.lz_machine.specs.Ledgers.{Row}
-use Rattle.lz_machine.specs.Kept.{upto, changes_key, publishing, IsRowOf}
+use Rattle.lz_machine.specs.Kept.{upto, publishing, IsRowOf}
 
 pub upto_more : (j : ℕ) (e : Publishing) (P : Trace) → j ≤ length P → upto j (e ∷ P) ≡ upto j P
 upto_more j e P le = grind (arith, nat_tests)
@@ -23,19 +22,4 @@ module _ (e : Publishing) (P : Trace) where
   no_stays R k h = record { begins = inr h.begins; no_member = h.no_member; settled = ⊎_elim (λ none. inl none) (λ is. inr (removed_later _ P (e ∷ P) (inr (begins_itself P)) is)) h.settled }
 
   pub row_stays : (n : ℕ) (r : Row) → IsRowOf n P r → IsRowOf n (e ∷ P) r
-  row_stays n r h =
-      let at = upto_more r.position e P h.late in
-      record {
-        early = h.early;
-        late = omega (arith, h.late);
-        quiet = λ none. ⊎_elim
-            (λ told. inl (record { answer = told.answer; leaves = told.leaves; settled_yes = rw at (yes_stays (upto r.position P) (key_of r.command) told.settled_yes) }))
-            (λ told. inr (record { answer = told.answer; leaves = told.leaves; settled_no = rw at (no_stays (upto r.position P) (key_of r.command) told.settled_no) }))
-            (h.quiet none);
-        changing = λ does. let c = h.changing does in record {
-          within = omega (arith, c.within);
-          answer = c.answer;
-          was = ap (λ (R : Trace). reply r.command (member (key_of r.command) R)) at ∙ c.was;
-          changed = ap (changes_key (key_of r.command)) (publishing_more r.position e P c.within) ∙ c.changed;
-        };
-      }
+  row_stays n r h = grind (arith, upto_more, yes_stays, no_stays, publishing_more)

@@ -9,7 +9,7 @@ use Rattle.lz_slot.specs.Sets.{key_of, Keys, reply, moved}
 use Rattle.lz_slot.proofs.Sets.{after_at}
 use Rattle.lz_list.specs.declared.publishing.Publishing.{Publishing}
 use Rattle.lz_list.specs.declared.publishing.Publishing.TheVariants.{Linked as linked, Marked as marked, Halted as halted}
-use Rattle.lz_list.specs.Traces.{Trace, Begins, member, linking, is_settled, is_removed, Lawful, SettledYes, SettledNo}
+use Rattle.lz_list.specs.Traces.{Trace, Begins, member, linking, Lawful, SettledYes, SettledNo}
 use Rattle.lz_list.proofs.Traces.Hindsight.{lawful_begins}
 use Rattle.lz_machine.specs.Ledgers.{Row, IsRight, Moves}
 use Rattle.lz_machine.specs.Kept.{upto, changes_key, last_change, IsOpen, MayDrop, kept_keys, publishing, IsChange, RowsFit, IsRowOf}
@@ -64,17 +64,10 @@ unchanged k R (e ∷ P) (inr to) late =
 
 -- what was settled at R isn't open
 pub yes_is_kept : (k : ℕ) (R P : Trace) → SettledYes R P k → last_change k P ≤ length R → IsOpen k P → ⊥
-yes_is_kept k R P told late open' =
-    let same = unchanged k R P told.begins late in
-    false≢true (sym (open'.1.0 (same.0 ∙ told.member)) ∙ ap (λ (n : ℕ). is_settled n P) same.1 ∙ told.settled)
+yes_is_kept k R P told late open' = grind (arith, unchanged)
 
 pub no_is_kept : (k : ℕ) (R P : Trace) → SettledNo R P k → last_change k P ≤ length R → IsOpen k P → ⊥
-no_is_kept k R P told late open' =
-    let same = unchanged k R P told.begins late in
-    ⊎_elim
-    (λ none. omega (arith, open'.0, same.1))
-    (λ is. false≢true (sym (open'.1.1 (same.0 ∙ told.no_member)) ∙ ap (λ (n : ℕ). is_removed n P) same.1 ∙ is))
-    told.settled
+no_is_kept k R P told late open' = grind (arith, unchanged)
 
 module _ (n : ℕ) (P : Trace) (drop : Keys) (may : MayDrop n P drop) where
   -- before the last change of k the membership that is kept is that of the trace
@@ -83,10 +76,7 @@ module _ (n : ℕ) (P : Trace) (drop : Keys) (may : MayDrop n P drop) where
 
   -- so it is where an answer is settled
   yes_members : (k j : ℕ) → n ≤ j → j ≤ length P → SettledYes (upto j P) P k → kept_keys n P drop j k ≡ true
-  yes_members k j early late told = members_before k j early (λ is. elim (cases_lt j (last_change k P)) [
-    | inl before ↦ before
-    | inr past ↦ absurd (yes_is_kept k (upto j P) P told (omega (arith, length-upto j P)) (may.open_change k is))
-  ]) ∙ told.member
+  yes_members k j early late told = grind (arith, members_before, cases_lt, yes_is_kept, length-upto)
 
   no_members : (k j : ℕ) → n ≤ j → j ≤ length P → SettledNo (upto j P) P k → kept_keys n P drop j k ≡ false
   no_members k j early late told = members_before k j early (λ is. elim (cases_lt j (last_change k P)) [

@@ -1,16 +1,15 @@
 -- The ledger stays when the trace grows by a publishing that changes no membership.
-use Rattle.std.proofs.Common.{◌≡◌, ⊎_elim, inl, inr, ℕ, suc, ◌≤◌, List, [], ◌∷◌, length, refl, sym, subst, arith}
+use Rattle.std.proofs.Common.{◌≡◌, inl, inr, ℕ, ◌≤◌, List, [], ◌∷◌, length, refl, sym, subst, arith}
 use Rattle.std.proofs.lemmas.Bool.{cases_Bool, cases_lt}
 use Rattle.std.proofs.lemmas.Bool.Decides.{nat_tests}
 use Rattle.std.specs.Prelude.{Option}
 use Rattle.lz_slot.specs.Histories.{History}
-use Rattle.lz_slot.specs.Sets.{key_of}
 use Rattle.lz_list.specs.declared.publishing.Publishing.{Publishing}
 use Rattle.lz_list.specs.declared.publishing.Publishing.TheVariants.{Linked as linked, Marked as marked}
 use Rattle.lz_list.specs.Traces.{Trace}
 use Rattle.lz_machine.specs.Runs.{Caller}
 use Rattle.lz_machine.specs.Ledgers.{Row, Each, change_at}
-use Rattle.lz_machine.specs.Kept.{publishing, upto, IsRowOf}
+use Rattle.lz_machine.specs.Kept.{publishing, IsRowOf}
 use Rattle.lz_machine.specs.Entries.{IsLedger, IsSettledEntry, IsChangeOf}
 use Rattle.lz_machine.specs.Notes.{Notes, entries}
 use Rattle.lz_machine.specs.LedgerSound.{LedgerSound}
@@ -42,13 +41,7 @@ no_change _ _ none is = is
 
 -- what is said of settled rows
 pub entry_stays : (n : ℕ) (e : Publishing) (P : Trace) (r : Row) → IsRowOf n P r → IsSettledEntry P r → IsSettledEntry (e ∷ P) r
-entry_stays n e P r row h = record {
-  told = λ does answered.
-      let at = upto_more (suc r.position) e P (omega (arith, (row.changing does).within)) in
-      ⊎_elim (λ told. inl (rw at (yes_stays e P (upto (suc r.position) P) (key_of r.command) told)))
-      (λ told. inr (rw at (no_stays e P (upto (suc r.position) P) (key_of r.command) told)))
-      (h.told does answered);
-}
+entry_stays n e P r row h = grind (arith, upto_more, yes_stays, no_stays)
 
 pub ledger_grows : (n : ℕ) (e : Publishing) (P : Trace) (rows : List Row) (M : History) → IsLedger n P rows [] M → IsLedger n (e ∷ P) rows [] M
 ledger_grows n e P rows M h = record {

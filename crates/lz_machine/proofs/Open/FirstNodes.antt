@@ -117,10 +117,7 @@ module _ (t : List ℕ) where
   )
 
   found_of_read : (N n : ℕ) → HasNoKeyTwice N → n < N → (r : SlotRead) → slot_at t n ≡ r → IsFound N (held t n) → IsFound N (held t n ++ held_key r n)
-  found_of_read N n once lt (Member k) at rest = found_append N k n (held t n) rest lt (elim (cases_Bool (has_key k (held t n))) [
-    | inl there ↦ let found = key_held n k there in absurd (omega (arith, found.1, once found.0 n k (omega (arith, found.1)) lt found.2 at))
-    | inr none ↦ none
-  ]) (slot_later n n (omega arith))
+  found_of_read N n once lt (Member k) at rest = grind (arith, found_append, cases_Bool, key_held, slot_later)
   found_of_read N n once lt Closed at rest = subst (IsFound N) (sym (append-nil (held t n))) rest
   found_of_read N n once lt Torn at rest = subst (IsFound N) (sym (append-nil (held t n))) rest
   found_of_read N n once lt BadKey at rest = subst (IsFound N) (sym (append-nil (held t n))) rest

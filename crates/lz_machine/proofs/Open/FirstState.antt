@@ -28,7 +28,7 @@ use Rattle.lz_machine.specs.Kept.{upto}
 use Rattle.lz_machine.specs.Entries.{IsLedger, IsSettledEntry}
 use Rattle.lz_machine.specs.Notes.{Notes, pending, entries}
 use Rattle.lz_machine.specs.SlotsSound.{IsGateWritten, SlotStands, is_node, is_free, SlotsSound}
-use Rattle.lz_machine.specs.LocksSound.{has_locks, RestsOn, LocksSound}
+use Rattle.lz_machine.specs.LocksSound.{LocksSound}
 use Rattle.lz_machine.specs.CallersSound.{view_of, IsCaller, CallersSound}
 use Rattle.lz_machine.specs.LedgerSound.{LedgerSound, TailsSound}
 use Rattle.lz_machine.specs.Sound.{TraceSound, DiskSound, ReuseSound, HasBegun, UpSound}
@@ -85,16 +85,7 @@ module _ (shape : Shape) (t : List ℕ) (found : Keys) (some : 1 ≤ shape.bucke
   is_found = held_found t N N holds.no_key_twice (omega arith)
 
   trace : TraceSound shape (opened_yard shape t).words P
-  trace = record {
-    lawful = opening_lawful shape.buckets N all_found is_found;
-    some = some;
-    small = opening_small shape.buckets N all_found is_found;
-    heads = refl;
-    links = refl;
-    keys = refl;
-    halt = refl;
-    pins = length-replicate shape.passes 0;
-  }
+  trace = grind (arith, opening_lawful, is_found, opening_small, length-replicate)
 
   count : length cells ≡ N
   count = length-map (slots_read t N) cell_read ∙ length-read t N
@@ -201,12 +192,7 @@ module _ (shape : Shape) (t : List ℕ) (found : Keys) (some : 1 ≤ shape.bucke
   }
 
   locks : LocksSound shape (opened_yard shape t).locks actors P
-  locks = record {
-    heads = length-replicate shape.buckets 0;
-    nodes = length-replicate N 0;
-    has = λ a place lock. absurd (false≢true (sym (ap (λ (x : Actor). has_locks x.hold) (idle a)) ∙ lock.locks));
-    rests = λ a. subst (λ (x : Actor). RestsOn shape.buckets x.hold x P) (sym (idle a)) tt;
-  }
+  locks = grind (arith, length-replicate, idle)
 
   -- nobody is inside
   no_caller : (a : ℕ) → caller_at callers a ≡ None
@@ -219,8 +205,7 @@ module _ (shape : Shape) (t : List ℕ) (found : Keys) (some : 1 ≤ shape.bucke
   not_inside a inside = omega (arith, outside a, inside)
 
   waits : (a : ℕ) → IsCaller (view_of shape (opened_yard shape t).vault actors a) (pin_in pins a) (caller_at callers a) P P None
-  waits a = subst (λ (q : Option Caller). IsCaller (view_of shape (opened_yard shape t).vault actors a) (pin_in pins a) q P P None) (sym (no_caller a))
-      (inl (ap (λ (x : Actor). x.hold) (idle a), ap (λ (x : Actor). x.slot) (idle a)), refl)
+  waits a = grind (arith, no_caller, idle)
 
   all_wait : CallersSound shape (opened_yard shape t).vault pins actors callers P notes
   all_wait = record {
@@ -291,10 +276,7 @@ module _ (shape : Shape) (t : List ℕ) (found : Keys) (some : 1 ≤ shape.bucke
   all_of_it = upto_all (length P) P (omega arith)
 
   linked_key : (k : ℕ) → 0 < linking k P → has_key k all_found ≡ true
-  linked_key k lt = elim (cases_Bool (has_key k all_found)) [
-    | inl has ↦ has
-    | inr none ↦ absurd (omega (arith, lt, never_linked shape.buckets k all_found none))
-  ]
+  linked_key k lt = grind (arith, cases_Bool, never_linked)
 
   began : HasBegun (length P) found P
   began = record {

@@ -1,6 +1,6 @@
 -- A text of these slots: what a device that keeps to nothing may have told, where an open found them.
 use Rattle.std.specs.Int.{byte_at, bytes_high_first}
-use Rattle.std.proofs.Common.{◌≡◌, ⊎_elim, ℕ, zero, suc, ◌+◌, ◌*◌, ◌-◌, ◌<◌, ◌≤◌, List, [], ◌∷◌, ◌++◌, length, take, get_or, refl, sym, ap, ◌∙◌, subst, arith, length-append}
+use Rattle.std.proofs.Common.{◌≡◌, ℕ, zero, suc, ◌+◌, ◌*◌, ◌-◌, ◌<◌, ◌≤◌, List, [], ◌∷◌, ◌++◌, length, take, get_or, refl, sym, ap, ◌∙◌, subst, arith, length-append}
 use Rattle.std.specs.Prelude.{Some, replicate, slice_get}
 use Rattle.std.proofs.lemmas.List.{get_or_append_left, get_or-append_right, get_or-replicate, get_or_past, length-replicate}
 use Rattle.std.proofs.lemmas.Bool.{cases_lt}
@@ -52,9 +52,7 @@ text_head F cells = grind arith
 
 body_at : (F : Format) (cells : List Cell) (i j : ℕ) → i < length cells → j < 16 → get_or (body_text F cells) (16 * i + j) 0 ≡ get_or (slot_text F (get_or cells i no_cell)) j 0
 body_at F [] i j low lt = absurd (omega (arith, low))
-body_at F (cell ∷ cells) zero j low lt =
-    let at : 16 * 0 + j ≡ j = omega arith in
-    ap (λ (n : ℕ). get_or (body_text F (cell ∷ cells)) n 0) at ∙ get_or_append_left (slot_text F cell) (body_text F cells) 0 j (omega (arith, lt, slot_size F cell.stage cell.key))
+body_at F (cell ∷ cells) zero j low lt = grind (arith, get_or, get_or_append_left, slot_size)
 body_at F (cell ∷ cells) (suc i) j low lt =
     let back : 16 * suc i + j - 16 ≡ 16 * i + j = omega arith in
     get_or-append_right (slot_text F cell) (body_text F cells) 16 (16 * suc i + j) 0 (slot_size F cell.stage cell.key) (omega arith)
@@ -96,16 +94,10 @@ text_says F cells keys steady torn i cell there =
 
 -- the bytes of these texts are bytes
 small_append : (xs ys : List ℕ) → AreBytes xs → AreBytes ys → AreBytes (xs ++ ys)
-small_append xs ys left right i = ⊎_elim
-    (λ low. omega (arith, left i, get_or_append_left xs ys 0 i low))
-    (λ high. omega (arith, right (i - length xs), get_or-append_right xs ys (length xs) i 0 refl high))
-    (cases_lt i (length xs))
+small_append xs ys left right i = grind (arith, get_or_append_left, get_or-append_right, cases_lt)
 
 zeros_small : (n : ℕ) → AreBytes (replicate n 0)
-zeros_small n i = ⊎_elim
-    (λ low. omega (arith, get_or-replicate {A = ℕ} n i 0 0 low))
-    (λ high. omega (arith, get_or_past {X = ℕ} (replicate n 0) i 0 (omega (arith, high, length-replicate {A = ℕ} n 0))))
-    (cases_lt i n)
+zeros_small n i = grind (arith, get_or-replicate, get_or_past, length-replicate, cases_lt)
 
 -- each byte of a number is below 256
 byte_small : (k x : ℕ) → byte_at k x < 256

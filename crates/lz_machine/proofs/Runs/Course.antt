@@ -1,5 +1,5 @@
 -- What becomes of an event, by whether the vault is dead and what the event needs.
-use Rattle.std.proofs.Common.{◌≡◌, ◌≢◌, ◌⊎◌, inl, inr, ℕ, Bool, true, false, not, ◌&&◌, refl, sym, ap, ◌∙◌, arith}
+use Rattle.std.proofs.Common.{◌≡◌, ◌≢◌, ◌⊎◌, ℕ, Bool, true, false, not, ◌&&◌, refl, sym, ap, ◌∙◌, arith}
 use mathlib.Core.Bool.{false≢true}
 use Rattle.std.specs.Prelude.{if◌then◌else◌}
 use Rattle.lz_slot.specs.declared.command.Command.{Command}
@@ -17,14 +17,10 @@ pub dead_course : (y : Yard) (a : ℕ) (e : Event) → (y.vault.dead && not (is_
 dead_course y a e h = ap (λ b. if b then Refused Dead else if needs y a e then course_alive y a (pin_of y a) e else Refused NotNow) h
 
 pub early_course : (y : Yard) (a : ℕ) (e : Event) → (y.vault.dead && not (is_played_dead e)) ≡ false → needs y a e ≡ false → course y a e ≡ Refused NotNow
-early_course y a e h n =
-    ap (λ b. if b then Refused Dead else if needs y a e then course_alive y a (pin_of y a) e else Refused NotNow) h
-    ∙ ap (λ b. if b then course_alive y a (pin_of y a) e else Refused NotNow) n
+early_course y a e h n = grind arith
 
 pub alive_course : (y : Yard) (a : ℕ) (e : Event) → (y.vault.dead && not (is_played_dead e)) ≡ false → needs y a e ≡ true → course y a e ≡ course_alive y a (pin_of y a) e
-alive_course y a e h n =
-    ap (λ b. if b then Refused Dead else if needs y a e then course_alive y a (pin_of y a) e else Refused NotNow) h
-    ∙ ap (λ b. if b then course_alive y a (pin_of y a) e else Refused NotNow) n
+alive_course y a e h n = grind arith
 
 pub ruleset course_rules = (dead_course, early_course, alive_course)
 
@@ -59,17 +55,14 @@ plays_needs y a e =
     each_course (λ k. k ≡ Plays → needs y a e ≡ true) y a e (λ dead stops is. absurd (refused_plays is)) (λ lacks is. absurd (refused_plays is)) (λ pin last is. absurd (refused_plays is)) (λ s sync is. absurd cc) (λ has fresh is. has)
 
 pub plays_alive : (y : Yard) (a : ℕ) (e : Event) → is_played_dead e ≡ false → course y a e ≡ Plays → y.vault.dead ≡ false
-plays_alive y a e stops =
-    course_by (λ k. k ≡ Plays → y.vault.dead ≡ false) y a e (λ dead _ is. absurd (refused_plays is)) (λ lacks is. absurd (refused_plays is)) (λ has lives is. lives stops)
+plays_alive y a e stops = grind (arith, course_by, refused_plays)
 
 pub fresh_pin : (y : Yard) (a : ℕ) → course y a Pin ≡ Plays → pin_of y a ≢ last_pin
-fresh_pin y a =
-    each_course (λ k. k ≡ Plays → pin_of y a ≢ last_pin) y a Pin (λ dead stops is. absurd (refused_plays is)) (λ lacks is. absurd (refused_plays is)) (λ pin last is. absurd (refused_plays is)) (λ s sync is. absurd cc) (λ has fresh is. fresh refl)
+fresh_pin y a = grind (arith, each_course, refused_plays)
 
 -- an Answer is played where it has what it needs
 pub answer_plays : (y : Yard) (a : ℕ) → ((needs y a Answer ≡ true) × (course y a Answer ≡ Plays)) ⊎ (course y a Answer ≡ Refused NotNow)
-answer_plays y a =
-    course_by (λ k. ((needs y a Answer ≡ true) × (k ≡ Plays)) ⊎ (k ≡ Refused NotNow)) y a Answer (λ dead stops. absurd (false≢true (sym stops))) (λ lacks. inr refl) (λ has lives. inl (has, refl))
+answer_plays y a = grind (arith, course_by)
 
 -- a dead vault refuses an event that is not played dead
 pub course_dead : (y : Yard) (a : ℕ) (e : Event) → is_played_dead e ≡ false → y.vault.dead ≡ true → course y a e ≡ Refused Dead

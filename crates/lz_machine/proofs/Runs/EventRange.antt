@@ -12,10 +12,9 @@ use Rattle.lz_list.specs.declared.walk.Look.TheVariants.{AtHead, AtKey, AtMet, A
 use Rattle.lz_list.specs.Words.{Words, place_number, link_to}
 use Rattle.lz_list.specs.Walks.{wants}
 use Rattle.lz_list.specs.Lists.{IsWord, IsPlace}
-use Rattle.lz_list.specs.Traces.{Trace, bucket_of, key_word}
+use Rattle.lz_list.specs.Traces.{Trace, bucket_of}
 use Rattle.lz_list.specs.Pinned.{Stood}
 use Rattle.lz_list.proofs.Traces.Hindsight.{lawful_begins}
-use Rattle.lz_machine.specs.declared.actor.Hold.{Hold}
 use Rattle.lz_machine.specs.declared.actor.Hold.TheVariants.{Marked}
 use Rattle.lz_machine.specs.declared.event.Event.{Event}
 use Rattle.lz_machine.specs.declared.event.Event.TheVariants.{Invoke}
@@ -31,7 +30,6 @@ use Rattle.lz_machine.specs.Runs.{Caller, with_words, next_event, MayPlay}
 use Rattle.lz_machine.specs.Stands.{InBucket, WasBetween}
 use Rattle.lz_machine.specs.Notes.{Notes}
 use Rattle.lz_machine.specs.CallersSound.{View, view_of, HasMet, MayRest, IsLooking, Relies}
-use Rattle.lz_machine.specs.LocksSound.{RestsOn}
 use Rattle.lz_machine.specs.Sound.{Sound}
 use Rattle.lz_machine.specs.Ready.{IsEventOf}
 use Rattle.lz_machine.proofs.Frames.OneActor.{mine}
@@ -103,9 +101,7 @@ module _ (n calls : ℕ) (y : Yard) (callers : List (Option Caller)) (disk : Med
 
   -- the node that a removing has marked
   marked_lt : (s : ℕ) → (actor_in y.actors a).curr ≡ Some s → (actor_in y.actors a).hold ≡ Marked → s < y.shape.slots
-  marked_lt s curr hold =
-      let there = held_node y.shape P Marked (actor_in y.actors a) sound.trace.lawful (subst (λ (q : Hold). RestsOn y.shape.buckets q (actor_in y.actors a) P) hold (sound.locks.rests a)) s curr refl in
-      on_range y.shape.buckets y.shape.slots P (bucket_of y.shape.buckets (key_word s P)) s sound.trace.lawful there
+  marked_lt s curr hold = grind (arith, held_node, on_range)
 
   abbrev AsksIn : Command → Sequence → ℕ → Type 0
   AsksIn d sequence i = Relies v d (Playing sequence i) P0 P (notes.changed a) → IsEventOf z (loaded y.words (event_at y.shape d (Playing sequence i)))

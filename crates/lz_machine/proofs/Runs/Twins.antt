@@ -1,5 +1,5 @@
 -- Two states that differ in how far one actor's call has come, and their steps.
-use Rattle.std.proofs.Common.{◌≡◌, ◌≢◌, ⊎_elim, ℕ, zero, suc, ◌==◌, false, List, ◌++◌, length, get_or, set, Option, Some, None, refl, sym, ap, ◌∙◌, subst, arith, get_or-set_other, get_or-set_same, length-set}
+use Rattle.std.proofs.Common.{◌≡◌, ◌≢◌, ℕ, zero, suc, ◌==◌, false, List, ◌++◌, length, get_or, set, Option, Some, None, refl, sym, ap, ◌∙◌, subst, arith, get_or-set_other, get_or-set_same, length-set}
 use mathlib.Core.Bool.{false≢true}
 use Rattle.std.specs.Prelude.{IsNone}
 use Rattle.std.proofs.lemmas.Bool.{cases_eq, cases_lt, eq-eqb}
@@ -17,13 +17,7 @@ use Rattle.lz_machine.specs.Runs.{invoked, Caller, Service, State, Up, Down, Tra
 use Rattle.lz_machine.specs.Laws.{is_of, outcome_of_turn, outcome_at}
 
 set_alike : {X : Type 0} (xs ys : List X) (i j : ℕ) (x d : X) → length xs ≡ length ys → get_or xs j d ≡ get_or ys j d → get_or (set xs i x) j d ≡ get_or (set ys i x) j d
-set_alike xs ys i j x d count same = ⊎_elim
-    (λ here. ⊎_elim
-    (λ lt. rw here (get_or-set_same xs i x d lt ∙ sym (get_or-set_same ys i x d (omega (arith, lt, count)))))
-    (λ le. get_or_past (set xs i x) j d (omega (arith, le, here, length-set xs i x)) ∙ sym (get_or_past (set ys i x) j d (omega (arith, le, here, count, length-set ys i x))))
-    (cases_lt i (length xs)))
-    (λ away. get_or-set_other xs i j x d away ∙ same ∙ sym (get_or-set_other ys i j x d away))
-    (cases_eq j i)
+set_alike xs ys i j x d count same = grind (arith, get_or-set_same, get_or_past, length-set, cases_lt, get_or-set_other, cases_eq)
 
 -- The same yard and disk, and all callers but the actor's, or the same state.
 pub data Twin (a : ℕ) : Type 0 where

@@ -1,5 +1,5 @@
 -- Check keeps the invariant: its three tests tell of the trace.
-use Rattle.std.proofs.Common.{◌≡◌, inl, inr, ℕ, suc, ◌<◌, ◌≤◌, ◌&&◌, not, Bool, true, false, List, Option, Some, None, refl, sym, ap, ◌∙◌, subst, arith}
+use Rattle.std.proofs.Common.{◌≡◌, inl, inr, ℕ, suc, ◌≤◌, ◌&&◌, not, Bool, true, false, List, Option, Some, None, refl, sym, ap, ◌∙◌, subst, arith}
 use mathlib.Core.Bool.{false≢true}
 use Rattle.std.proofs.lemmas.Bool.Decides.{nat_tests}
 use Rattle.std.proofs.lemmas.Option.{same_Some}
@@ -13,7 +13,7 @@ use Rattle.lz_disk.specs.Images.{Medium}
 use Rattle.lz_list.specs.declared.place.Place.{Place}
 use Rattle.lz_list.specs.declared.place.Place.TheVariants.{Bucket, Node}
 use Rattle.lz_list.specs.Words.{Words, place_number, link_to, next_at, is_marked_at}
-use Rattle.lz_list.specs.Traces.{Trace, on, chain, chain_of, bucket_of, key_word, next_link, is_marked}
+use Rattle.lz_list.specs.Traces.{Trace, on, chain, bucket_of, key_word, is_marked}
 use Rattle.lz_list.specs.Pinned.{Stood, IsQuiet}
 use Rattle.lz_list.specs.Laws.{IsHigh}
 use Rattle.lz_list.proofs.Chains.PlaceRank.{on_start}
@@ -62,10 +62,7 @@ module _ (shape : Shape) (words : Words) (P : Trace) (trace : TraceSound shape w
 
   -- a place that stood and isn't marked is still there, and its next link is the chain's
   faces_now : (pred : Place) (n : ℕ) → InBucket buckets k pred → Stood buckets (bucket_of buckets k) P0 P (place_number pred) → is_marked_at words pred ≡ false → next_at words pred ≡ n → Faces buckets k (place_number pred) n P
-  faces_now (Bucket b) n bucket stood unmarked next = record {
-    there = on_start 0 (chain_of buckets k P);
-    next = ap (λ (q : ℕ). next_link buckets q P 0) (sym bucket) ∙ sym (head_next shape words P trace few b (subst (λ (q : ℕ). q < buckets) (sym bucket) (bucket_range shape words P trace few k))) ∙ next;
-  }
+  faces_now (Bucket b) n bucket stood unmarked next = grind (arith, on_start, head_next, bucket_range)
   faces_now (Node s) n bucket stood unmarked next =
       let lt = stood_range buckets shape.slots P0 P (bucket_of buckets k) s trace.lawful stood in
       let same : bucket_of buckets (key_word s P) ≡ bucket_of buckets k = stood_bucket buckets shape.slots P0 (bucket_of buckets k) s P trace.lawful quiet stood in
@@ -80,9 +77,7 @@ module _ (shape : Shape) (words : Words) (P : Trace) (trace : TraceSound shape w
 
   curr_clear : (curr : Option ℕ) (t : ℕ) → curr ≡ Some t → Stood buckets (bucket_of buckets k) P0 P (suc t) → is_marked_node words curr ≡ false → is_marked t P ≡ false
   curr_clear None t is stood clear = absurd cc
-  curr_clear (Some q) t is stood clear =
-      let same : q ≡ t = same_Some _ _ is in
-      sym (link_mark shape words P trace few t (stood_range buckets shape.slots P0 P (bucket_of buckets k) t trace.lawful stood)) ∙ ap (λ (r : ℕ). is_marked_at words (Node r)) (sym same) ∙ clear
+  curr_clear (Some q) t is stood clear = grind (arith, same_Some, link_mark, stood_range)
 
   module _ (pred : Place) (curr : Option ℕ) (between : WasBetween buckets k pred (link_to curr) P0 P) (clear : is_marked_at words pred ≡ false) (clear_node : is_marked_node words curr ≡ false) (next : next_at words pred ≡ link_to curr) where
     faces : Faces buckets k (place_number pred) (link_to curr) P

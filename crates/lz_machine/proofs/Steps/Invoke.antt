@@ -118,9 +118,7 @@ module _ (n calls passes a : ℕ) (c : Command) (first : Progress) (callers : Li
       }
 
   answered_below : (i : ℕ) (answer : Bool) → IsAnswered M i answer → i ≤ calls
-  answered_below i answer is =
-      let found = sound.ledger.answered i answer is in
-      omega (arith, found.2, row_below found.0 found.1)
+  answered_below i answer is = grind (arith, row_below)
 
   new_under_way : IsUnderWay (Call (suc calls) a c ∷ M) (suc calls) c
   new_under_way = record {
@@ -189,9 +187,7 @@ tail_still M calls a c d first callers rows rows' same low high below h = record
 module _ (n calls a : ℕ) (c : Command) (y : Yard) (callers : List (Option Caller)) (disk : Medium) (P : Trace) (M : History) (notes : Notes) (low : 1 ≤ a) (high : a ≤ length callers) (none : caller_at callers a ≡ None) (even : pin_in y.words.pins a % 2 ≡ 0) (first : Progress) (side : IsSide (pin_in y.words.pins a) first)
     (relies : IsEmptyHanded (actor_in y.actors a) P → notes.changed a ≡ None → Relies (view_of y.shape y.vault y.actors a) c first (notes.begun a) P (notes.changed a)) where
   new_caller : CallersSound y.shape y.vault y.words.pins y.actors callers P notes → CallerSound (view_of y.shape y.vault y.actors a) (pin_in y.words.pins a) (Some (started (suc calls) c first)) (notes.begun a) P (notes.changed a)
-  new_caller h =
-      let old = subst (λ (q : Option Caller). CallerSound (view_of y.shape y.vault y.actors a) (pin_in y.words.pins a) q (notes.begun a) P (notes.changed a)) none (h.each a) in
-      record { quiet = old.quiet; begins = old.begins; stands = (side, λ inside. absurd (omega (arith, inside, even)), relies old.stands.0 old.stands.1) }
+  new_caller h = grind (arith, none)
 
   calling_callers : CallersSound y.shape y.vault y.words.pins y.actors callers P notes → CallersSound y.shape y.vault y.words.pins y.actors (calling callers a (suc calls) c first) P notes
   calling_callers h = record {

@@ -237,10 +237,7 @@ module _ (n calls : ℕ) (y : Yard) (callers : List (Option Caller)) (disk : Med
 
   -- another node has another key
   other_key : (t : ℕ) → on 0 (chain_of y.shape.buckets (key_word t P) P) (suc t) ≡ true → key_word t P ≡ k → t ≡ s
-  other_key t on_it key =
-      let shown = words_show_chain y.shape.buckets y.shape.slots P sound.trace.lawful (bucket_of y.shape.buckets k) in
-      let theirs : on 0 (chain_of y.shape.buckets k P) (suc t) ≡ true = subst (λ (q : ℕ). on 0 (chain_of y.shape.buckets q P) (suc t) ≡ true) key on_it in
-      omega (arith, one_node (next_link y.shape.buckets (bucket_of y.shape.buckets k) P) (λ t. key_word t P) 0 (chain_of y.shape.buckets k P) shown.shows (suc t) (suc s) theirs there (omega (arith, key, h.2.1)))
+  other_key t on_it key = grind (arith, words_show_chain, one_node, there, h)
 
   marked_tails : TailsSound y.shape y.vault.cells actors' P' callers' (entries y.shape.passes callers' notes') M
   marked_tails =

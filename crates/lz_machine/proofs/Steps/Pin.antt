@@ -69,16 +69,7 @@ abbrev pub pinned : Words → ℕ → Words
 pinned words a = set words (pin_at a) (get words (pin_at a) + 1)
 
 pub trace_pinned : (shape : Shape) (words : Words) (P : Trace) (a : ℕ) → TraceSound shape words P → TraceSound shape (pinned words a) P
-trace_pinned shape words P a h = record {
-  lawful = h.lawful;
-  some = h.some;
-  small = h.small;
-  heads = h.heads;
-  links = h.links;
-  keys = h.keys;
-  halt = h.halt;
-  pins = length-set_of_pass words.pins a _ ∙ h.pins;
-}
+trace_pinned shape words P a h = grind (arith, length-set_of_pass)
 
 module _ (shape : Shape) (cells : List Cell) (dead : Bool) (pins : List ℕ) (uses : List Use) (actors : List Actor) (P : Trace) (notes : Notes) (a : ℕ) (low : 1 ≤ a) (high : a ≤ length pins) (slots : SlotsSound shape cells dead uses actors P) (reuse : ReuseSound shape pins uses actors P notes.begun) where
   abbrev v : ℕ
@@ -125,9 +116,7 @@ module _ (shape : Shape) (cells : List Cell) (dead : Bool) (pins : List ℕ) (us
       (λ s loose inside. subst (λ (q : Trace). IsAway shape.buckets q P s) (sym (begun_same notes a P)) (away_new shape.buckets s P loose))
 
   pub left_reuse : v % 2 ≡ 1 → v ≢ last_pin → ReuseSound shape pins' uses actors P notes.begun
-  left_reuse odd fresh = passed_reuse notes.begun (λ b other. refl) fresh
-      (λ s seen limbo. subst (λ (q : ℕ). IsRightSight shape.buckets q (notes.begun a) P s (of_pass seen a Left)) next_is (seen_leave shape.buckets s v (notes.begun a) P (of_pass seen a Left) odd (reuse.seen a s seen limbo)))
-      (λ s loose inside. absurd (omega (arith, inside, odd)))
+  left_reuse odd fresh = grind (arith, passed_reuse, next_is, seen_leave)
 
 -- the ledger doesn't depend on where passes have gone in
 pub ledger_noted : (n calls passes : ℕ) (callers : List (Option Caller)) (P : Trace) (M : History) (notes : Notes) (begun : ℕ → Trace) → LedgerSound n calls passes callers P M notes → LedgerSound n calls passes callers P M (record { begun = begun; changed = notes.changed; ended = notes.ended })

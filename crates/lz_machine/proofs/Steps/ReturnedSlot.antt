@@ -54,12 +54,7 @@ module _ (shape : Shape) (cells : List Cell) (dead : Bool) (uses : List Use) (ac
 
   -- each slot in a hand was so before, and is another one
   pub held_then : (b t : ℕ) → (actor_in actors' b).slot ≡ Some t → (t ≢ s) × ((actor_in actors b).slot ≡ Some t)
-  held_then b t slot = elim (cases_eq b a) [
-    | inl same ↦ absurd (none-some _ (sym (ap (λ (q : Actor). q.slot) hand_a) ∙ ap (λ (q : ℕ). (actor_in actors' q).slot) (sym same) ∙ slot))
-    | inr other ↦
-        let was = ap (λ (q : Actor). q.slot) (sym (hand_b b other)) ∙ slot in
-        ((λ it. other (slots.one_hand b a s (was ∙ ap Some it) has)), was)
-  ]
+  held_then b t slot = grind (arith, cases_eq, none-some, hand_a, hand_b)
 
   use_same : use_of uses' s ≡ Free
   use_same = get_or-set_same uses s Free Taken (omega (arith, (slots.hand a s has).in_range, slots.count))

@@ -192,18 +192,7 @@ module _ (n calls : ℕ) (y : Yard) (callers : List (Option Caller)) (disk : Med
           flag_removed s (linking k P) P facts.same
 
       marked_settled : HasMarked k s P (notes.changed a) → IsSettledChange k (settled s Removed ∷ P) (notes.changed a)
-      marked_settled m =
-          let more = upto_more (suc m.at) (settled s Removed) P (omega (arith, m.within)) in
-          record {
-            at = m.at;
-            is = m.is;
-            within = omega (arith, m.within);
-            settled = inr (record {
-              begins = upto_begins (suc m.at) (settled s Removed ∷ P);
-              no_member = ap (λ (R : Trace). member k R) more ∙ m.gone;
-              settled = inr (ap (λ (R : Trace). is_removed (linking k R) (settled s Removed ∷ P)) more ∙ ap (λ (q : ℕ). is_removed q (settled s Removed ∷ P)) m.named ∙ flag_removed s (linking_in s P) P refl);
-            });
-          }
+      marked_settled m = grind (arith, upto_more, upto_begins, flag_removed)
 
   -- a node on which a call rests
   met_settled_yes : (k : ℕ) (c : Change) → IsInside (pin_in y.words.pins a) → HasMet y.shape.buckets k s false (notes.begun a) P → RestsYes k (notes.begun a) (settled s c ∷ P)

@@ -26,7 +26,7 @@ use Rattle.lz_machine.specs.Runs.{Caller, caller_at}
 use Rattle.lz_machine.specs.Ledgers.{Row}
 use Rattle.lz_machine.specs.Notes.{Notes, entries}
 use Rattle.lz_machine.specs.SlotsSound.{IsGateOpened, IsGateWritten}
-use Rattle.lz_machine.specs.LedgerSound.{HasTail, TailsSound}
+use Rattle.lz_machine.specs.LedgerSound.{TailsSound}
 use Rattle.lz_machine.specs.CallersSound.{IsKeyed}
 use Rattle.lz_machine.specs.Sound.{Sound}
 use Rattle.lz_machine.proofs.Frames.OneActor.{moving}
@@ -100,10 +100,7 @@ module _ (cells : List Cell) where
   }
 
   pub tails_synced : (shape : Shape) (actors : List Actor) (P : Trace) (callers : List (Option Caller)) (rows : List Row) (M : History) → TailsSound shape cells actors P callers rows M → TailsSound shape cells' actors P callers rows M
-  tails_synced shape actors P callers rows M h = record {
-    adding = λ a s slot opened. subst (λ (q : ℕ). HasTail (Add q) callers rows M) (sym (key_map s)) (h.adding a s slot (opened_before (stage_in cells s) (subst IsGateOpened (stage_map s) opened)));
-    removing = λ s there clear written. subst (λ (q : ℕ). HasTail (Remove q) callers rows M) (sym (key_map s)) (h.removing s there clear (written_before (stage_in cells s) (subst IsGateWritten (stage_map s) written)));
-  }
+  tails_synced shape actors P callers rows M h = grind (arith, key_map, opened_before, stage_map, written_before)
 
 -- the yard after a sync that succeeded
 abbrev pub synced_yard : Yard → ℕ → Yard

@@ -122,9 +122,7 @@ module _ (shape : Shape) (words : Words) (P : Trace) (trace : TraceSound shape w
       }
 
       marked_now : flags ≡ flags_after s P → flags.mark ≡ true → may_answer flags ≡ Now → RestsNo k P0 P
-      marked_now shown mark now =
-          no_since k P0 P (marked_rests buckets slots P0 k s P P trace.lawful quiet stood key (begins_itself P) (sym (ap (λ (f : Flags). f.mark) shown) ∙ mark)
-          (removed_tells buckets slots s P trace.lawful (sym (ap (λ (f : Flags). f.remove_settled) shown) ∙ marked_settled flags mark now)))
+      marked_now shown mark now = grind (arith, no_since, marked_rests, begins_itself, removed_tells, marked_settled)
 
     -- where it is marked, the key was no member
     marked_gone : (k s : ℕ) → Stood buckets (bucket_of buckets k) P0 P (suc s) → key_word s P ≡ k → is_marked s P ≡ true → WasAbsent k P0 P

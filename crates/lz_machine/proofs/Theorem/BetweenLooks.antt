@@ -1,5 +1,5 @@
 -- Between its calls an actor's pin word is even, where no look is half done; a step that is no look leaves it so.
-use Rattle.std.proofs.Common.{◌≡◌, ◌≢◌, ⊎_elim, IsTrue, IsNone, ℕ, ◌≤◌, ◌%◌, Bool, true, false, List, length, Option, Some, None, refl, sym, ap, ◌∙◌, subst, arith}
+use Rattle.std.proofs.Common.{◌≡◌, ◌≢◌, IsTrue, IsNone, ℕ, ◌≤◌, ◌%◌, Bool, true, false, List, length, Option, Some, None, refl, sym, ap, subst, arith}
 use mathlib.Core.Bool.{false≢true}
 use Rattle.lz_slot.specs.declared.command.Command.{Command}
 use Rattle.lz_slot.specs.Counted.{set_of_pass}
@@ -44,10 +44,7 @@ module _ (y : Yard) (a : ℕ) (low : 1 ≤ a) (high : a ≤ length y.words.pins)
   QuietOn taken = (line_on taken y (actor_at y a) a Answer).1 ≢ NotNow → pin_of (line_on taken y (actor_at y a) a Answer).0 a % 2 ≡ 0
 
   quiet_after : QuietOn (course y a Answer)
-  quiet_after = ⊎_elim
-      (λ plays. subst QuietOn (sym plays.1) (λ now. ap (λ (q : ℕ). q % 2) (answered_pin y (actor_at y a) a low high) ∙ answered_even (actor_at y a) (pin_of y a) plays.0))
-      (λ not_yet. subst QuietOn (sym not_yet) (λ now. absurd (now refl)))
-      (answer_plays y a)
+  quiet_after = grind (arith, answered_pin, answered_even, answer_plays)
 
 -- An event changes no other actor's pin word.
 module _ (y : Yard) (a b : ℕ) (other : b ≢ a) where
@@ -68,10 +65,7 @@ module _ (n calls : ℕ) (y : Yard) (callers : List (Option Caller)) (disk : Med
   -- where one actor's call and pin change
   changes_one : (a : ℕ) (x : Option Caller) (y' : Yard) → 1 ≤ a → a ≤ length callers → IsQuietAt x (pin_of y' a) → ((b : ℕ) → b ≢ a → pin_of y' b ≡ pin_of y b)
       → (b : ℕ) → IsQuietAt (caller_at (set_of_pass callers a x) b) (pin_of y' b)
-  changes_one a x y' low high own others = by_actor (λ b. IsQuietAt (caller_at (set_of_pass callers a x) b) (pin_of y' b)) a
-      (subst (λ (q : Option Caller). IsQuietAt q (pin_of y' a)) (sym (of_pass_same callers a x None low high)) own)
-      (λ b other. subst (λ (q : ℕ). IsQuietAt (caller_at (set_of_pass callers a x) b) q) (sym (others b other))
-      (subst (λ (q : Option Caller). IsQuietAt q (pin_of y b)) (sym (of_pass_other callers a b x None other)) (quiet b)))
+  changes_one a x y' low high own others = grind (arith, by_actor, of_pass_same, of_pass_other)
 
   module _ (a i : ℕ) (c : Command) where
     abbrev GoesTo : Progress → Yard × Outcome → Type 0

@@ -1,5 +1,5 @@
 -- A vault is dead after the first device call that fails, and makes no other: so in each life one call at most is told of it.
-use Rattle.std.proofs.Common.{◌≡◌, ◌≢◌, inl, inr, ℕ, zero, suc, ◌+◌, ◌-◌, ◌<◌, ◌≤◌, Bool, true, false, List, [], ◌∷◌, ◌++◌, length, slice_set, Option, Some, None, refl, sym, ap, ◌∙◌, subst, arith}
+use Rattle.std.proofs.Common.{◌≡◌, ◌≢◌, ℕ, zero, suc, ◌+◌, ◌-◌, ◌<◌, ◌≤◌, Bool, true, false, List, [], ◌∷◌, ◌++◌, length, slice_set, Option, Some, None, refl, sym, ap, ◌∙◌, subst, arith}
 use Rattle.std.specs.Prelude.{if◌then◌else◌, replicate, slice_index_or}
 use mathlib.Core.Bool.{false≢true}
 use Rattle.std.proofs.lemmas.Bool.{cases_Bool}
@@ -7,7 +7,7 @@ use Rattle.lz_slot.specs.declared.command.Command.{Command}
 use Rattle.lz_slot.specs.Counted.{set_of_pass}
 use Rattle.lz_slot.specs.Histories.{History}
 use Rattle.lz_disk.specs.Images.{Medium}
-use Rattle.lz_vault.specs.Vaults.{DeviceCall, MayFail, NoCall}
+use Rattle.lz_vault.specs.Vaults.{MayFail, NoCall}
 use Rattle.lz_machine.specs.declared.course.Course.{Course}
 use Rattle.lz_machine.specs.declared.course.Course.TheVariants.{Dies}
 use Rattle.lz_machine.specs.declared.event.Event.{Event}
@@ -38,10 +38,7 @@ dead_calls y a e dead = grind arith
 
 -- so a device call that fails finds the vault alive
 fails_alive : (y : Yard) (a : ℕ) (e : Event) (disk new : Medium) → MayFail (line_call y a e) disk new → y.vault.dead ≡ false
-fails_alive y a e disk new may = elim (cases_Bool y.vault.dead) [
-  | inl dead ↦ absurd (subst (λ (call : DeviceCall). MayFail call disk new) (dead_calls y a e dead) may)
-  | inr alive ↦ alive
-]
+fails_alive y a e disk new may = grind (arith, cases_Bool, dead_calls)
 
 -- and a vault that is alive was so before
 was_alive : (y : Yard) (a : ℕ) (e : Event) (k : Course) → (line_on k y (actor_at y a) a e).0.vault.dead ≡ false → y.vault.dead ≡ false
@@ -121,9 +118,7 @@ module _ (n : ℕ) (y : Yard) (callers : List (Option Caller)) (disk : Medium) (
 
   module _ (a : ℕ) (caller : Caller) (at : caller_at callers a ≡ Some caller) where
     due_here : (x : Option Caller) → calls_due (set_of_pass callers a x) + device_reply (reply_due caller.progress) ≡ calls_due callers + device_due x
-    due_here x =
-        let range = caller_range callers a caller at in
-        ap (λ (q : Option Caller). calls_due (set_of_pass callers a x) + device_due q) (sym at) ∙ due_set callers a x range.0 range.1
+    due_here x = grind (arith, caller_range, due_set)
 
     turn_failures : (y' : Yard) (disk' : Medium) (next : Progress) (reply : Option Reply) → reply_at caller.progress ≡ reply → (y'.vault.dead ≡ false → y.vault.dead ≡ false)
         → (reply ≡ None → device_reply (reply_due next) ≤ device_reply (reply_due caller.progress))

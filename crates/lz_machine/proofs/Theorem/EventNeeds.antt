@@ -8,7 +8,7 @@ use Rattle.lz_slot.specs.Limits.{most_slots}
 use Rattle.lz_slot.specs.Sets.{key_of}
 use Rattle.lz_slot.specs.Histories.{History}
 use Rattle.lz_disk.specs.Images.{Medium}
-use Rattle.lz_vault.specs.declared.vault.Stage.TheVariants.{Closed, Keyed}
+use Rattle.lz_vault.specs.declared.vault.Stage.TheVariants.{Keyed}
 use Rattle.lz_allot.specs.Uses.{is_outside}
 use Rattle.lz_list.specs.declared.place.Place.TheVariants.{Node}
 use Rattle.lz_list.specs.declared.walk.Look.{Look}
@@ -30,7 +30,7 @@ use Rattle.lz_machine.specs.declared.caller.Sequence.TheVariants.{Pinning, Resti
 use Rattle.lz_machine.specs.declared.caller.Progress.{Progress}
 use Rattle.lz_machine.specs.declared.caller.Progress.TheVariants.{Playing, Walking, Reserving, SeeingPins, Claiming, Checking, Answering}
 use Rattle.lz_machine.specs.Yards.{Yard, actor_at, actor_in, stage_in}
-use Rattle.lz_machine.specs.Table.{last_pin, pin_of, needs, has_stage, may_claim, may_check, has_checked, has_opened, has_closed, has_marked, may_release, may_retire, line_on, line, stays_out}
+use Rattle.lz_machine.specs.Table.{last_pin, pin_of, needs, may_claim, may_check, has_checked, has_opened, has_closed, may_release, may_retire, line_on, line, stays_out}
 use Rattle.lz_machine.specs.Calls.{event_at, loaded}
 use Rattle.lz_machine.specs.Orders.{MayTake}
 use Rattle.lz_machine.specs.Runs.{Caller}
@@ -87,11 +87,7 @@ module _ (n calls : ℕ) (y : Yard) (callers : List (Option Caller)) (disk : Med
       ∙ ap not (mark_is y.shape y.words P sound.trace (few_slots sound.images) y.words refl refl refl s held.0 ∙ held.1)
 
   unlinks_now : (k s : ℕ) → actor.hold ≡ Marked → actor.curr ≡ Some s → key_word s P ≡ k → is_removed (linking k P) P ≡ true → needs y a Unlink ≡ true
-  unlinks_now k s hold curr key removed =
-      let there = subst (λ (q : ℕ). on 0 (chain_of y.shape.buckets q P) (suc s) ≡ true) key (marked_on hold s curr) in
-      ap (λ (q : Hold). has_marked q && is_some actor.curr && has_stage Closed (stage_in y.vault.cells (unwrap_or actor.curr 0))) hold
-      ∙ ap (λ (q : Option ℕ). is_some q && has_stage Closed (stage_in y.vault.cells (unwrap_or q 0))) curr
-      ∙ ap (has_stage Closed) (sound.slots.removed k s key there removed)
+  unlinks_now k s hold curr key removed = grind (arith, marked_on, is_some)
 
   -- each event of each sequence
   add_has : (c : Command) (s i : ℕ) → HasIn c (Adding s) i

@@ -62,10 +62,7 @@ module _ (s q : ℕ) where
 
   -- the pins of a state count as a moment
   shown : (service : Service) (disk : Medium) (ms : List Moment) (P0 P : Trace) → IsPast ms P0 P → IsPast (pins_of (Up service disk) ++ ms) (begun_after (Up service disk) P0 P) P
-  shown service disk ms P0 P h = elim (cases_Bool (is_out (Up service disk) q)) [
-    | inl out ↦ rw out (begins_itself P, inl refl)
-    | inr inside ↦ rw inside (h.0, h.1)
-  ]
+  shown service disk ms P0 P h = grind (arith, cases_Bool, begins_itself)
 
   -- where the pass is outside nothing need be known
   shown_out : (w : State) (ms : List Moment) (P0 P : Trace) → is_out w q ≡ true → PastAt w (pins_of w ++ ms) (begun_after w P0 P) P
@@ -109,8 +106,7 @@ module _ (s q : ℕ) where
   -- in a state in which the pass is outside
   past_out : (p : Point) (steps : List Transition) (service : Service) (disk : Medium) → (run p steps).state ≡ Up service disk → is_out (Up service disk) q ≡ true → was_outside s q (moments p steps) ≡ true
   past_out p [] service disk state out = subst (λ (w : State). was_outside s q (pins_of w) ≡ true) (sym state) (rw out refl)
-  past_out p (step ∷ steps) service disk state out =
-      subst (λ (w : State). was_outside s q (pins_of w ++ moments_of_step (run p steps).state step ++ moments p steps) ≡ true) (sym state) (rw out refl)
+  past_out p (step ∷ steps) service disk state out = grind arith
 
 -- a slot that is collected was left by each pass
 pub freed_is_all_free : FreedIsAllFree

@@ -25,7 +25,7 @@ use Rattle.lz_machine.specs.declared.caller.Progress.TheVariants.{Playing, Loads
 use Rattle.lz_machine.specs.declared.caller.Sequence.TheVariants.{Pinning}
 use Rattle.lz_machine.specs.Yards.{Shape, Yard, actor_at, first_trace}
 use Rattle.lz_machine.specs.Table.{call_on, course, is_old, line, line_on, line_call, line_failed, pin_of}
-use Rattle.lz_machine.specs.Calls.{begun, first_progress, halt_loaded, progress_after}
+use Rattle.lz_machine.specs.Calls.{begun, first_progress, progress_after}
 use Rattle.lz_machine.specs.Runs.{Caller, Service, State, Up, Down, Start, IsStart, Point, Transition, Calls, Turn, Fails, Looks, Trips, Stops, Crashes, Opens, OpenFails, caller_at, next_event, reply_at, moved_on, opened_service, state_after, trace_after, HasTurn, HasFault, MayStep, mark_of, mark_of_turn, marks_of_turn, marks_of, after_turn, after_fault, turn_publishes, run, IsRun, first_point}
 use Rattle.lz_machine.specs.CallersSound.{IsCaller, Relies, View, view_of}
 use Rattle.lz_machine.specs.Halts.{HaltLasts, HaltsLast, IsLate, IsLateReply, IsMadeLate, MayTellLate, was_cut}
@@ -77,8 +77,7 @@ module _ (y : Yard) (a : ℕ) (shape : Shape) (c : Command) where
   pins_late = each_course (GoesLate Pin (Playing Pinning zero)) y a Pin (λ dead stops. absurd (false≢true (sym stops))) (λ lacks now. absurd (now refl)) (λ pin last now. tt) (λ s sync now. absurd cc) (λ has fresh now. tt)
 
   loads_late : y.words.halt ≡ 1 → GoesLate (Hop halt_word_at) LoadsHalt (course y a (Hop halt_word_at))
-  loads_late halted =
-      course_by (GoesLate (Hop halt_word_at) LoadsHalt) y a (Hop halt_word_at) (λ dead stops. absurd (false≢true (sym stops))) (λ lacks now. absurd (now refl)) (λ has lives now. subst (λ (n : ℕ). IsLate (halt_loaded n)) (sym halted) tt)
+  loads_late halted = grind (arith, course_by)
 
   -- neither calls the device
   no_fault_late : (k : Course) (disk new : Medium) → MayFail (call_on k y (actor_at y a) Pin) disk new → ⊥

@@ -9,8 +9,8 @@ use Rattle.lz_machine.specs.declared.event.Event.TheVariants.{Reserve}
 use Rattle.lz_machine.specs.declared.event.Outcome.TheVariants.{NoSlot}
 use Rattle.lz_machine.specs.NoSlotCounts.{CountsAreRight}
 use Rattle.lz_machine.specs.Runs.{run, first_point}
-use Rattle.lz_machine.specs.Table.{line, line_on, slot_found}
-use Rattle.lz_machine.specs.Yards.{Yard, actor_at}
+use Rattle.lz_machine.specs.Table.{line, slot_found}
+use Rattle.lz_machine.specs.Yards.{Yard}
 use Rattle.lz_machine.proofs.Runs.Course.{course_by}
 use Rattle.lz_machine.proofs.Theorem.Reached.{reached_sound, up_at}
 
@@ -26,9 +26,7 @@ found_none c (Some s) uses is = absurd cc
 
 -- no other course of the event tells counts
 told_by : (y : Yard) (a : ℕ) (c : Counts) → (line y a Reserve).1 ≡ NoSlot c → (lowest_free (collect y.uses) ≡ None) × (counts (collect y.uses) ≡ c)
-told_by y a c =
-    course_by (λ k. (line_on k y (actor_at y a) a Reserve).1 ≡ NoSlot c → (lowest_free (collect y.uses) ≡ None) × (counts (collect y.uses) ≡ c)) y a Reserve (λ dead stops is. absurd cc) (λ lacks is. absurd cc)
-    (λ has lives is. found_none c (lowest_free (collect y.uses)) (collect y.uses) is)
+told_by y a c = grind (arith, course_by, found_none)
 
 pub counts_are_right : CountsAreRight
 counts_are_right start service disk M P a c reached is =

@@ -1,5 +1,5 @@
 -- Worked rows that are runs, of which each step may be taken: crashes inside a device call, and runs that follow on one another.
-use Rattle.std.proofs.Common.{◌≡◌, ◌⊎◌, inl, inr, ℕ, suc, ◌≤◌, lit<, Bool, true, false, List, [], ◌∷◌, ◌++◌, replicate, Option, Some, None, is_some, refl, sym, ap, ◌∙◌, subst, arith}
+use Rattle.std.proofs.Common.{◌≡◌, ◌⊎◌, inl, inr, ℕ, suc, ◌≤◌, lit<, Bool, true, false, List, [], ◌∷◌, ◌++◌, replicate, Option, Some, None, is_some, refl, sym, subst, arith}
 use mathlib.Core.Bool.{false≢true}
 use Rattle.lz_slot.specs.Limits.{most_buckets, most_passes}
 use Rattle.lz_slot.specs.declared.format.Format.TheVariants.{Two}
@@ -72,9 +72,7 @@ idle (Up service disk) a t none may = go (caller_at service.callers a) none may
 -- where nobody calls, a crash leaves an image of the disk
 idle_leaves : (n : ℕ) (w : State) (t : List ℕ) → callers_of w ≡ replicate n None → MayLeave w t → IsImage (disk_of w) t
 idle_leaves n (Up service disk) t idle (inl image) = image
-idle_leaves n (Up service disk) t idle (inr (a, left)) =
-    let none : caller_at service.callers a ≡ None = ap (λ (callers : List (Option Caller)). caller_at callers a) idle ∙ pass_of n a None in
-    absurd (subst (λ (who : Option Caller). LeftInside service disk a who t) none left)
+idle_leaves n (Up service disk) t idle (inr (a, left)) = grind (arith, pass_of)
 idle_leaves n (Down shape disk) t idle image = image
 
 -- after these steps from a start

@@ -108,8 +108,7 @@ module _ (shape : Shape) (words : Words) (P : Trace) (trace : TraceSound shape w
       of_bucket (Node s) is = tt
 
   pub leads_to : (k : ℕ) (pred : Place) → InBucket shape.buckets k pred → on 0 (chain_of shape.buckets k P) (place_number pred) ≡ true → next_at w pred ≡ next_link shape.buckets (bucket_of shape.buckets k) P (place_number pred)
-  leads_to k (Bucket b) bucket there =
-      head_is b (subst (λ (q : ℕ). q < shape.buckets) (sym bucket) (bucket_range shape words P trace few k)) ∙ ap (λ (q : ℕ). head_word shape.buckets q P) bucket
+  leads_to k (Bucket b) bucket there = grind (arith, head_is, bucket_range)
   leads_to k (Node s) bucket there = link_is s (node_slot (bucket_of shape.buckets k) s there)
 
   -- a slot that is ready for the place round which its actor has the locks may be linked there
@@ -141,14 +140,8 @@ module _ (shape : Shape) (words : Words) (P : Trace) (trace : TraceSound shape w
 
   -- a place whose lock an actor has is one of the table
   pub owned_place : (locks : NodeLocks) (a : ℕ) (place : Place) → length locks.heads ≡ shape.buckets → length locks.nodes ≡ shape.slots → 1 ≤ a → owner locks place ≡ a → IsPlace w place
-  owned_place locks a (Bucket b) count more low has = elim (cases_lt b (length locks.heads)) [
-    | inl lt ↦ omega (arith, lt, count, heads_are)
-    | inr past ↦ absurd (omega (arith, low, has, get_or_past locks.heads b 0 past))
-  ]
-  owned_place locks a (Node s) count more low has = elim (cases_lt s (length locks.nodes)) [
-    | inl lt ↦ omega (arith, lt, more, links_are)
-    | inr past ↦ absurd (omega (arith, low, has, get_or_past locks.nodes s 0 past))
-  ]
+  owned_place locks a (Bucket b) count more low has = grind (arith, cases_lt, heads_are, get_or_past)
+  owned_place locks a (Node s) count more low has = grind (arith, cases_lt, links_are, get_or_past)
 
   pub is_curr : (curr : Option ℕ) → ((s : ℕ) → curr ≡ Some s → IsPlace w (Node s)) → IsCurr w curr
   is_curr None each = tt
