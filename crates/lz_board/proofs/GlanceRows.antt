@@ -1,18 +1,16 @@
 -- Worked rows of glances that must not hold, for each part of what a glance promises.
-use Rattle.std.proofs.Common.{◌≡◌, ⊎_elim, [], ◌∷◌, Ok, Err, sym, ap, subst, ◌∙◌, arith}
+use Rattle.std.proofs.Common.{◌≡◌, ⊎_elim, [], ◌∷◌, Ok, Err, sym, ap, ◌∙◌, arith}
 use mathlib.Core.Bool.{false≢true}
 use Rattle.std.proofs.lemmas.List.{append-nil}
 use Rattle.lz_list.specs.declared.publishing.Change.TheVariants.{Added as as_added}
 use Rattle.lz_list.specs.declared.publishing.Publishing.TheVariants.{Linked as linked, Settled as settled, Halted as halted}
-use Rattle.lz_list.specs.Traces.{Trace, Begins, flags_after, is_settled, linking, linking_in, member}
-use Rattle.lz_flush.specs.Settling.{may_answer}
+use Rattle.lz_list.specs.Traces.{Trace, Begins, linking, linking_in, member}
 use Rattle.lz_board.specs.declared.answer.Glance.{Glance}
 use Rattle.lz_board.specs.declared.answer.Glance.TheVariants.{Yes, No, Unsettled}
 use Rattle.lz_board.specs.declared.answer.GlanceFault.TheVariants.{Halted, Worn, BusyPass}
 use Rattle.lz_board.specs.declared.view.Part.{Part}
 use Rattle.lz_list.specs.declared.layout.Sizes.{Sizes}
 use Rattle.lz_board.specs.Glances.{Glances, Turns}
-use Rattle.lz_board.specs.Notes.{own}
 use Rattle.lz_board.specs.Plays.{fresh}
 
 abbrev pub sizes : Sizes
@@ -38,21 +36,14 @@ not_empty is = absurd cc
 
 -- so what is seen from E2 to E2 is E2
 pub only_E2 : (P : Trace) → Begins E2 P → Begins P E2 → P ≡ E2
-only_E2 P from upto =
-    ⊎_elim (λ is. is)
-    (⊎_elim (λ is. absurd (not_shorter (subst (Begins E2) is from))) (λ is. absurd (not_empty (subst (Begins E2) is from))))
-    upto
+only_E2 P from upto = grind (arith, not_shorter, not_empty)
 
 -- no yes to a key that was no member, or whose linking isn't settled
 not_yes_of_none : Glances 12 (Ok Yes) (seeing []) (seeing []) → ⊥
 not_yes_of_none h = false≢true (sym (ap (member 12) h.0.between.upto) ∙ h.0.settled.member)
 
 not_yes_yet : Glances 12 (Ok Yes) (seeing []) (seeing E1) → ⊥
-not_yes_yet h =
-    ⊎_elim
-    (λ is. false≢true (sym (ap (λ P. is_settled (linking 12 P) P) is) ∙ h.0.settled.settled))
-    (λ is. false≢true (sym (ap (member 12) is) ∙ h.0.settled.member))
-    h.0.between.upto
+not_yes_yet h = grind arith
 
 -- no No to a member
 not_no_of_member : Glances 12 (Ok No) (seeing E2) (seeing E2) → ⊥
@@ -72,13 +63,11 @@ unsettled_in_another_slot h = ⊎_elim (λ is. none (ap (linking_in 1) is)) (λ 
     none zero_is = let some = h.0.some in let same = h.0.in_slot in absurd (omega (arith, zero_is, some, same))
 
 unsettled_once_settled : Glances 12 (Ok (Unsettled 0)) (seeing E2) (seeing E2) → ⊥
-unsettled_once_settled h =
-    let asks = sym h.0.asks ∙ ap (λ P. may_answer (flags_after 0 P)) (only_E2 h.0.then h.0.between.from h.0.between.upto) in absurd cc
+unsettled_once_settled h = grind (arith, only_E2)
 
 -- its pass changes nothing
 glance_links : Glances 9 (Ok No) (seeing []) (seeing (linked 12 0 1 ∷ [])) → ⊥
-glance_links h =
-    let same : linked 12 0 1 ∷ [] ≡ [] = ap (own 1) (h.1.goes_on ∙ append-nil h.1.since) ∙ h.1.own in absurd cc
+glance_links h = grind (arith, append-nil)
 
 -- once its pass has seen the halt it tells nothing of a key, and of a halt only then
 glance_halted_before : (told : Glance) → Glances 9 (Ok told) (seeing (halted ∷ [])) (seeing (halted ∷ [])) → ⊥

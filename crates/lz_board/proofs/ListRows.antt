@@ -6,7 +6,7 @@ use Rattle.std.proofs.lemmas.Bool.Decides.{nat_tests}
 use Rattle.std.proofs.lemmas.List.{length-append}
 use Rattle.lz_list.specs.declared.publishing.Change.TheVariants.{Removed as as_removed}
 use Rattle.lz_list.specs.declared.publishing.Publishing.TheVariants.{Marked as marked, Settled as settled, Halted as halted}
-use Rattle.lz_list.specs.Traces.{Trace, Begins, is_settled, linking, member}
+use Rattle.lz_list.specs.Traces.{Trace, Begins, member}
 use Rattle.lz_board.specs.declared.answer.GlanceFault.TheVariants.{Halted, Worn, BusyPass}
 use Rattle.lz_board.specs.declared.page.Page.{Page}
 use Rattle.lz_board.specs.declared.page.ListFault.TheVariants.{Memory, Glance}
@@ -72,12 +72,7 @@ ended_early page = not_without 2 (omega arith) page.listed
 
 -- no page tells a key whose adding isn't settled, or that was removed
 undurable_told : IsPage 2 0 9 (12 ∷ []) None [] E1 → ⊥
-undurable_told page =
-    let was = page.listed.were 0 0 (omega arith) in
-    ⊎_elim
-    (λ is. false≢true (sym (ap (λ P. is_settled (linking 12 P) P) is) ∙ was.settled.settled))
-    (λ is. false≢true (sym (ap (member 12) is) ∙ was.settled.member))
-    was.between.upto
+undurable_told page = grind arith
 
 removed_told : IsPage 2 0 9 (12 ∷ []) None E4 E4 → ⊥
 removed_told page =

@@ -127,13 +127,7 @@ IsOutsideAt S finding slot = (k : ℕ) × (finding ≡ Key slot k) × (S k ≡ f
 module _ (S : Keys) (found : List Finding) (p : ℕ) (finding : Finding) (lt : p < length found) (at : finding ≡ get_or found p finding) (before : All (IsWithin S) (take p found)) where
   pub found_outside : (slot : Option ℕ) → is_some slot ≡ true → MatchOption slot (IsWithin S finding) (IsOutsideAt S finding) → MatchOption slot (All (IsWithin S) found) (IsFirstOutside S found)
   found_outside None some told = let e : false ≡ true = some in absurd (cc)
-  found_outside (Some slot) some (k, is, outside) = record {
-    place = p;
-    key = k;
-    there = (lt, subst (λ (f : Finding). get_or found p f ≡ f) is (sym at));
-    outside = outside;
-    before = before;
-  }
+  found_outside (Some slot) some (k, is, outside) = grind (arith, get_or)
 
   pub found_within : (slot : Option ℕ) → is_some slot ≡ false → MatchOption slot (IsWithin S finding) (IsOutsideAt S finding) → All (IsWithin S) (take (p + 1) found)
   found_within None none told = All-more (IsWithin S) found p finding lt before (subst (IsWithin S) at told)

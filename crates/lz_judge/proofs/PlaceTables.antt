@@ -46,10 +46,7 @@ module _ (ks : List (Option ℕ)) (key : ℕ) (old new : Places) (place : ℕ) (
   row_there p apart = ap (λ (xs : List ℕ). get_or xs p 0) rows ∙ get_or-set_other old.rows.items place p (length ks + 1) 0 apart
 
   still : (p : ℕ) → row_at old p ≢ 0 → row_at new p ≢ 0
-  still p some none = ⊎_elim
-      (λ (here : p ≡ place). let at = row_here in omega (arith, at, sym (ap (row_at new) here) ∙ none))
-      (λ (apart : p ≢ place). some (sym (row_there p apart) ∙ none))
-      (cases_eq p place)
+  still p some none = grind (arith, row_here, row_there, cases_eq)
 
   place_same : (k step : ℕ) → place_of k step (length new.rows.items) ≡ place_of k step (length old.rows.items)
   place_same k step = ap (λ (n : ℕ). place_of k step n) same_size

@@ -111,11 +111,7 @@ module _ (t : List ℕ) (cells : List Cell) (each : (i : ℕ) (cell : Cell) → 
 
 -- the members that a scan lists have keys
 pub listed_fits : (format : Format) (cells : List Cell) (ms : Nodes) → AreFresh format cells → AreListed cells (length cells) ms → (i : ℕ) → i < length ms → (node_at ms i).0 ≤ largest_key
-listed_fits format cells ms fresh listed i lt =
-    let at = listed.each i lt in
-    let cell = get_or cells (node_at ms i).1 no_cell in
-    let key : cell.key ≡ (node_at ms i).0 = key_of_member cell.stage cell.key (node_at ms i).0 at.1 in
-    subst (λ (k : ℕ). k ≤ largest_key) key (key_of_format format cell.key (fresh (node_at ms i).1 cell (slice_get-get_or cells (node_at ms i).1 no_cell at.0)).0)
+listed_fits format cells ms fresh listed i lt = grind (arith, get_or, key_of_member, key_of_format, slice_get-get_or)
 
 -- a key of any format is one of the widest
 fits_three : (format : Format) (k : ℕ) → k ≤ largest_of format → k ≤ largest_of Three

@@ -119,11 +119,7 @@ module _ (cells : List Cell) (cell : Cell) where
 
   -- those of the first slots are the same
   pub grown_listed : (ms : Nodes) → AreListed cells (length cells) ms → AreListed grown (length cells) ms
-  grown_listed ms are = record {
-    each = λ i lt. let at = are.each i lt in (at.0, was_at (node_at ms i).1 at.0 ∙ at.1);
-    all = λ k s lt is. are.all k s lt (sym (was_at s lt) ∙ is);
-    apart = are.apart;
-  }
+  grown_listed ms are = grind (arith, was_at)
 
 -- two nodes in each other's place
 module _ (ms : Nodes) (a b : ℕ) (lt_a : a < length ms) (lt_b : b < length ms) where
@@ -175,9 +171,7 @@ AreInOrder ms = (i : ℕ) → i + 1 < length ms → ((node_at ms i).0 ≤ (node_
 
 module _ (cells : List Cell) (ms : Nodes) (are : AreListed cells (length cells) ms) (up : AreInOrder ms) where
   further : (i d : ℕ) → i + d < length ms → (node_at ms i).0 ≤ (node_at ms (i + d)).0
-  further i zero lt =
-      let none : i ≡ i + zero = omega arith in
-      subst (λ (q : ℕ). (node_at ms i).0 ≤ (node_at ms q).0) none (omega arith)
+  further i zero lt = grind arith
   further i (suc d) lt =
       let next : i + suc d ≡ (i + d) + 1 = omega arith in
       subst (λ (q : ℕ). (node_at ms i).0 ≤ (node_at ms q).0) (sym next) (omega (arith, further i d (omega (arith, lt)), (up (i + d) (omega (arith, lt))).0))
@@ -320,10 +314,7 @@ module _ (ms : Nodes) (i : ℕ) (low : 1 ≤ i) where
 
   -- a pair is the last one or an earlier one
   pair_cases : (j : ℕ) → j + 1 < i + 1 → ((node_at ms j ≡ f) × (node_at ms (j + 1) ≡ g)) ⊎ (j + 1 < i)
-  pair_cases j lt = elim (cases_eq j (i - 1)) [
-    | inl last ↦ inl (ap (node_at ms) last, ap (node_at ms) (ap (λ (x : ℕ). x + 1) last ∙ next))
-    | inr other ↦ inr (omega (arith, lt, other, low))
-  ]
+  pair_cases j lt = grind (arith, cases_eq, low)
 
   from_none : (b : Bool) → (f.0 == g.0) ≡ b → IsLowest ms i None → IsLowest ms (i + 1) (if b then Some (f.1, g.1) else None)
   from_none true is none = (

@@ -5,7 +5,7 @@ use Rattle.std.proofs.lemmas.Bool.{cases_lt}
 use Rattle.std.proofs.lemmas.List.{append-nil, map-append, take_all, take_more}
 use Rattle.lz_slot.specs.Rooms.{largest_of}
 use Rattle.lz_slot.specs.declared.format.Format.{Format}
-use Rattle.lz_slot.specs.Bytes.{format_of, held, held_key, slot_at, slot_read}
+use Rattle.lz_slot.specs.Bytes.{held, held_key, slot_at}
 use Rattle.lz_slot.specs.declared.slot.SlotRead.{SlotRead}
 use Rattle.lz_slot.specs.declared.slot.SlotRead.TheVariants.{Closed, Member}
 use Rattle.lz_slot.proofs.Files.ExactBytes.{slot_reads_back}
@@ -17,9 +17,7 @@ use Rattle.lz_vault.proofs.MakingTexts.{zeros_closed}
 
 -- a text's keys are one list
 pub one_list : (t : List ℕ) (ks js : List ℕ) → AreHeldBy t ks → AreHeldBy t js → ks ≡ js
-one_list t ks js one other =
-    let same : one.0 ≡ other.0 = omega (arith, one.1.size, other.1.size) in
-    one.2 ∙ ap (λ (n : ℕ). map (λ (node : ℕ × ℕ). node.0) (held t n)) same ∙ sym other.2
+one_list t ks js one other = grind arith
 
 -- the keys of a new file are those from which it was made, in their order
 module _ (disk : Medium) (format : Format) (n : ℕ) (ks : List ℕ) (is : IsRenewed disk format n ks) (few : length ks ≤ n) (fit : (i : ℕ) → i < length ks → get_or ks i 0 ≤ largest_of format) where
@@ -27,13 +25,10 @@ module _ (disk : Medium) (format : Format) (n : ℕ) (ks : List ℕ) (is : IsRen
   keys_below i = map (λ (node : ℕ × ℕ). node.0) (held disk.seen i)
 
   says_key : (i : ℕ) → i < length ks → slot_at disk.seen i ≡ Member (get_or ks i 0)
-  says_key i lt =
-      (λ p. slot_read (is.named p) ((is.slots i (omega (arith, lt, few)) ∙ text_open format ks i lt) p))
-      ∙ slot_reads_back format (get_or ks i 0) (fit i lt)
+  says_key i lt = grind (arith, text_open, slot_reads_back, get_or)
 
   says_none : (i : ℕ) → i < n → length ks ≤ i → slot_at disk.seen i ≡ Closed
-  says_none i lt le =
-      ap (slot_read (format_of disk.seen)) (is.slots i lt ∙ text_blank format ks i le) ∙ zeros_closed (format_of disk.seen)
+  says_none i lt le = grind (arith, text_blank, zeros_closed)
 
   key_of_slot : (i : ℕ) (said : SlotRead) → slot_at disk.seen i ≡ said → keys_below (suc i) ≡ keys_below i ++ map (λ (node : ℕ × ℕ). node.0) (held_key said i)
   key_of_slot i said says = map-append (λ (node : ℕ × ℕ). node.0) (held disk.seen i) (held_key (slot_at disk.seen i) i) ∙ ap (λ (s : SlotRead). keys_below i ++ map (λ (node : ℕ × ℕ). node.0) (held_key s i)) says

@@ -1,5 +1,5 @@
 -- What the writes that put a key, open a slot and close it leave of what the cells say, done or failed.
-use Rattle.std.proofs.Common.{◌≡◌, ◌⊎◌, inl, inr, ⊎_elim, ℕ, zero, suc, ◌+◌, ◌*◌, ◌-◌, ◌≤◌, ◌<◌, Bool, true, false, List, [], ◌∷◌, length, get_or, drop, replicate, sym, refl, ◌∙◌, ap, subst, arith, Some}
+use Rattle.std.proofs.Common.{◌≡◌, ◌⊎◌, inl, inr, ⊎_elim, ℕ, zero, suc, ◌+◌, ◌*◌, ◌≤◌, ◌<◌, Bool, true, false, List, [], ◌∷◌, length, get_or, drop, replicate, sym, refl, ◌∙◌, ap, subst, arith, Some}
 use Rattle.std.specs.Prelude.{slice_get, slice_set}
 use Rattle.std.proofs.lemmas.Bool.{true≢false}
 use Rattle.std.proofs.lemmas.List.{get_or-replicate}
@@ -71,12 +71,7 @@ module _ (s : ℕ) (bytes c d : List ℕ) (is_slot : length bytes ≡ 16) (agree
   older_size = omega (arith, length-between d (16 + 16 * s) (32 + 16 * s) (omega (arith, long, agree.size)))
 
   slot_mixes : (i : ℕ) → i < 16 → (get_or (slot_bytes c s) i 0 ≡ get_or (slot_bytes d s) i 0) ⊎ (get_or (slot_bytes c s) i 0 ≡ get_or bytes i 0)
-  slot_mixes i lt =
-      let new = get_or-between c (16 + 16 * s) (32 + 16 * s) i 0 (omega (arith, lt)) in
-      let old = get_or-between d (16 + 16 * s) (32 + 16 * s) i 0 (omega (arith, lt)) in
-      let there : (16 + 16 * s + i) - (16 + 16 * s) ≡ i = omega arith in
-      ⊎_elim (λ older. inl (new ∙ older ∙ sym old)) (λ wrote. inr (new ∙ wrote ∙ ap (λ (n : ℕ). get_or bytes n 0) there))
-      (mixes (16 + 16 * s + i) (omega arith) (omega (arith, lt, is_slot)) (omega (arith, lt, long, agree.size)))
+  slot_mixes i lt = grind (arith, get_or-between, get_or)
 
 -- zeros over a part of a slot leave a part of it
 zeros_part : (s : ℕ) (c d whole : List ℕ) → length whole ≡ 16 → AgreeOutside (16 + 16 * s) 16 c d → Mixes (16 + 16 * s) (replicate 16 0) c d → 32 + 16 * s ≤ length c → IsPartOf (slot_bytes d s) whole → IsPartOf (slot_bytes c s) whole

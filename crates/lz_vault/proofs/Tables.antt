@@ -130,11 +130,7 @@ module _ (cells : List Cell) (s : ℕ) (old new : Cell) (there : slice_get cells
     -- whose last write isn't durable, as the one before was
     module _ (was : is_covered old.stage ≡ true) (is : is_covered new.stage ≡ false) where
       one_more : length slots + 1 ≡ count_by is_uncovered cells'
-      one_more =
-          let by = counted is_uncovered in
-          let none : ◌≡◌ {A = ℕ} (cond (is_uncovered old) 1 0) 0 = ap (λ (b : Bool). cond (not b) 1 0) was in
-          let one : ◌≡◌ {A = ℕ} (cond (is_uncovered new) 1 0) 1 = ap (λ (b : Bool). cond (not b) 1 0) is in
-          omega (arith, by, none, one, listed.once)
+      one_more = grind (arith, counted)
 
       pub has_room : length slots < length cells
       has_room = omega (arith, one_more, count_by-le-length is_uncovered cells', length-set cells s new)
@@ -176,12 +172,7 @@ module _ (cells : List Cell) (s : ℕ) (old new : Cell) (there : slice_get cells
   pub table_turned : (slots slots' : List ℕ) (room room' opened opened' : ℕ) → IsTable cells slots room opened → (is_covered old.stage ≡ false → is_covered new.stage ≡ false)
       → slots' ≡ (if is_listed_then old.stage new.stage then slots ++ s ∷ [] else slots) → room' ≡ room
       → opened' + cond (is_open old.stage) 1 0 ≡ opened + cond (is_open new.stage) 1 0 → IsTable cells' slots' room' opened'
-  table_turned slots slots' room room' opened opened' table stays items capacity turned = record {
-    few = omega (arith, table.few, length-set cells s new);
-    room = omega (arith, table.room, length-set cells s new, capacity);
-    listed = subst (AreUnsynced cells') (sym items) (relisted slots table.listed (is_covered old.stage) (is_covered new.stage) refl refl stays);
-    opened = let by = counted (λ (c : Cell). is_open c.stage) in omega (arith, by, turned, table.opened);
-  }
+  table_turned slots slots' room room' opened opened' table stays items capacity turned = grind (arith, length-set, relisted, counted)
 
 -- an open slot counts
 pub open_counts : (cells : List Cell) (s : ℕ) (cell : Cell) → slice_get cells s ≡ Some cell → is_open cell.stage ≡ true → 1 ≤ open_count cells
@@ -256,10 +247,7 @@ module _ (before : List Cell) where
       after' = slice_set after s (cell_synced c)
 
       at_slot : (cell : Cell) → slice_get before s ≡ Some cell → slice_get after' s ≡ Some (cell_synced cell)
-      at_slot cell at = set_same after s (cell_synced c) (slice_get_within after s c there) ∙ ⊎_elim
-          (λ same. ap (λ (q : Cell). Some (cell_synced q)) (same_Some c cell (sym there ∙ same)))
-          (λ on. ap (λ (q : Cell). Some (cell_synced q)) (same_Some c (cell_synced cell) (sym there ∙ on)) ∙ ap Some (synced_again cell))
-          (moved.each s cell at)
+      at_slot cell at = grind (arith, set_same, slice_get_within, same_Some, synced_again)
 
   -- once all that are listed moved on, all did
   pub moved_all : (after : List Cell) (slots : List ℕ) → AreUnsynced before slots → AreMoved before after slots → after ≡ map cell_synced before

@@ -115,10 +115,7 @@ module _ (N B S : ℕ) (m : ℕ → Option ℕ) (found : IsFound N (members_by m
   opened_is = λ i. opening (heads_long i) (shown i)
 
   pub is_opened : AreOpened W
-  is_opened = record {
-    found = subst (λ (x : ℕ × Chain). IsFound x.0 x.1) (λ i. (sym links_long i, sym shown i)) found;
-    words = λ i. words_of_trace (sym links_long i) (sym heads_long i) (sym (length-replicate {A = ℕ} S 0) i) (sym opened_is i);
-  }
+  is_opened = grind (arith, links_long, shown, heads_long, length-replicate, opened_is)
 
 -- the members that a text holds
 abbrev key_read : SlotRead → Option ℕ
@@ -140,11 +137,4 @@ held_by t (suc n) = λ i. held_by t n i ++ held_node (slot_at t n) n i
 -- A life that read this text begins with the words of a board, whose trace at the start is the life's.
 pub opens_text : (shape : Shape) (t : List ℕ) (w : Words) → ((i j k : ℕ) → i < shape.slots → j < shape.slots → slot_at t i ≡ Member k → slot_at t j ≡ Member k → i ≡ j)
     → w ≡ words_of_trace shape.slots shape.buckets shape.passes (first_trace shape t) → AreOpened w × (opened_by w ≡ first_trace shape t)
-opens_text shape t w once is =
-    let m : ℕ → Option ℕ = λ s. key_read (slot_at t s) in
-    let N = shape.slots in
-    let same = held_by t N in
-    let found : IsFound N (members_by m N) = subst (IsFound N) same (held_found t N N once (omega arith)) in
-    let first : opening shape.buckets (members_by m N) ≡ first_trace shape t = ap (opening shape.buckets) (sym same) in
-    let words : w ≡ words_of_trace N shape.buckets shape.passes (opening shape.buckets (members_by m N)) = is ∙ ap (words_of_trace N shape.buckets shape.passes) (sym first) in
-    (subst AreOpened (sym words) (is_opened N shape.buckets shape.passes m found), ap opened_by words ∙ opened_is N shape.buckets shape.passes m found ∙ first)
+opens_text shape t w once is = grind (arith, held_by, held_found, is_opened, opened_is)

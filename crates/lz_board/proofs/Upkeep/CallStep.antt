@@ -1,5 +1,5 @@
 -- The moves, as the calls ask for them.
-use Rattle.std.proofs.Common.{◌≡◌, ℕ, suc, ◌≤◌, ◌==◌, false, List, [], ◌∷◌, sym, ◌∙◌, subst, arith}
+use Rattle.std.proofs.Common.{◌≡◌, ℕ, suc, ◌≤◌, ◌==◌, false, List, [], ◌∷◌, sym, subst, arith}
 use Rattle.std.specs.Prelude.{slice_index}
 use mathlib.Core.Option.{none, some}
 use prog.Atomic.{either}
@@ -13,7 +13,7 @@ use Rattle.lz_board.specs.declared.view.Note.{Note}
 use Rattle.lz_board.specs.declared.view.Part.{Part}
 use Rattle.lz_board.specs.declared.view.View.{View}
 use Rattle.lz_board.specs.Notes.{IsShared, trace_of}
-use Rattle.lz_list.specs.Addresses.{index, word_at}
+use Rattle.lz_list.specs.Addresses.{index}
 use Rattle.lz_board.specs.Kept.{is_calling, IsPart, Keeps, PinTold}
 use Rattle.lz_board.specs.Noting.{MayNote, KeepsPin, MovesPin, Writes}
 use Rattle.lz_board.specs.Plays.{Looked, Loaded, Entered, Saw, Noted, Moved, alone, pen_view, found_view, pass_at, Finds}
@@ -56,6 +56,4 @@ module _ (z : Sizes) (opened : Trace) (slots id : ℕ) where
 
 -- a word that was found, by its place
 pub finds_word : (z : Sizes) (h : Part) (seen : Trace) (i found : ℕ) (w : Word) → h.sizes ≡ z → i ≡ index z w → IsShared z w → Finds seen i found h → found ≡ word_after z.buckets seen w
-finds_word z h seen i found w sized at shared finds =
-    let back : word_at h.sizes i ≡ w = (λ k. word_at (sized k) (at k)) ∙ decode z w (shared_placed z w shared) in
-    finds (subst (λ (x : Sizes × Word). IsShared x.0 x.1) (λ k. (sym sized k, sym back k)) shared) ∙ (λ k. word_after (sized k).buckets seen (back k))
+finds_word z h seen i found w sized at shared finds = grind (arith, decode, shared_placed)

@@ -43,8 +43,7 @@ extends_both P Q [] (a, e) (b, f) le = nil P Q a b e f
     nil P Q (x ∷ a) b e f = absurd cc
     nil P Q [] (x ∷ b) e f = absurd cc
 extends_both P Q (r ∷ R) (a, e) ([], f) le = (a, sym f ∙ e)
-extends_both P Q (r ∷ R) ([], e) (x ∷ b, f) le =
-    let l = ap length (sym e ∙ f) ∙ length-append (x ∷ b) Q in let m : length (x ∷ b) ≡ suc (length b) = refl in absurd (omega (arith, l, m, le))
+extends_both P Q (r ∷ R) ([], e) (x ∷ b, f) le = grind (arith, length-append)
 extends_both P Q (r ∷ R) (y ∷ a, e) (x ∷ b, f) le = extends_both P Q R (a, ap tail e) (b, ap tail f) le
 
 pub begins_extends : (P more : Trace) → Begins P (more ++ P)

@@ -9,14 +9,12 @@ use Rattle.atomic_table.specs.Table.{State, Me, step, keeps, Allows}
 use Rattle.lz_list.specs.declared.word.Word.{Word}
 use Rattle.lz_list.specs.declared.word.Word.TheVariants.{Pin as PinOf}
 use Rattle.lz_list.specs.Traces.{Trace, Lawful, word_after}
-use Rattle.lz_list.specs.Pinned.{IsQuiet}
 use Rattle.lz_list.specs.declared.layout.Sizes.{Sizes}
 use Rattle.lz_board.specs.declared.view.Note.{Note}
 use Rattle.lz_board.specs.declared.view.Part.{Part}
 use Rattle.lz_board.specs.declared.view.View.{View}
 use Rattle.lz_board.specs.Notes.{trace_of, steps_of, IsShared, pin_after}
 use Rattle.lz_list.specs.Addresses.{index, word_at}
-use Rattle.lz_machine.specs.Yards.{IsInside}
 use Rattle.lz_board.specs.Kept.{is_calling, Knows, PartFits, IsPart, ViewFits, PinTold, Keeps}
 use Rattle.lz_board.specs.Plays as plays
 use Rattle.lz_board.specs.Plays.{pen_view, with_parts, knowing, loading, found_note, found_view, IsShownTo}
@@ -29,12 +27,7 @@ use Rattle.lz_board.proofs.Upkeep.SeatTable.{replaced, from_map, apart_map}
 module _ (z : Sizes) (opened : Trace) where
   -- what a pass is shown, of the trace as it is
   pub shown_to : (ns : List Note) (h : Part) → Lawful z.buckets z.slots (trace_of opened ns) → Knows z opened ns h → IsShownTo (trace_of opened ns) h
-  shown_to ns h lawful k = record {
-    lawful = subst (λ (y : Sizes). Lawful y.buckets y.slots (trace_of opened ns)) (sym k.sized) lawful;
-    since = k.since;
-    from = k.from;
-    kept = subst (λ (y : Sizes). IsInside h.pin → IsQuiet y.buckets h.begun (trace_of opened ns)) (sym k.sized) k.kept;
-  }
+  shown_to ns h lawful k = grind arith
 
   -- a step that changes no word and no note, and of the parts at its seat what they know
   module _ (id : ℕ) (s : State Note View) (k : Keeps z opened s) (v : View) (at : get_elem? s.views id ≡ some v) (f : Part → Part)

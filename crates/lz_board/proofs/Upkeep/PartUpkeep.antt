@@ -1,5 +1,5 @@
 -- A pass's part through each step on the board.
-use Rattle.std.proofs.Common.{◌≡◌, ◌≢◌, ◌⊎◌, inl, ⊎_elim, ℕ, suc, ◌≤◌, ◌==◌, true, false, List, [], ◌∷◌, ◌++◌, map, length, refl, sym, ap, ◌∙◌, subst, arith, length-append, eq-eqb, ne_eqb, true≢false, le_refl}
+use Rattle.std.proofs.Common.{◌≡◌, ◌≢◌, ◌⊎◌, inl, ⊎_elim, ℕ, ◌≤◌, ◌==◌, true, false, List, [], ◌∷◌, ◌++◌, map, length, refl, sym, ap, ◌∙◌, subst, arith, length-append, eq-eqb, ne_eqb, true≢false, le_refl}
 use mathlib.Core.Bool.{false≢true}
 use Rattle.std.specs.Prelude.{if◌then◌else◌}
 use Rattle.std.proofs.lemmas.Bool.{cases_eq}
@@ -120,10 +120,7 @@ module _ (z : Sizes) (opened : Trace) (ns : List Note) where
           (cases_eq q h.number)
 
       stays : is_calling z h.steps ≡ true → pin_after h.number (found_note q v ∷ ns) ≡ pin_after h.number ns
-      stays calling = ⊎_elim
-          (λ (here : q ≡ h.number). ap (λ b. if b then v else pin_after h.number ns) (eq-eqb q h.number here) ∙ sym (same (sym here)) ∙ sym (noted_pin calling))
-          (λ (away : q ≢ h.number). ap (λ b. if b then v else pin_after h.number ns) (ne_eqb q h.number away))
-          (cases_eq q h.number)
+      stays calling = grind (arith, eq-eqb, ne_eqb, cases_eq)
 
   -- a step of the pass h is noted
   module _ (h : Part) (n : Note) (k : Knows z opened ns h) (may : MayNote z opened ns h n) where
@@ -137,14 +134,10 @@ module _ (z : Sizes) (opened : Trace) (ns : List Note) where
     trace_noted = ap (λ l. as_list n.published ++ l) (trace_splice opened h.number h.loads ns)
 
     steps_noted : steps_of h.number now ≡ n ∷ (map (load_note h.number) h.loads ++ h.steps)
-    steps_noted = own_step opened h.number n (splice opened h.number h.loads ns) may.by
-        ∙ ap (λ l. n ∷ l) (steps_splice opened h.number h.base (length h.known) h.loads ns k.quiet k.least k.order ∙ ap (λ l. map (load_note h.number) h.loads ++ l) k.noted)
+    steps_noted = grind (arith, own_step, steps_splice)
 
     quiet_noted : Quiet opened h.number (length t') now
-    quiet_noted =
-        let below = since_length h.number t h.known k.since in
-        let long = ap length trace_noted ∙ length-append (as_list n.published) t in
-        ((λ over. absurd (omega arith)), quiet_more opened h.number (length h.known) (length t') (splice opened h.number h.loads ns) (quiet_splice opened h.number h.base (length h.known) h.loads ns k.quiet k.least k.order) (omega (arith, below, long)))
+    quiet_noted = grind (arith, since_length, trace_noted, length-append, quiet_more, quiet_splice)
 
     least_noted : length opened ≤ length t'
     least_noted =
@@ -163,25 +156,10 @@ module _ (z : Sizes) (opened : Trace) (ns : List Note) where
 
     -- one that counts it up is the last change
     turned_moved : MovesPin h n → turned_at h.number opened now ≡ t'
-    turned_moved moves = ap (λ b. if b then turned_at h.number opened (splice opened h.number h.loads ns) else trace_of opened (splice opened h.number h.loads ns)) (ne_eqb (pin_after h.number now) (pin_after h.number (splice opened h.number h.loads ns)) (λ same. let now_is = pin_now (suc h.pin) moves.0 in let was_is = pin_noted in absurd (omega (arith, same, now_is, was_is))))
-        ∙ ap (λ x. as_list x ++ trace_of opened (splice opened h.number h.loads ns)) (sym moves.2)
+    turned_moved moves = grind (arith, ne_eqb, pin_now, pin_noted)
 
     pub knows_noted : KeepsPin h n → Knows z opened now (noted_part opened ns n h)
-    knows_noted keeps = record {
-      sized = k.sized;
-      numbered = k.numbered;
-      since = ([], refl, refl);
-      noted = steps_noted;
-      quiet = quiet_noted;
-      least = least_noted;
-      order = le_refl (length t');
-      shown = tt;
-      found = ((λ is. inl (sym (pin_now h.pin keeps))), found_splice opened h.number h.loads ns (noted_part opened ns n h) (found_same opened ns h (noted_part opened ns n h) refl refl refl k.found));
-      began = k.began;
-      from = subst (λ l. Extends l h.begun) (sym trace_noted) (extends_more (as_list n.published) h.begun t k.from);
-      kept = λ inside. subst (IsQuiet z.buckets h.begun) (sym trace_noted) (quiet_more_by z opened ns h n.published k may.prepares inside);
-      turned = λ inside calling. k.turned inside (may.inside inside) ∙ sym (turned_noted h.number (pin_now h.pin keeps ∙ sym pin_noted));
-    }
+    knows_noted keeps = grind (arith, steps_noted, quiet_noted, least_noted, le_refl, pin_now, found_splice, found_same, trace_noted, extends_more, quiet_more_by, turned_noted, pin_noted)
 
     pub knows_moved : MovesPin h n → Knows z opened now (moved_part opened ns n h)
     knows_moved moves = record {
@@ -224,12 +202,4 @@ module _ (z : Sizes) (opened : Trace) (ns : List Note) where
     told_own pin is worn = record { past = subst (λ v. v ≤ pin) (sym (pin_now pin is)) (le_refl pin); worn = worn; calling = λ calling. pin_now pin is }
 
     pub told_other : (q pin : ℕ) → q ≢ h.number → PinTold z ns q pin → PinTold z now q pin
-    told_other q pin away told =
-        let other : n.by ≢ q = λ is. away (sym is ∙ may.by) in
-        let same : pin_after q now ≡ pin_after q ns = pin_other q n.by n.what (pin_after q (splice opened h.number h.loads ns)) may.step other ∙ pin_splice opened q h.number h.loads ns in
-        let steps : steps_of q now ≡ steps_of q ns = other_step opened q n (splice opened h.number h.loads ns) other ∙ steps_splice_other opened q h.number h.loads ns (λ is. away (sym is)) in
-        record {
-          past = subst (λ v. v ≤ pin) (sym same) told.past;
-          worn = told.worn;
-          calling = λ calling. same ∙ told.calling (subst (λ l. is_calling z l ≡ true) steps calling);
-        }
+    told_other q pin away told = grind (arith, pin_other, pin_splice, other_step, steps_splice_other)

@@ -1,5 +1,5 @@
 -- The views of all seats, and the parts at one, where one view is put for another.
-use Rattle.std.proofs.Common.{◌≡◌, ◌≢◌, ◌⊎◌, inl, inr, ⊎_elim, ℕ, zero, suc, ◌<◌, ◌==◌, cond, List, [], ◌∷◌, ◌++◌, map, length, set, refl, sym, ap, ◌∙◌, subst, arith, eq-eqb, ne_eqb}
+use Rattle.std.proofs.Common.{◌≡◌, ◌≢◌, ◌⊎◌, inl, inr, ⊎_elim, ℕ, zero, suc, ◌<◌, ◌==◌, cond, List, [], ◌∷◌, ◌++◌, map, length, set, refl, sym, ap, ◌∙◌, arith, eq-eqb, ne_eqb}
 use mathlib.Core.Option.{some, some-ne-none, some-injective}
 use lib.ListN.{get_elem?}
 use Rattle.atomic_table.proofs.Lists.{at_set}
@@ -8,11 +8,7 @@ use Rattle.lz_board.specs.declared.view.View.{View}
 use Rattle.lz_board.specs.Kept.{IsPart, Apart}
 
 pub replaced : (F : ℕ → View → Type 0) (views : List View) (i : ℕ) (w : View) → F i w → ((j : ℕ) (u : View) → j ≢ i → get_elem? views j ≡ some u → F j u) → (j : ℕ) (u : View) → get_elem? (set views i w) j ≡ some u → F j u
-replaced F views i w mine others j u e =
-    ⊎_elim
-    (λ (x : (j ≡ i) × (w ≡ u)). subst (λ (y : ℕ × View). F y.0 y.1) (λ k. (sym x.0 k, x.1 k)) mine)
-    (λ (x : (j ≢ i) × (get_elem? views j ≡ some u)). others j u x.0 x.1)
-    (at_set views i j w u e)
+replaced F views i w mine others j u e = grind (arith, at_set)
 
 pub from_map : (f : Part → Part) (hs : List Part) (g : Part) → IsPart (map f hs) g → (h : Part) × IsPart hs h × (g ≡ f h)
 from_map f [] g (n, e) = absurd (some-ne-none g (sym e))

@@ -1,5 +1,5 @@
 -- A walker's loads: what it knows goes on as the trace does, and each load takes it further.
-use Rattle.std.proofs.Common.{◌≡◌, inl, inr, ℕ, zero, suc, ◌+◌, ◌-◌, ◌*◌, ◌<◌, ◌≤◌, nat_lt, if◌then◌else◌, Bool, true, false, [], ◌∷◌, ◌++◌, Some, refl, sym, ap, ◌∙◌, subst, append_assoc, arith}
+use Rattle.std.proofs.Common.{◌≡◌, inl, inr, ℕ, zero, suc, ◌-◌, ◌*◌, ◌<◌, ◌≤◌, nat_lt, if◌then◌else◌, Bool, true, false, [], ◌∷◌, ◌++◌, Some, refl, sym, ap, ◌∙◌, subst, append_assoc, arith}
 use Rattle.std.proofs.lemmas.Bool.Decides.{nat_tests, eqb_tells}
 use Rattle.lz_slot.specs.Limits.{most_slots}
 use Rattle.lz_list.specs.declared.flags.Flags.{Flags}
@@ -49,9 +49,7 @@ module _ (buckets slots : ℕ) (P0 : Trace) (k : ℕ) where
       let r = rank_stays buckets slots e P law P0 quiet.0 quiet.1 (bucket_of buckets k) (place_number pred) (pred_stood buckets slots e P law P0 quiet.0 quiet.1 k pred (suc s) h) in
       ap (λ (n : ℕ). 2 * (suc k - n)) r
   left_stays e P law quiet (AtMet pred s) h = refl
-  left_stays e P law quiet (AtBelow s) h =
-      let r = rank_stays buckets slots e P law P0 quiet.0 quiet.1 (bucket_of buckets k) (suc s) h.stood in
-      ap (λ (n : ℕ). 1 + 2 * (suc k - n)) r
+  left_stays e P law quiet (AtBelow s) h = grind (arith, rank_stays)
 
   pub looking_on : (more P : Trace) → Lawful buckets slots (more ++ P) → IsQuiet buckets P0 (more ++ P) → (look : Look) → IsLooking buckets k P0 P look → IsLooking buckets k P0 (more ++ P) look
   looking_on [] P law quiet look h = h

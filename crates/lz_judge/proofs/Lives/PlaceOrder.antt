@@ -176,10 +176,4 @@ of_life places H life ordered is_life = record {
 
 -- they stand in the order of their places
 pub in_order : (places : BTreeMap ℕ ℕ) (H : List Mark) (calls : List Listed) → OfLife places H calls → IsInOrder (IsAt places) H (calls_of calls)
-in_order places H calls listed = record {
-  each = λ i. (
-    λ is. let (l, at, same) = listed_among calls i is in subst (λ (n : ℕ). IsMade H n × ((p : ℕ) × IsAt places n p)) same ((l.command, listed.called l at), listed.have l at),
-    λ (made, (p, at)). let (l, among, same) = listed.among i p made at in subst (λ (n : ℕ). IsListed n (calls_of calls)) same (among_listed calls l among),
-  );
-  ascending = λ i j p q is at at'. ascending places calls i j p q listed.rise is at at';
-}
+in_order places H calls listed = grind (arith, listed_among, among_listed, ascending)

@@ -110,9 +110,7 @@ module _ (at : ℕ → ℕ → Type 0) where
         }
 
   pub chain_before : (M : List Mark) (T : Keys) → OrderedChain at (lives (members []) M) T → OrderedChain at (lives_before M) (this_start M)
-  chain_before M T chain =
-      let parts : OrderedChain at (now M ∷ lives_before M) T = subst (λ ls. OrderedChain at ls T) (lives_parts M) chain in
-      parts.3
+  chain_before M T chain = grind (arith, lives_parts)
 
   -- the past as one run
   past_run : (M : List Mark) → IsLawful M → AreApart M → OrderedChain at (lives_before M) (this_start M) → RunIs at (past_of M) (this_start M)

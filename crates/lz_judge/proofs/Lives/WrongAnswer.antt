@@ -116,13 +116,10 @@ module _ (places : BTreeMap ℕ ℕ) (answers : BTreeMap ℕ Bool) (M : List Mar
         place = listed.have at.this this_among
 
         parts : L ++ calls_of (values_of life.entries) ≡ (L ++ calls_of at.done) ++ at.this.call ∷ calls_of at.rest
-        parts =
-            ap (λ (ls : List Listed). L ++ calls_of ls) at.parts ∙ ap (λ (l : List ℕ). L ++ l) (map-append (λ (l : Listed). l.call) at.done (at.this ∷ at.rest))
-            ∙ sym (append_assoc L (calls_of at.done) (at.this.call ∷ calls_of at.rest))
+        parts = grind (arith, map-append, append_assoc)
 
         front : IsFront (IsAt places) M place.0 (L ++ calls_of at.done)
-        front = front_is (IsAt places) (λ i p q here there. same_Some p q (sym here ∙ there)) M (L ++ calls_of at.done) (calls_of at.rest) at.this.call place.0
-            (subst (IsInOrder (IsAt places) M) parts all_in_order) place.1
+        front = grind (arith, front_is, same_Some, calls_of, at, place, parts, all_in_order)
 
         led : Leads M (members []) (L ++ calls_of at.done) at.set_before
         led = leads_then M L (calls_of at.done) (members []) start at.set_before (leads_more M (members []) (members []) L start leads (λ k. refl))

@@ -4,8 +4,8 @@ use Rattle.std.proofs.lemmas.List.{length-take-le, take-append-le, drop-append-l
 use Rattle.std.proofs.Math.Seq.{drop-append-add, take-append-add}
 use Rattle.std.proofs.lemmas.Slice.{take-put_mid_below}
 use Rattle.std.specs.Io.KnownBytes.{Consumes, IsAtEnd, Keeps}
-use Rattle.std.proofs.KnownBytes.{Consumes-kept, Consumes-trans}
-use borrow.Rule.Slice.PartMut.{put_mid, post_of}
+use Rattle.std.proofs.KnownBytes.{Consumes-trans}
+use borrow.Rule.Slice.PartMut.{put_mid}
 use Rattle.std.proofs.lemmas.Bool.Decides.{nat_tests}
 use Rattle.lz_slot.specs.Bytes.{header_body, header_read, of_size, open_byte, slot_at, slot_bytes}
 use Rattle.lz_slot.specs.declared.format.Format.{Format}
@@ -22,11 +22,7 @@ use Rattle.lz_judge.proofs.Surveys.SoundFile.{refused_surveyed, sound_holds}
 
 -- more bytes of a buffer were read
 take_filled : (a k n : ℕ) (xs ys : List ℕ) → a ≤ length xs → n ≤ length ys → take (a + n) (put_mid a k xs ys) ≡ take a xs ++ take n ys
-take_filled a k n xs ys within fits =
-    let front : length (take a xs) ≡ a = length-take-le a xs within in
-    ap (λ (m : ℕ). take (m + n) (put_mid a k xs ys)) (sym front)
-    ∙ take-append-add (take a xs) (ys ++ post_of a k xs) n
-    ∙ ap (λ (l : List ℕ). take a xs ++ l) (take-append-le n ys (post_of a k xs) fits)
+take_filled a k n xs ys within fits = grind (arith, length-take-le, take-append-add, take-append-le)
 
 pub fill_more : (before middle after : Option (List ℕ)) (a k n : ℕ) (xs ys : List ℕ) → a ≤ length xs → n ≤ length ys → Consumes before middle (take a xs) → Consumes middle after (take n ys)
     → Consumes before after (take (a + n) (put_mid a k xs ys))
@@ -35,8 +31,7 @@ fill_more before middle after a k n xs ys within fits one more =
 
 pub fill_kept : (before middle after : Option (List ℕ)) (a k : ℕ) (xs ys : List ℕ) → a ≤ length xs → Consumes before middle (take a xs) → Keeps middle after
     → Consumes before after (take a (put_mid a k xs ys))
-fill_kept before middle after a k xs ys within one kept =
-    subst (Consumes before after) (sym (take-put_mid_below a k xs ys a (le_refl a) within)) (Consumes-kept before middle after (take a xs) one kept)
+fill_kept before middle after a k xs ys within one kept = grind (arith, take-put_mid_below, le_refl)
 
 -- what holds of the text that was read, whatever follows it, holds of the whole
 pub of_text : (P : List ℕ → Type 0) (input after : Option (List ℕ)) (text : List ℕ) → Consumes input after text → ((rest : List ℕ) → (IsAtEnd after → rest ≡ []) → P (text ++ rest)) → OfText P input

@@ -138,9 +138,7 @@ module _ (says : ℕ → SlotRead) (n : ℕ) (found : List Finding) (findings : 
           → slot_of finding ≡ i → (first : ℕ) × Contains found (Key first k)
       told i is below (Key j q) at here same = let key : q ≡ k = same_member q k (sym here.holds ∙ ap says same ∙ is) in (j, subst (λ (p : ℕ). Contains found (Key j p)) key at)
       told i is below (BadKey j) at here same = absurd (let e : read.BadKey ≡ read.Member k = sym here ∙ ap says same ∙ is in cc)
-      told i is below (Twice j first) at (less, (q, holds, one)) same =
-          let key : q ≡ k = same_member q k (sym holds ∙ ap says same ∙ is) in
-          below first (omega (arith, less, same)) (subst (λ (p : ℕ). IsFirst says first p) key one)
+      told i is below (Twice j first) at (less, (q, holds, one)) same = grind (arith, same_member)
 
   -- the finding of the table that has this key
   pub found_again : (k i : ℕ) (finding : Finding) → says n ≡ read.Member k → i < length found → finding ≡ get_or found i finding → get_or (map finding_key found) i None ≡ Some k → IsFinding says (Twice n (slot_of finding))
@@ -173,10 +171,7 @@ module _ (says : ℕ → SlotRead) (n : ℕ) (found : List Finding) (findings : 
         sound_first _ at is first here = absurd (cc)
 
     pub no_bad_key : (i : ℕ) → i < n → says i ≢ read.BadKey
-    no_bad_key i lt bad =
-        let (k, at, first) = first_of i lt (subst IsOpened (sym bad) tt) in
-        let e : read.BadKey ≡ read.Member k = sym bad ∙ first.holds in
-        cc
+    no_bad_key i lt bad = grind (arith, first_of)
 
     pub no_key_twice : (i j k : ℕ) → i < n → j < n → says i ≡ read.Member k → says j ≡ read.Member k → i ≡ j
     no_key_twice i j k lt lt' one other =

@@ -9,7 +9,7 @@ use Rattle.memchr.specs.Find.{IsFirstByte, is_byte}
 use Rattle.lz_slot.proofs.Texts.Cuts.{Lacks, cut_at, lacks_all, lacks_first, lacks_more}
 use Rattle.lz_slot.proofs.Texts.Spellings.{lacks_join}
 use Rattle.lz_judge.specs.declared.line.Line.{Line}
-use Rattle.lz_judge.specs.LinesRead.{at_end, kind_read, line_read, with_word, words_of}
+use Rattle.lz_judge.specs.LinesRead.{at_end, kind_read, line_read, words_of}
 use Rattle.lz_judge.specs.TextsRead.{IsClear}
 
 no_end : (line : Line) (words : List (List ℕ)) → 1 ≤ length words → at_end line words ≡ None
@@ -69,8 +69,7 @@ pub record IsWritten (text : List ℕ) (l : Line) : Type 0 where
   pub reads : kind_read kind words ≡ Some l
 
 pub written_reads : {text : List ℕ} {l : Line} → IsWritten text l → line_read text ≡ Some l
-written_reads w =
-    ap line_read w.joined ∙ ap (λ (ws : List (List ℕ)). with_word (λ (kind : List ℕ). Some kind) ws kind_read) (words_joined w.kind w.words w.are) ∙ w.reads
+written_reads w = grind (arith, words_joined)
 
 pub written_clear : {text : List ℕ} {l : Line} → IsWritten text l → IsClear text
 written_clear {text = text} w = none_of 10 text (rw (w.joined) (joined_lacks (w.kind ∷ w.words) w.are))

@@ -31,10 +31,7 @@ use Rattle.lz_judge.specs.TextsRead.{MayCome, Reads, nothing, line, with_line}
 use Rattle.lz_judge.proofs.Texts.LineWord.{AreWords, IsField, IsWord, IsWritten, plain, written_clear, written_reads}
 
 pub number_field : (low high n : ℕ) → high ≤ largest_read → low ≤ n → n ≤ high → IsField (number_in low high) (decimal n) n
-number_field low high n big above below = record {
-  is = plain (decimal n) (decimal_lacks 32 n refl (omega arith)) (decimal_lacks 10 n refl (omega arith));
-  reads = decimal_read low high n big above below;
-}
+number_field low high n big above below = grind (arith, plain, decimal, decimal_lacks, decimal_read)
 
 call_field : (i : ℕ) → IsCallNumber i → IsField call_number (decimal i) i
 call_field i (some, few) = number_field 1 largest_read i (omega arith) some few
@@ -75,13 +72,7 @@ keys_fields least (k ∷ ks) (above, small, rest) =
 -- a line of keys, whose kind reads them
 pub keys_written : (kind ks : List ℕ) (says : List ℕ → Line) → IsWord kind → AscendFrom 0 ks → kind_read kind (map key_text ks) ≡ option_map says (keys_from 0 (map key_text ks))
     → IsWritten (kind ++ keys_text ks) (says ks)
-keys_written kind ks says is ascend reads = record {
-  kind = kind;
-  words = map key_text ks;
-  joined = keys_joined kind ks;
-  are = (is, (keys_fields 0 ks ascend).0);
-  reads = reads ∙ ap (option_map says) (keys_fields 0 ks ascend).1;
-}
+keys_written kind ks says is ascend reads = grind (arith, keys_joined, keys_fields, option_map)
 
 -- a key is no `fault`
 no_fault : (k : ℕ) → k ≤ largest_key → is_word (key_text k) (codes "fault") ≡ false
