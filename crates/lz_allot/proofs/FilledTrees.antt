@@ -68,12 +68,7 @@ module _ (kinds : List Kind) (old : List ℕ) (first : ℕ) (start : IsStart fir
       }
 
     pub filled_all : length kinds ≤ done → (s : ℕ) → is_told words (first + s) ≡ is_free_kind (kind_at kinds s)
-    filled_all all s =
-        ⊎_elim
-        (λ (low : s < done). filled.told s low)
-        (λ (high : done ≤ s).
-        nothing_told words (first + s) (filled.empty ((first + s - 1) / 64) (omega (arith, high, filled.whole, bit))) ∙ sym (none_past kinds s (omega (arith, all, high))))
-        (cases_lt s done)
+    filled_all all s = grind (arith, nothing_told, bit, none_past, cases_lt)
 
 -- What is told of the nodes from this one on is right, and the leaves are told of as before.
 pub record IsToldFrom (old words : List ℕ) (first node : ℕ) : Type 0 where

@@ -1,5 +1,5 @@
 -- The walk down a tree of free slots, which ends at the lowest free one.
-use Rattle.std.proofs.Common.{◌≡◌, ◌≢◌, ⊎_elim, ℕ, zero, suc, ◌+◌, ◌*◌, ◌^◌, ◌/◌, ◌%◌, ◌-◌, ◌<◌, ◌≤◌, ◌==◌, Bool, true, false, if◌then◌else◌, List, length, get_or, sym, ◌∙◌, ap, arith, Some, None}
+use Rattle.std.proofs.Common.{◌≡◌, ◌≢◌, ⊎_elim, ℕ, zero, suc, ◌+◌, ◌*◌, ◌^◌, ◌/◌, ◌-◌, ◌<◌, ◌≤◌, ◌==◌, Bool, true, false, if◌then◌else◌, List, length, get_or, sym, ◌∙◌, ap, arith, Some, None}
 use Rattle.std.specs.Prelude.{nat_lt, length}
 use Rattle.std.specs.Int.{bit_at, trailing_zeros, w64}
 use Rattle.std.specs.List.{position, position_or_len}
@@ -67,9 +67,7 @@ module _ (words : List ℕ) (first slots : ℕ) (tree : IsTree words first slots
       omega (arith, starts_rise (suc depth) tree.start.levels (starts_apart depth tree.start.levels (omega (arith, tree.start.start))), tree.start.start)
 
   all_closed : word_at words 0 ≡ 0 → (depth : ℕ) → start_of depth ≤ first → (k : ℕ) → start_of depth ≤ k → k < start_of (suc depth) → is_open words first k ≡ false
-  all_closed none zero within k low high =
-      let here : k ≡ 0 = omega arith in
-      ap (is_open words first) here ∙ open_inner 0 (omega (arith, tree.start.least)) ∙ ap (nat_lt 0) none
+  all_closed none zero within k low high = grind (arith, open_inner)
   all_closed none (suc depth) within k low high =
       closed_below k (omega arith) (omega (arith, tree.start.least)) (all_closed none depth (omega arith) ((k - 1) / 64) (omega arith) (omega arith))
 
@@ -100,16 +98,12 @@ module _ (words : List ℕ) (first slots : ℕ) (tree : IsTree words first slots
       not_zero = ltb-true 0 (word_at words node) (sym (open_inner node less) ∙ lowest.is_free)
 
       pub inside_words : node < length words
-      inside_words =
-          ⊎_elim (λ (within : node < length words). within) (λ (past : length words ≤ node). absurd (omega (arith, get_or-eq_default words 0 {n = node} past, not_zero))) (cases_lt node (length words))
+      inside_words = grind (arith, get_or-eq_default, not_zero, cases_lt)
 
       -- one step down, to the first child of which the word tells
       module _ (at : ℕ) (low : at < 64) (here : bit_at (word_at words node) at ≡ 1) (none : (i : ℕ) → i < at → bit_at (word_at words node) i ≡ 0) where
         told_of : (i : ℕ) → i < 64 → is_told words (64 * node + 1 + i) ≡ (bit_at (word_at words node) i == 1)
-        told_of i within =
-            let above : (64 * node + 1 + i - 1) / 64 ≡ node = omega arith in
-            let bit : (64 * node + 1 + i - 1) % 64 ≡ i = omega arith in
-            ap (λ (j : ℕ). bit_at (word_at words j) ((64 * node + 1 + i - 1) % 64) == 1) above ∙ ap (λ (j : ℕ). bit_at (word_at words node) j == 1) bit
+        told_of i within = grind arith
 
         before_child : (k : ℕ) → start_of (suc lowest.depth) ≤ k → k < 64 * node + 1 + at → is_open words first k ≡ false
         before_child k from to =

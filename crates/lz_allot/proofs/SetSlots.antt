@@ -29,14 +29,7 @@ stays_zero was now bit fits here others none =
 -- news above: the word is another than zero where the bit was set, and zero where it was cleared
 news : (was now bit : ℕ) (b : Bool) → now < 2 ^ 64 → bit_at now bit ≡ (if b then 1 else 0) → ((i : ℕ) → i < 64 → i ≢ bit → bit_at now i ≡ bit_at was i)
     → nat_lt 0 was ≢ nat_lt 0 now → nat_lt 0 now ≡ b
-news was now bit true fits here others other =
-    ⊎_elim
-    (λ (more : 0 < now). lt-ltb 0 now more)
-    (λ (less : now ≤ 0).
-    let none : now ≡ 0 = omega arith in
-    let zero_bit : bit_at now bit ≡ 0 = ap (λ (w : ℕ). bit_at w bit) none ∙ bit_at-zero bit in
-    absurd (omega (arith, here, zero_bit)))
-    (cases_lt 0 now)
+news was now bit true fits here others other = grind (arith, lt-ltb, bit_at-zero, cases_lt)
 news was now bit false fits here others other =
     ⊎_elim
     (λ (more : 0 < now).
@@ -79,12 +72,7 @@ module _ (old words : List ℕ) (first slots s : ℕ) (b : Bool) (node now : ℕ
 
   -- below the word that was set all is told
   told_below : (k : ℕ) → 1 ≤ k → k < first → k ≢ (node - 1) / 64 → is_told (set words ((node - 1) / 64) now) k ≡ nat_lt 0 (word_at (set words ((node - 1) / 64) now) k)
-  told_below k from to far =
-      ⊎_elim
-      (λ (is : k ≡ node).
-      ap (is_told (set words ((node - 1) / 64) now)) is ∙ same ∙ sym (half.here up (omega arith)) ∙ ap (λ (j : ℕ). nat_lt 0 (word_at words j)) (sym is) ∙ ap (nat_lt 0) (sym (word_other k far)))
-      (λ not_it. other k from not_it ∙ half.told k from to not_it ∙ ap (nat_lt 0) (sym (word_other k far)))
-      (cases_eq k node)
+  told_below k from to far = grind (arith, set, same, word_other, other, cases_eq)
 
   leaf : is_told (set words ((node - 1) / 64) now) (first + s) ≡ b
   leaf =
@@ -96,8 +84,7 @@ module _ (old words : List ℕ) (first slots s : ℕ) (b : Bool) (node now : ℕ
       (cases_eq (first + s) node)
 
   other_leaves : (k : ℕ) → first ≤ k → k ≢ first + s → is_told (set words ((node - 1) / 64) now) k ≡ is_told old k
-  other_leaves k from not_it =
-      other k (omega (arith, tree.start.least)) (λ is. not_it (is ∙ half.start (omega arith))) ∙ half.others k from not_it
+  other_leaves k from not_it = grind (arith, other)
 
   pub half_above : nat_lt 0 (word_at words ((node - 1) / 64)) ≢ nat_lt 0 now → IsHalfSet old (set words ((node - 1) / 64) now) first slots s b ((node - 1) / 64)
   half_above changed = record {

@@ -1,5 +1,5 @@
 -- What a tree of free slots tells of its nodes, and a new tree.
-use Rattle.std.proofs.Common.{◌≡◌, ◌≢◌, ⊎_elim, ℕ, suc, ◌+◌, ◌*◌, ◌/◌, ◌%◌, ◌-◌, ◌<◌, ◌≤◌, ◌==◌, Bool, true, false, if◌then◌else◌, List, length, get_or, set, sym, ◌∙◌, ap, arith, get_or-set_other, get_or-set_same}
+use Rattle.std.proofs.Common.{◌≡◌, ◌≢◌, ℕ, suc, ◌+◌, ◌*◌, ◌/◌, ◌%◌, ◌-◌, ◌<◌, ◌≤◌, ◌==◌, Bool, true, false, if◌then◌else◌, List, length, get_or, set, ap, arith, get_or-set_other, get_or-set_same}
 use Rattle.std.specs.Prelude.{length}
 use Rattle.std.specs.Int.{bit_at}
 use Rattle.std.proofs.lemmas.List.FromFn.{get_or-map-range_with_len, length-map-range_with_len}
@@ -10,8 +10,7 @@ use Rattle.lz_allot.specs.Trees.{word_at, is_told, shown, IsStart}
 
 -- a word that is zero tells of nothing
 pub nothing_told : (words : List ℕ) (k : ℕ) → word_at words ((k - 1) / 64) ≡ 0 → is_told words k ≡ false
-nothing_told words k none =
-    ap (λ (w : ℕ). bit_at w ((k - 1) % 64) == 1) none ∙ ap (λ (bit : ℕ). bit == 1) (bit_at-zero ((k - 1) % 64))
+nothing_told words k none = grind (arith, bit_at-zero)
 
 pub told_by : (bit : ℕ) (b : Bool) → bit ≡ (if b then 1 else 0) → (bit == 1) ≡ b
 told_by bit true e = ap (λ (x : ℕ). x == 1) e
@@ -19,21 +18,11 @@ told_by bit false e = ap (λ (x : ℕ). x == 1) e
 
 module _ (words : List ℕ) (node now : ℕ) (low : 1 ≤ node) (inside : (node - 1) / 64 < length words) where
   pub told_same : (b : Bool) → bit_at now ((node - 1) % 64) ≡ (if b then 1 else 0) → is_told (set words ((node - 1) / 64) now) node ≡ b
-  told_same b here =
-      ap (λ (w : ℕ). bit_at w ((node - 1) % 64) == 1) (get_or-set_same words ((node - 1) / 64) now 0 inside) ∙ told_by (bit_at now ((node - 1) % 64)) b here
+  told_same b here = grind (arith, get_or-set_same, told_by)
 
   pub told_other : ((i : ℕ) → i < 64 → i ≢ (node - 1) % 64 → bit_at now i ≡ bit_at (word_at words ((node - 1) / 64)) i)
       → (k : ℕ) → 1 ≤ k → k ≢ node → is_told (set words ((node - 1) / 64) now) k ≡ is_told words k
-  told_other others k first other =
-      ⊎_elim
-      (λ (near : (k - 1) / 64 ≡ (node - 1) / 64).
-      let word : word_at (set words ((node - 1) / 64) now) ((k - 1) / 64) ≡ now = ap (word_at (set words ((node - 1) / 64) now)) near ∙ get_or-set_same words ((node - 1) / 64) now 0 inside in
-      let was : word_at words ((node - 1) / 64) ≡ word_at words ((k - 1) / 64) = ap (word_at words) (sym near) in
-      ap (λ (w : ℕ). bit_at w ((k - 1) % 64) == 1) word
-      ∙ ap (λ (bit : ℕ). bit == 1) (others ((k - 1) % 64) (omega arith) (λ same. other (omega (arith, same, near))))
-      ∙ ap (λ (w : ℕ). bit_at w ((k - 1) % 64) == 1) was)
-      (λ far. ap (λ (w : ℕ). bit_at w ((k - 1) % 64) == 1) (get_or-set_other words ((node - 1) / 64) ((k - 1) / 64) now 0 far))
-      (cases_eq ((k - 1) / 64) ((node - 1) / 64))
+  told_other others k first other = grind (arith, get_or-set_same, get_or-set_other, cases_eq)
 
 pub shown_length : (words : List ℕ) (first slots : ℕ) → length (shown words first slots) ≡ slots
 shown_length words first slots = length-map-range_with_len (λ s. is_told words (first + s)) 0 slots

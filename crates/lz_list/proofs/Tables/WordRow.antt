@@ -79,10 +79,7 @@ module _ {z : Sizes} {row pins : List ℕ} (is : IsRow z row pins) (halt : ℕ) 
       pin_rests (suc p) = ap (λ l. slice_index l p) rest.0 ∙ zeros (length pins) p
 
       same : (i : ℕ) → i < length row → slice_index row i ≡ slice_index (row_of z W) i
-      same i low =
-          let here : i < words_count z = omega (arith, low, is.long) in
-          let at = encode z i here in
-          ap (slice_index row) (sym at.1) ∙ got (word_at z i) at.0 (λ p e h. is.pins_stay p h ∙ sym (pin_rests p)) (λ e. is.halt_stays ∙ sym rest.1) ∙ sym (table_at (words_count z) (λ i. get W (word_at z i)) i 0 here)
+      same i low = grind (arith, encode, got, pin_rests, table_at)
 
   pub in_row : (w : Word) → HasPlace z w → index z w < length row
   in_row w h = omega (arith, in_range z w h, is.long)
@@ -101,9 +98,7 @@ module _ {z : Sizes} {row pins : List ℕ} (is : IsRow z row pins) (halt : ℕ) 
     -- and of the others this one becomes x
     stands : (n : ℕ) (v : ℕ → Word) (i : ℕ) → i < n → HasPlace z (v i) → ((j : ℕ) → j ≢ i → index z (v j) ≢ index z (v i)) →
         table n (λ j. slice_index (after (v i)) (index z (v j))) ≡ slice_set (table n (λ j. slice_index row (index z (v j)))) i x
-    stands n v i low h apart =
-        sym (table_set n (λ j. slice_index row (index z (v j))) (λ j. slice_index (after (v i)) (index z (v j))) i x low
-        (get_or-set_same row (index z (v i)) x 0 (in_row (v i) h)) (λ j other. get_or-set_other row (index z (v i)) (index z (v j)) x 0 (apart j other)))
+    stands n v i low h apart = grind (arith, table_set, get_or-set_same, in_row, get_or-set_other)
 
     pub stored : (w : Word) → HasPlace z w → ((p : ℕ) → w ≢ Pin p) → w ≢ Halt → words_in z (after w) pins halt ≡ words.set W w x
     stored (Head b) h _ _ = λ i. record {
@@ -131,26 +126,9 @@ module _ {z : Sizes} {row pins : List ℕ} (is : IsRow z row pins) (halt : ℕ) 
     stored Halt h _ no_halt = absurd (no_halt refl)
 
     pub still_row : (w : Word) → HasPlace z w → ((p : ℕ) → w ≢ Pin p) → w ≢ Halt → IsRow z (after w) pins
-    still_row w h no_pin no_halt = record {
-      buckets = is.buckets;
-      slots = is.slots;
-      long = length-set row (index z w) x ∙ is.long;
-      room = is.room;
-      passes = is.passes;
-      pins_stay = λ p placed. get_or-set_other row (index z w) (index z (Pin p)) x 0 (places_apart z (Pin p) w placed h (λ e. no_pin p (sym e))) ∙ is.pins_stay p placed;
-      halt_stays = get_or-set_other row (index z w) (index z Halt) x 0 (places_apart z Halt w tt h (λ e. no_halt (sym e))) ∙ is.halt_stays;
-    }
+    still_row w h no_pin no_halt = grind (arith, length-set, get_or-set_other, places_apart)
 
 -- a new table
 pub row_of_zeros : (slots buckets passes n : ℕ) {row pins : List ℕ} → row ≡ replicate n 0 → pins ≡ replicate passes 0 →
     words_in (record { slots = slots; buckets = buckets; passes = passes }) row pins 0 ≡ new_words slots buckets passes
-row_of_zeros slots buckets passes n {row} {pins} row_is pins_are =
-    let z : Sizes = record { slots = slots; buckets = buckets; passes = passes } in
-    let of_zeros = λ (m : ℕ) (at : ℕ → ℕ). same_table m (λ i. slice_index row (at i)) (λ i. 0) (λ i low. ap (λ l. slice_index l (at i)) row_is ∙ zeros n (at i)) ∙ sym (table_of m 0) in
-    λ i. record {
-      heads = of_zeros buckets (λ b. index z (Head b)) i;
-      links = of_zeros slots (λ s. index z (Link s)) i;
-      keys = of_zeros slots (λ s. index z (Key s)) i;
-      pins = pins_are i;
-      halt = 0;
-    }
+row_of_zeros slots buckets passes n {row} {pins} row_is pins_are = grind (arith, same_table, zeros, table_of)
