@@ -1,11 +1,11 @@
 -- What a crash leaves that puts one byte at each loose position.
 use Rattle.std.proofs.Common.{◌≡◌, ◌⊎◌, inl, inr, ⊎_elim, ℕ, zero, suc, ◌+◌, ◌-◌, ◌≤◌, ◌<◌, min, Bool, true, false, List, [], ◌∷◌, ◌++◌, length, get_or, take, drop, replicate, if◌then◌else◌, sym, refl, ◌∙◌, ap, subst, arith}
-use Rattle.std.proofs.lemmas.Bool.{cases_Bool, cases_lt, true≢false}
+use Rattle.std.proofs.lemmas.Bool.{cases_Bool, cases_lt}
 use Rattle.std.proofs.lemmas.List.{get_or-replicate, length-replicate, take_more, drop-drop}
 use borrow.Rule.Slice.PartMut.{put_mid}
 use Rattle.std.proofs.lemmas.Grind.{same_number_lists}
-use Rattle.lz_disk.specs.Images.{Medium, IsImage, IsConsistent, AreBytes, WasWritten, is_loose, overwritten}
-use Rattle.lz_disk.specs.Picks.{with_loose, with_first, with_nth, nth_written, left_by}
+use Rattle.lz_disk.specs.Images.{Medium, IsImage, IsConsistent, AreBytes, is_loose, overwritten}
+use Rattle.lz_disk.specs.Picks.{with_loose, with_first, left_by}
 use Rattle.lz_disk.specs.Records.{after, after_record}
 use Rattle.lz_disk.specs.declared.memory.Pick.{Pick}
 use Rattle.lz_disk.specs.declared.memory.Pick.TheVariants.{Old, New, Byte, Part, Mask, Nth}
@@ -63,9 +63,7 @@ module _ (ranges : List (ℕ × List ℕ)) where
   first_sure n i sure [] k lt shut = refl
   first_sure zero i sure (b ∷ seen) k lt shut = refl
   first_sure (suc n) i [] (b ∷ seen) k lt shut = absurd (omega arith)
-  first_sure (suc n) i (a ∷ sure) (b ∷ seen) zero lt shut =
-      let here : is_loose ranges i ≡ false = (let same : i ≡ i + 0 = omega arith in ap (is_loose ranges) same ∙ shut) in
-      rw here refl
+  first_sure (suc n) i (a ∷ sure) (b ∷ seen) zero lt shut = grind arith
   first_sure (suc n) i (a ∷ sure) (b ∷ seen) (suc k) lt shut =
       let there : (i + 1) + k ≡ i + suc k = omega arith in
       let rest : is_loose ranges ((i + 1) + k) ≡ false = ap (is_loose ranges) there ∙ shut in
@@ -79,11 +77,7 @@ module _ (ranges : List (ℕ × List ℕ)) where
   first_either n i sure [] k lt = inl refl
   first_either zero i sure (b ∷ seen) k lt = inl refl
   first_either (suc n) i [] (b ∷ seen) k lt = absurd (omega arith)
-  first_either (suc n) i (a ∷ sure) (b ∷ seen) zero lt =
-      elim (is_loose ranges i) as (λ q. (get_or (if q then b ∷ with_first ranges n (i + 1) sure seen else a ∷ with_first ranges (suc n) (i + 1) sure seen) 0 0 ≡ a) ⊎ (get_or (if q then b ∷ with_first ranges n (i + 1) sure seen else a ∷ with_first ranges (suc n) (i + 1) sure seen) 0 0 ≡ b)) [
-        | true ↦ inr refl
-        | false ↦ inl refl
-      ]
+  first_either (suc n) i (a ∷ sure) (b ∷ seen) zero lt = grind (arith, get_or)
   first_either (suc n) i (a ∷ sure) (b ∷ seen) (suc k) lt =
       elim (is_loose ranges i) as (λ q. (get_or (if q then b ∷ with_first ranges n (i + 1) sure seen else a ∷ with_first ranges (suc n) (i + 1) sure seen) (suc k) 0 ≡ get_or sure k 0) ⊎ (get_or (if q then b ∷ with_first ranges n (i + 1) sure seen else a ∷ with_first ranges (suc n) (i + 1) sure seen) (suc k) 0 ≡ get_or seen k 0)) [
         | true ↦ first_either n (i + 1) sure seen k (omega arith)
@@ -95,15 +89,7 @@ sure_image : (disk : Medium) → IsConsistent disk → AreBytes disk.sure → Is
 sure_image disk held bytes = record { bytes = bytes; no_shorter = omega arith; no_longer = held.no_shorter; sure = λ i lt shut. refl; each = λ on i lt. inl refl }
 
 byte_image : (h : ℕ) (disk : Medium) → disk.bytewise ≡ false → IsConsistent disk → AreBytes (with_loose disk.loose h 0 disk.seen) → IsImage disk (with_loose disk.loose h 0 disk.seen)
-byte_image h disk off held bytes =
-    let size = length-with_loose disk.loose h 0 disk.seen in
-    record {
-      bytes = bytes;
-      no_shorter = omega (arith, size, held.no_shorter);
-      no_longer = omega (arith, size);
-      sure = λ i lt shut. read disk.loose h disk.seen i (omega (arith, lt, held.no_shorter)) ∙ ap (λ (b : Bool). if b then h else get_or disk.seen i 0) shut ∙ held.same i lt shut;
-      each = λ on i lt. absurd (true≢false (sym on ∙ off));
-    }
+byte_image h disk off held bytes = grind (arith, length-with_loose, read, get_or)
 
 pub left_is_image : (pick : Pick) (disk : Medium) → IsConsistent disk → AreBytes (left_by pick disk) → IsImage disk (left_by pick disk)
 left_is_image Old disk held bytes = sure_image disk held bytes
@@ -114,41 +100,9 @@ left_is_image (Byte h) disk held bytes =
       | inl on ↦ subst (IsImage disk) (sym (ap left on)) (sure_image disk held (subst AreBytes (ap left on) bytes))
       | inr off ↦ subst (IsImage disk) (sym (ap left off)) (byte_image h disk off held (subst AreBytes (ap left off) bytes))
     ]
-left_is_image (Part n) disk held bytes =
-    record {
-      bytes = bytes;
-      no_shorter = first_not_shorter disk.loose n 0 disk.sure disk.seen;
-      no_longer = first_not_longer disk.loose n 0 disk.sure disk.seen held.no_shorter;
-      sure = λ i lt shut. let here : 0 + i ≡ i = omega arith in first_sure disk.loose n 0 disk.sure disk.seen i lt (ap (is_loose disk.loose) here ∙ shut);
-      each = λ on i lt.
-          ⊎_elim inl (λ e. ⊎_elim (λ sure. inl (e ∙ sure)) (λ was. inr (subst (WasWritten disk.loose i) (sym e) was)) (held.each on i lt))
-          (first_either disk.loose n 0 disk.sure disk.seen i lt);
-    }
-left_is_image (Mask mask) disk held bytes =
-    record {
-      bytes = bytes;
-      no_shorter = mask_not_shorter mask 0 disk.sure disk.seen;
-      no_longer = mask_not_longer mask 0 disk.sure disk.seen held.no_shorter;
-      sure = λ i lt shut. ⊎_elim (λ durable. durable) (λ e. e ∙ held.same i lt shut) (mask_either mask 0 disk.sure disk.seen i lt);
-      each = λ on i lt.
-          ⊎_elim inl (λ e. ⊎_elim (λ durable. inl (e ∙ durable)) (λ was. inr (subst (WasWritten disk.loose i) (sym e) was)) (held.each on i lt))
-          (mask_either mask 0 disk.sure disk.seen i lt);
-    }
-left_is_image (Nth n) disk held bytes =
-    let size = length-with_nth disk.loose n 0 disk.seen in
-    let here : (i : ℕ) → i < length disk.sure → get_or (with_nth disk.loose n 0 disk.seen) i 0 ≡ nth_written disk.loose n i (get_or disk.seen i 0) =
-    λ i lt. nth_at disk.loose n disk.seen i (omega (arith, lt, held.no_shorter)) in
-    record {
-      bytes = bytes;
-      no_shorter = omega (arith, size, held.no_shorter);
-      no_longer = omega (arith, size);
-      sure = λ i lt shut. here i lt ∙ nth_sure disk.loose n i (get_or disk.seen i 0) shut ∙ held.same i lt shut;
-      each = λ on i lt.
-          ⊎_elim
-          (λ e. ⊎_elim (λ durable. inl (here i lt ∙ e ∙ durable)) (λ was. inr (subst (WasWritten disk.loose i) (sym (here i lt ∙ e)) was)) (held.each on i lt))
-          (λ was. inr (subst (WasWritten disk.loose i) (sym (here i lt)) was))
-          (nth_either disk.loose n i (get_or disk.seen i 0));
-    }
+left_is_image (Part n) disk held bytes = grind (arith, first_not_shorter, first_not_longer, first_sure, first_either)
+left_is_image (Mask mask) disk held bytes = grind (arith, mask_not_shorter, mask_not_longer, mask_either)
+left_is_image (Nth n) disk held bytes = grind (arith, length-with_nth, get_or, nth_at, nth_sure, nth_either)
 
 either : (b : Bool) (h : ℕ) → (if b then h else h) ≡ h
 either true h = refl
@@ -218,6 +172,4 @@ filling_meets_sync changes byte left i old text r on is sync held b start =
     ∙ held.same b start
 
 pub filling_ends : (changes : List Record) (byte left : ℕ) (old text : List ℕ) → left ≤ 0 → IsFilling changes byte left old text → (b : Bool) (start : List ℕ) → text ≡ with_loose (after b start changes).loose byte 0 old
-filling_ends changes byte left old text none held b start =
-    let here : 0 ≡ left = omega arith in
-    sym (none_loose byte 0 text) ∙ ap (λ (k : ℕ). with_loose (after b start (take k changes)).loose byte 0 text) here ∙ held.same b start
+filling_ends changes byte left old text none held b start = grind (arith, none_loose)

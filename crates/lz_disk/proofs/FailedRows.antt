@@ -1,5 +1,5 @@
 -- Worked rows: what a write that failed may leave.
-use Rattle.std.proofs.Common.{◌≡◌, ◌⊎◌, ⊎_elim, ℕ, zero, suc, ◌≤◌, true, false, List, [], ◌∷◌, slice_index, refl, ap, arith}
+use Rattle.std.proofs.Common.{◌≡◌, ℕ, zero, suc, ◌≤◌, true, false, List, [], ◌∷◌, slice_index, refl, ap, arith}
 use Rattle.std.proofs.lemmas.Bool.{false≢true}
 use Rattle.lz_disk.specs.Images.{Medium, AreBytes, WriteFailed, at_rest}
 
@@ -67,6 +67,4 @@ not_sure h = let second : ◌≡◌ {A = ℕ} 9 2 = ap (λ (t : List ℕ). slice
 
 -- on a bytewise medium no byte is read that was neither there nor to be written
 not_mixed : WriteFailed (at_rest true (1 ∷ 2 ∷ [])) 1 (9 ∷ []) (record { bytewise = true; sure = 1 ∷ 2 ∷ []; seen = 1 ∷ 7 ∷ []; loose = (1, 9 ∷ []) ∷ [] }) → ⊥
-not_mixed h =
-    let second : (7 ≡ 2) ⊎ (7 ≡ 9) = h.mixed refl 1 (omega arith) (omega arith) (omega arith) in
-    ⊎_elim (λ (e : 7 ≡ 2). absurd (omega (arith, e))) (λ (e : 7 ≡ 9). absurd (omega (arith, e))) second
+not_mixed h = grind arith

@@ -24,5 +24,4 @@ next at xs ys t within =
 
 pub joined : (before at : ℕ) (xs ys all t : List ℕ) → before ≤ length t → at ≡ before + length xs → all ≡ xs ++ ys
     → overwritten (overwritten t before xs) at ys ≡ overwritten t before all
-joined before at xs ys all t within there is =
-    ap (λ (n : ℕ). overwritten (overwritten t before xs) n ys) there ∙ next before xs ys t within ∙ ap (overwritten t before) (sym is)
+joined before at xs ys all t within there is = grind (arith, next)

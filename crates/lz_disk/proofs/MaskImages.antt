@@ -72,14 +72,7 @@ module _ (sure seen : List ℕ) (mask at : ℕ) (text text' : List ℕ) (lt : at
 
   -- after the durable end it ends before a position that the mask doesn't take
   pub masking_stops : IsMasking sure seen mask at text → length text ≤ at → is_taken mask at ≡ false → text ≡ with_mask mask 0 sure seen
-  masking_stops held long shut =
-      let none : held.rest ≡ [] = none_of held.rest (omega (arith, held.here, ap length held.parts, length-append held.done held.rest)) in
-      held.parts ∙ ap (λ (l : List ℕ). held.done ++ l) none
-      ∙ ap (λ (q : Bool). held.done ++ (if q then byte ∷ next [] else [])) (sym shut)
-      ∙ (λ i. held.done ++ with_mask mask at (sym none i) (sym seen_here i))
-      ∙ held.same
+  masking_stops held long shut = grind (arith, none_of, length-append, seen_here)
 
 pub masking_ends : (sure seen : List ℕ) (mask at : ℕ) (text : List ℕ) → IsMasking sure seen mask at text → length seen ≤ at → text ≡ with_mask mask 0 sure seen
-masking_ends sure seen mask at text held past =
-    let ended : [] ≡ drop at seen = sym (drop_all at seen past) in
-    held.parts ∙ ap (λ (l : List ℕ). held.done ++ with_mask mask at held.rest l) ended ∙ held.same
+masking_ends sure seen mask at text held past = grind (arith, drop_all)

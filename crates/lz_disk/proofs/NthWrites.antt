@@ -1,5 +1,5 @@
 -- How the writes of one place are counted, one change after another, and the picked byte is found.
-use Rattle.std.proofs.Common.{◌≡◌, inl, inr, ℕ, suc, ◌+◌, ◌-◌, ◌≤◌, ◌<◌, nat_le, Bool, true, false, ◌&&◌, List, [], ◌∷◌, length, get_or, take, if◌then◌else◌, sym, refl, ◌∙◌, ap, arith}
+use Rattle.std.proofs.Common.{◌≡◌, ℕ, suc, ◌+◌, ◌-◌, ◌≤◌, ◌<◌, nat_le, Bool, true, false, ◌&&◌, List, [], ◌∷◌, length, get_or, take, if◌then◌else◌, sym, refl, ◌∙◌, ap, arith}
 use Rattle.std.proofs.lemmas.Bool.{cases_Bool}
 use Rattle.lz_disk.specs.Images.{Medium}
 use Rattle.lz_disk.specs.Picks.{covers, nth_written, times_written}
@@ -69,11 +69,7 @@ module _ (changes : List Record) (number at byte index times found times' found'
     -- a write is added
     pub choosing_adds : (covers (s, bytes) at ≡ false → (times' ≡ times) × (found' ≡ found)) → (covers (s, bytes) at ≡ true → times' ≡ times + 1)
         → (covers (s, bytes) at ≡ true → found' ≡ (if nat_le times number then get_or bytes (at - s) 0 else found)) → IsChoosing changes number at byte (index + 1) times' found'
-    choosing_adds passed counted picked =
-        elim (cases_Bool (covers (s, bytes) at)) [
-          | inl here ↦ counts here (counted here) (picked here)
-          | inr isnt ↦ passes isnt (passed isnt).0 (passed isnt).1
-        ]
+    choosing_adds passed counted picked = grind (arith, cases_Bool, counts, counted, picked, passes)
 
   -- after a sync none counts
   pub choosing_syncs : r ≡ Synced → times' ≡ 0 → found' ≡ byte → IsChoosing changes number at byte (index + 1) times' found'

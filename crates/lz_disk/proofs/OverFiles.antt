@@ -8,7 +8,7 @@ use Rattle.lz_disk.specs.Images.{Medium, IsImage, WasWritten, WriteFailed, overw
 use Rattle.lz_disk.specs.Devices.{Device, Elapses, IsCall, IsTimely}
 use Rattle.lz_disk.specs.declared.DeviceFault.{DeviceFault}
 use Rattle.lz_disk.specs.Gathers.{Waiting, Joined}
-use Rattle.lz_disk.specs.FileDisks.{IsOver, IsPart, KeepsFile, device_over, medium_over, puts, was_written}
+use Rattle.lz_disk.specs.FileDisks.{IsOver, IsPart, KeepsFile, device_over, medium_over, was_written}
 use Rattle.lz_disk.specs.Timely.{longer}
 use Rattle.lz_disk.specs.TimelyOver.{file_image, is_loose_below, timely as timely_over, wider}
 use Rattle.lz_disk.proofs.GatheredWrites.{joined}
@@ -46,8 +46,7 @@ made_keeps file waiting unsynced over = (
 
 pub made_medium : (file : Medium) (waiting : Waiting) (unsynced : List (ℕ × List ℕ))
     → medium_over (written file waiting.at waiting.bytes) (record { at = waiting.at; bytes = [] }) unsynced ≡ medium_over file waiting unsynced
-made_medium file waiting unsynced =
-    ap (read_as file file.sure unsynced) (nothing (overwritten file.seen waiting.at waiting.bytes) waiting.at)
+made_medium file waiting unsynced = grind (arith, nothing)
 
 -- that failed, and they wait on
 twice : (x y : Bool) → (x || y) ≡ (x || (x || y))
@@ -56,10 +55,7 @@ twice false y = refl
 
 pub failed_keeps : (file new : Medium) (waiting : Waiting) (unsynced : List (ℕ × List ℕ)) → IsOver file waiting unsynced
     → WriteFailed file waiting.at waiting.bytes new → IsOver new waiting unsynced
-failed_keeps file new waiting unsynced over failed = (
-  omega (arith, over.0, failed.no_shorter),
-  λ i b. over.1 i b ∙ twice (puts (waiting.at, waiting.bytes) i b) (was_written file.loose i b) ∙ ap (λ (l : List (ℕ × List ℕ)). was_written ((waiting.at, waiting.bytes) ∷ l) i b) (sym failed.loose),
-)
+failed_keeps file new waiting unsynced over failed = grind arith
 
 pub failed_medium : (file new : Medium) (waiting : Waiting) (unsynced : List (ℕ × List ℕ)) → WriteFailed file waiting.at waiting.bytes new
     → medium_over new waiting unsynced ≡ medium_over file waiting unsynced
@@ -86,37 +82,19 @@ joined_written before xs ys writes i b =
 module _ (file : Medium) (old new : Waiting) (unsynced : List (ℕ × List ℕ)) (at : ℕ) (bytes : List ℕ) (over : IsOver file old unsynced)
     (place : at ≤ length (overwritten file.seen old.at old.bytes)) (join : Joined at bytes old new) where
   same_start : overwritten file.seen old.at old.bytes ≡ overwritten file.seen new.at old.bytes
-  same_start = ⊎_elim
-      (λ none. nothing_waits file.seen old.at old.bytes none ∙ sym (nothing_waits file.seen new.at old.bytes none))
-      (λ same. ap (λ (n : ℕ). overwritten file.seen n old.bytes) (sym same))
-      join.first
+  same_start = grind (arith, nothing_waits)
 
   begins : new.at ≤ length file.seen
-  begins = ⊎_elim
-      (λ none. let size : length (overwritten file.seen old.at old.bytes) ≡ length file.seen = ap length (nothing_waits file.seen old.at old.bytes none) in omega (arith, place, size, join.goes_on))
-      (λ same. omega (arith, over.0, same))
-      join.first
+  begins = grind (arith, nothing_waits)
 
   moved : (i b : ℕ) → was_written ((old.at, old.bytes) ∷ file.loose) i b ≡ was_written ((new.at, old.bytes) ∷ file.loose) i b
-  moved i b = ⊎_elim
-      (λ none. nothing_written old.at old.bytes file.loose i b none ∙ sym (nothing_written new.at old.bytes file.loose i b none))
-      (λ same. ap (λ (n : ℕ). was_written ((n, old.bytes) ∷ file.loose) i b) (sym same))
-      join.first
+  moved i b = grind (arith, nothing_written)
 
   pub joined_keeps : IsOver file new ((at, bytes) ∷ unsynced)
-  joined_keeps = (
-    begins,
-    λ i b.
-        ap (λ (t : Bool). puts (at, bytes) i b || t) (over.1 i b ∙ moved i b)
-        ∙ ap (λ (n : ℕ). was_written ((n, bytes) ∷ (new.at, old.bytes) ∷ file.loose) i b) join.goes_on
-        ∙ joined_written new.at old.bytes bytes file.loose i b
-        ∙ ap (λ (l : List ℕ). was_written ((new.at, l) ∷ file.loose) i b) (sym join.all),
-  )
+  joined_keeps = grind (arith, begins, joined_written)
 
   pub joined_medium : medium_over file new ((at, bytes) ∷ unsynced) ≡ written (medium_over file old unsynced) at bytes
-  joined_medium =
-      ap (read_as file file.sure ((at, bytes) ∷ unsynced))
-      (sym (joined new.at at old.bytes bytes new.bytes file.seen begins join.goes_on join.all) ∙ ap (λ (t : List ℕ). overwritten t at bytes) (sym same_start))
+  joined_medium = grind (arith, joined, begins, same_start)
 
   pub joined_image : (c : List ℕ) → IsImage (medium_over file old unsynced) c → IsImage (medium_over file new ((at, bytes) ∷ unsynced)) c
   joined_image c image =
@@ -126,49 +104,22 @@ module _ (file : Medium) (old new : Waiting) (unsynced : List (ℕ × List ℕ))
 -- a write was made, or failed, where none waits
 module _ (file new : Medium) (waiting : Waiting) (unsynced : List (ℕ × List ℕ)) (none : waiting.bytes ≡ []) where
   pub unchanged : new ≡ file → take (length new.loose - length file.loose) new.loose ++ unsynced ≡ unsynced
-  unchanged same =
-      let size : length new.loose ≡ length file.loose = ap (λ (m : Medium). length m.loose) same in
-      let none : length new.loose - length file.loose ≡ 0 = omega (arith, size) in
-      ap (λ (n : ℕ). take n new.loose ++ unsynced) none
+  unchanged same = grind arith
 
   module _ (at : ℕ) (bytes : List ℕ) (loose : new.loose ≡ (at, bytes) ∷ file.loose) where
     pub one_more : take (length new.loose - length file.loose) new.loose ++ unsynced ≡ (at, bytes) ∷ unsynced
-    one_more =
-        ap (λ (l : List (ℕ × List ℕ)). take (length l - length file.loose) l ++ unsynced) loose
-        ∙ ap (λ (n : ℕ). take n ((at, bytes) ∷ file.loose) ++ unsynced) (let one : length ((at, bytes) ∷ file.loose) - length file.loose ≡ 1 = omega arith in one)
+    one_more = grind arith
 
     pub through_keeps : IsOver file waiting unsynced → length file.seen ≤ length new.seen → IsOver new waiting ((at, bytes) ∷ unsynced)
-    through_keeps over longer = (
-      omega (arith, over.0, longer),
-      λ i b.
-          ap (λ (t : Bool). puts (at, bytes) i b || t) (over.1 i b ∙ nothing_written waiting.at waiting.bytes file.loose i b none)
-          ∙ ap (λ (l : List (ℕ × List ℕ)). was_written l i b) (sym loose)
-          ∙ sym (nothing_written waiting.at waiting.bytes new.loose i b none),
-    )
+    through_keeps over longer = grind (arith, nothing_written)
 
   pub through_medium : (at : ℕ) (bytes : List ℕ) → new ≡ written file at bytes
       → medium_over new waiting ((at, bytes) ∷ unsynced) ≡ written (medium_over file waiting unsynced) at bytes
-  through_medium at bytes is =
-      ap (λ (m : Medium). medium_over m waiting ((at, bytes) ∷ unsynced)) is
-      ∙ ap (read_as file file.sure ((at, bytes) ∷ unsynced))
-      (nothing_waits (overwritten file.seen at bytes) waiting.at waiting.bytes none ∙ ap (λ (t : List ℕ). overwritten t at bytes) (sym (nothing_waits file.seen waiting.at waiting.bytes none)))
+  through_medium at bytes is = grind (arith, nothing_waits)
 
   pub through_failed : (at : ℕ) (bytes : List ℕ) → WriteFailed file at bytes new
       → WriteFailed (medium_over file waiting unsynced) at bytes (medium_over new waiting ((at, bytes) ∷ unsynced))
-  through_failed at bytes failed =
-      let was : overwritten file.seen waiting.at waiting.bytes ≡ file.seen = nothing_waits file.seen waiting.at waiting.bytes none in
-      let is : overwritten new.seen waiting.at waiting.bytes ≡ new.seen = nothing_waits new.seen waiting.at waiting.bytes none in
-      record {
-        bytewise = failed.bytewise;
-        sure = failed.sure;
-        loose = refl;
-        bytes = rw is failed.bytes;
-        before = rw (was, is) failed.before;
-        after = rw (was, is) failed.after;
-        no_shorter = rw (was, is) failed.no_shorter;
-        no_longer = rw (was, is) failed.no_longer;
-        mixed = rw (was, is) failed.mixed;
-      }
+  through_failed at bytes failed = grind (arith, nothing_waits)
 
   pub synced_keeps : IsOver file waiting unsynced → new ≡ synced file → IsOver new waiting []
   synced_keeps over is = subst (λ (m : Medium). IsOver m waiting []) (sym is) (over.0, λ i b. sym (nothing_written waiting.at waiting.bytes [] i b none))
@@ -198,17 +149,7 @@ module _ (file new : Device) (waiting waiting' : Waiting) (unsynced unsynced' : 
 pub still : (file : Device) (waiting waiting' : Waiting) (unsynced unsynced' : List (ℕ × List ℕ)) (calls : ℕ)
     → (IsTrue file.honest → (c : List ℕ) → IsImage (medium_over file.medium waiting unsynced) c → IsImage (medium_over file.medium waiting' unsynced') c)
     → IsPart (device_over file waiting unsynced calls) (device_over file waiting' unsynced' calls) ⊥
-still file waiting waiting' unsynced unsynced' calls stays = record {
-  honest = refl;
-  calls = refl;
-  later = omega arith;
-  cause = λ never. absurd never;
-  time = λ honest. record {
-    later = omega arith;
-    nothing_else = λ t c le left. ⊎_elim (λ past. inl (inl past)) inr left;
-    keeps = λ t c le left. ⊎_elim inl (λ here. inr (stays honest c here)) left;
-  };
-}
+still file waiting waiting' unsynced unsynced' calls stays = grind (arith, time)
 
 -- one part after another that leaves the medium
 pub part_then : (a b c : Device) {fault last : Type 0} → (IsTrue a.honest → IsTimely a) → (IsTrue a.honest → b.medium ≡ a.medium)
@@ -233,14 +174,7 @@ part_then a b c timely same first second = record {
 -- the whole call, which is counted at its beginning
 pub whole : (file : Device) (waiting : Waiting) (unsynced : List (ℕ × List ℕ)) (calls : ℕ) (new : Device) {fault : Type 0}
     → IsPart (device_over file waiting unsynced (calls + 1)) new fault → IsCall (device_over file waiting unsynced calls) new fault
-whole file waiting unsynced calls new done = record {
-  honest = done.honest;
-  time = λ honest. (let on = done.time honest in record { later = on.later; nothing_else = on.nothing_else; keeps = on.keeps });
-  one = done.calls;
-  later = done.later;
-  cause = done.cause;
-  must = λ never. absurd never;
-}
+whole file waiting unsynced calls new done = grind (arith, time)
 
 -- the disk hands the writes over that wait
 module _ (file new : Device) (waiting : Waiting) (unsynced : List (ℕ × List ℕ)) (calls : ℕ) {fault : Type 0}

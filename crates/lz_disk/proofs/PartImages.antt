@@ -15,10 +15,7 @@ chosen_mark true z is = refl
 chosen_mark false z is = is
 
 pub mark_is : (ranges : List (ℕ × List ℕ)) (n k : ℕ) → k < n → get_or (with_loose ranges 1 0 (replicate n 0)) k 0 ≡ mark (is_loose ranges k)
-mark_is ranges n k lt =
-    let zeros : List ℕ = replicate n 0 in
-    let long : length zeros ≡ n = length-replicate n 0 in
-    read ranges 1 zeros k (omega (arith, long)) ∙ chosen_mark (is_loose ranges k) (get_or zeros k 0) (get_or-replicate n k 0 0 lt)
+mark_is ranges n k lt = grind (arith, replicate, length-replicate, read, chosen_mark, get_or, get_or-replicate)
 
 pub marked : (b : Bool) → mark b ≡ 1 → b ≡ true
 marked true is = refl
@@ -133,9 +130,7 @@ pub taking_ends : (disk : Medium) (count left at : ℕ) (text : List ℕ) → Is
 taking_ends disk count left at text held (inl none) =
     let zeroed : 0 ≡ left = omega arith in
     held.parts ∙ ap (λ (l : List ℕ). held.done ++ l) (sym (none_taken disk.loose at held.rest (drop at disk.seen)) ∙ ap (λ (n : ℕ). with_first disk.loose n at held.rest (drop at disk.seen)) zeroed) ∙ held.same
-taking_ends disk count left at text held (inr past) =
-    let ended : [] ≡ drop at disk.seen = sym (drop_all at disk.seen past) in
-    held.parts ∙ ap (λ (l : List ℕ). held.done ++ with_first disk.loose left at held.rest l) ended ∙ held.same
+taking_ends disk count left at text held (inr past) = grind (arith, drop_all)
 
 -- what is read within a list is there whatever stands after its end
 pub read_at : (xs : List ℕ) (i x : ℕ) → i < length xs → x ≡ get_or xs i x → x ≡ get_or xs i 0

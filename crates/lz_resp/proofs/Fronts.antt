@@ -21,12 +21,7 @@ line_none fault text none = ap (line_of fault) (sym (parted_none 13 text (lacks_
 -- the line that ends at the first CR, if an end stands there
 pub line_found : (fault : Fault) (text line ended : List ℕ) (e : ℕ) (r : Front (Unit {0})) → IsFirstByte (is_byte 13) text (Some e) → line ≡ take e text → ended ≡ drop e text → r ≡ end_at fault ended
     → and_then r (λ _ rest. Ok (Some (line, rest))) ≡ line_at fault text
-line_found fault text line ended e r first front back is =
-    let at : get_or text e 0 ≡ 13 = eqb-true _ _ first.1 in
-    let rest : drop e text ≡ 13 ∷ drop (e + 1) text = drop_more text e 0 first.0.high ∙ ap (λ (x : ℕ). x ∷ drop (e + 1) text) at in
-    let so : r ≡ end_at fault (13 ∷ drop (e + 1) text) = is ∙ ap (end_at fault) (back ∙ rest) in
-    ap (λ (x : List ℕ). and_then r (λ _ rest. Ok (Some (x, rest)))) front ∙ ap (λ (x : Front (Unit {0})). and_then x (λ _ rest. Ok (Some (take e text, rest)))) so
-    ∙ ap (line_of fault) (sym (parted_at 13 text e first))
+line_found fault text line ended e r first front back is = grind (arith, get_or, eqb-true, drop_more, parted_at)
 
 -- a text that has no LF has no line of words
 pub words_none : (text : List ℕ) → IsFirstByte (is_byte 10) text None → inline_at text ≡ Ok None
@@ -63,20 +58,13 @@ one_less n k h = omega (arith, h)
 
 pub words_next : (n k : ℕ) (front : List (List ℕ)) (word text rest : List ℕ) → k < n → word_at text ≡ Ok (Some (word, rest))
     → with_front front (words_at (n - k) text) ≡ with_front (front ++ word ∷ []) (words_at (n - (k + 1)) rest)
-words_next n k front word text rest low is =
-    ap (λ (m : ℕ). with_front front (words_at m text)) (one_less n k low)
-    ∙ ap (λ (r : Front (List ℕ)). with_front front (and_then r (λ word rest. and_then (words_at (n - (k + 1)) rest) (λ words after. Ok (Some (word ∷ words, after)))))) is
-    ∙ front_more front word (words_at (n - (k + 1)) rest)
+words_next n k front word text rest low is = grind (arith, one_less, front_more)
 
 pub words_wait : (n k : ℕ) (front : List (List ℕ)) (text : List ℕ) → k < n → word_at text ≡ Ok None → with_front front (words_at (n - k) text) ≡ Ok None
-words_wait n k front text low is =
-    ap (λ (m : ℕ). with_front front (words_at m text)) (one_less n k low)
-    ∙ ap (λ (r : Front (List ℕ)). with_front front (and_then r (λ word rest. and_then (words_at (n - (k + 1)) rest) (λ words after. Ok (Some (word ∷ words, after)))))) is
+words_wait n k front text low is = grind (arith, one_less)
 
 pub words_fail : (n k : ℕ) (front : List (List ℕ)) (text : List ℕ) (f : Fault) → k < n → word_at text ≡ Err f → with_front front (words_at (n - k) text) ≡ Err f
-words_fail n k front text f low is =
-    ap (λ (m : ℕ). with_front front (words_at m text)) (one_less n k low)
-    ∙ ap (λ (r : Front (List ℕ)). with_front front (and_then r (λ word rest. and_then (words_at (n - (k + 1)) rest) (λ words after. Ok (Some (word ∷ words, after)))))) is
+words_fail n k front text f low is = grind (arith, one_less)
 
 -- what is found within the bytes that a frame may have
 pub first_found : (text window : List ℕ) (words : List (List ℕ)) (after : List ℕ) → window ≡ take most_frame text → frame_at window ≡ Ok (Some (words, after))

@@ -1,7 +1,6 @@
 -- What was read of a text is read of it with more after it.
 use Rattle.std.proofs.Common.{◌≡◌, ℕ, zero, suc, ◌+◌, ◌-◌, ◌<◌, ◌≤◌, ◌⊎◌, inl, inr, List, [], ◌∷◌, ◌++◌, length, take, drop, true, false, nat_eq, nat_lt, Option, Some, None, Ok, Err, refl, sym, ap, subst, ◌∙◌, arith, length-append, length-drop}
-use Rattle.std.specs.Prelude.{◌==◌, ◌&&◌, option_map, if◌then◌else◌}
-use Rattle.std.specs.List.{list_any}
+use Rattle.std.specs.Prelude.{◌==◌, option_map}
 use Rattle.std.proofs.Math.Seq.{take-append-add}
 use Rattle.std.proofs.lemmas.List.{take-append-le, drop-append-le, take_all, length-take}
 use Rattle.std.proofs.lemmas.Bool.{cond_both}
@@ -10,10 +9,10 @@ use Rattle.lz_slot.specs.Numerals.{number_in}
 use Rattle.lz_slot.specs.Texts.{parted}
 use Rattle.lz_resp.specs.Limits.{most_frame, most_word}
 use Rattle.lz_proto.specs.Lines.{carriage_return, line_feed}
-use Rattle.lz_resp.specs.Frames.{star, dollar, fits, is_quote, words_of}
+use Rattle.lz_resp.specs.Frames.{star, dollar}
 use Rattle.lz_resp.specs.Reading.{Front, and_then, array_at, array_of, bulk_at, count_of, end_at, first_by, first_of, frame_at, inline_at, inline_of, line_at, line_of, word_at, word_of, words_at}
 use Rattle.lz_resp.specs.declared.fault.Fault.{Fault}
-use Rattle.lz_resp.specs.declared.fault.Fault.TheVariants.{Count, Length, NoBulk, NoEnd, Quotes, TooLong}
+use Rattle.lz_resp.specs.declared.fault.Fault.TheVariants.{Count, Length, NoBulk, NoEnd, TooLong}
 
 pub record Stays {A : Type 0} (read : List ℕ → Front A) : Type 0 where
   pub value : (text more : List ℕ) (x : A) (rest : List ℕ) → read text ≡ Ok (Some (x, rest)) → (read (text ++ more) ≡ Ok (Some (x, rest ++ more))) × (length rest ≤ length text)
@@ -87,23 +86,14 @@ stays_wrong g = record { value = λ text more y rest h. absurd (cc); fault = λ 
 
 end_value : (fault : Fault) (text more : List ℕ) (x : Unit {0}) (rest : List ℕ) → end_at fault text ≡ Ok (Some (x, rest)) → (end_at fault (text ++ more) ≡ Ok (Some (x, rest ++ more))) × (length rest + 2 ≤ length text)
 end_value fault [] more x rest h = absurd (cc)
-end_value fault (b ∷ []) more x rest h =
-    cond_both (b == carriage_return) (Ok None) (Err fault) (λ r. r ≡ Ok (Some (x, rest)) → (end_at fault (b ∷ more) ≡ Ok (Some (x, rest ++ more))) × (length rest + 2 ≤ 1))
-    (λ _ h. absurd (cc)) (λ _ h. absurd (cc)) h
-end_value fault (b ∷ c ∷ t) more x rest h =
-    cond_both ((b == carriage_return) && (c == line_feed)) (Ok (Some (tt, t))) (Err fault)
-    (λ r. r ≡ Ok (Some (x, rest)) → (end_at fault (b ∷ c ∷ (t ++ more)) ≡ Ok (Some (x, rest ++ more))) × (length rest + 2 ≤ length (b ∷ c ∷ t)))
-    (λ yes h. let same = same_read tt x t rest h in (rw yes (cc (same.0, ap (λ (t : List ℕ). t ++ more) same.1)), omega (arith, ap length same.1))) (λ _ h. absurd (cc)) h
+end_value fault (b ∷ []) more x rest h = grind (arith, cond_both)
+end_value fault (b ∷ c ∷ t) more x rest h = grind (arith, cond_both, same_read)
 
 end_fault : (fault : Fault) (text more : List ℕ) (f : Fault) → end_at fault text ≡ Err f → end_at fault (text ++ more) ≡ Err f
 end_fault fault [] more f h = absurd (cc)
 end_fault fault (b ∷ []) [] f h = h
-end_fault fault (b ∷ []) (c ∷ t) f h =
-    cond_both (b == carriage_return) (Ok None) (Err fault) (λ r. r ≡ Err f → end_at fault (b ∷ c ∷ t) ≡ Err f)
-    (λ _ h. absurd (cc)) (λ other h. rw other h) h
-end_fault fault (b ∷ c ∷ t) more f h =
-    cond_both ((b == carriage_return) && (c == line_feed)) (Ok (Some (tt, t))) (Err fault) (λ r. r ≡ Err f → end_at fault (b ∷ c ∷ (t ++ more)) ≡ Err f)
-    (λ _ h. absurd (cc)) (λ other h. rw other h) h
+end_fault fault (b ∷ []) (c ∷ t) f h = grind (arith, cond_both)
+end_fault fault (b ∷ c ∷ t) more f h = grind (arith, cond_both)
 
 -- a part before a byte stays
 pub record Parts (c : ℕ) (text more : List ℕ) (p : List ℕ × List ℕ) : Type 0 where
@@ -221,21 +211,10 @@ stays_array = stays_then (line_at Count) (λ digits rest. array_of (count_of dig
 -- a line's words, or why there are none, don't change with what follows the line
 line_words : (line rest more : List ℕ) (x : List (List ℕ)) (after : List ℕ) → inline_of (Some (line, rest)) ≡ Ok (Some (x, after))
     → (inline_of (Some (line, rest ++ more)) ≡ Ok (Some (x, after ++ more))) × (rest ≡ after)
-line_words line rest more x after =
-    cond_both (list_any is_quote line) (Err Quotes) (if fits (words_of line) then Ok (Some (words_of line, rest)) else Err TooLong)
-    (λ r. r ≡ Ok (Some (x, after)) → (inline_of (Some (line, rest ++ more)) ≡ Ok (Some (x, after ++ more))) × (rest ≡ after))
-    (λ _ h. absurd (cc))
-    (λ plain. cond_both (fits (words_of line)) (Ok (Some (words_of line, rest))) (Err TooLong)
-    (λ r. r ≡ Ok (Some (x, after)) → (inline_of (Some (line, rest ++ more)) ≡ Ok (Some (x, after ++ more))) × (rest ≡ after))
-    (λ yes h. let same = same_read (words_of line) x rest after h in (rw (plain, yes) (cc (same.0, ap (λ (t : List ℕ). t ++ more) same.1)), same.1)) (λ _ h. absurd (cc)))
+line_words line rest more x after = grind (arith, cond_both, same_read)
 
 line_wrong : (line rest more : List ℕ) (f : Fault) → inline_of (Some (line, rest)) ≡ Err f → inline_of (Some (line, rest ++ more)) ≡ Err f
-line_wrong line rest more f =
-    cond_both (list_any is_quote line) (Err Quotes) (if fits (words_of line) then Ok (Some (words_of line, rest)) else Err TooLong)
-    (λ r. r ≡ Err f → inline_of (Some (line, rest ++ more)) ≡ Err f)
-    (λ yes h. rw yes h)
-    (λ plain. cond_both (fits (words_of line)) (Ok (Some (words_of line, rest))) (Err TooLong) (λ r. r ≡ Err f → inline_of (Some (line, rest ++ more)) ≡ Err f)
-    (λ _ h. absurd (cc)) (λ other h. rw (plain, other) h))
+line_wrong line rest more f = grind (arith, cond_both)
 
 inline_value : (text more : List ℕ) (x : List (List ℕ)) (rest : List ℕ) (q : Option (List ℕ × List ℕ)) → parted line_feed text ≡ q → inline_of q ≡ Ok (Some (x, rest))
     → (inline_at (text ++ more) ≡ Ok (Some (x, rest ++ more))) × (length rest < length text)
@@ -280,9 +259,7 @@ first_told text words rest (Ok None) h =
     cond_both (nat_lt most_frame (length text)) (Err TooLong) (Ok None)
     (λ r. r ≡ given words rest → (after : List ℕ) × (nothing ≡ given words after) × (rest ≡ drop (length (take most_frame text) - length after) text))
     (λ _ h. absurd (cc)) (λ _ h. absurd (cc)) h
-first_told text words rest (Ok (Some p)) h =
-    let same = same_read p.0 words (drop (length (take most_frame text) - length p.1) text) rest h in
-    (p.1, ap (λ (x : List (List ℕ)). Ok (Some (x, p.1))) same.0, sym same.1)
+first_told text words rest (Ok (Some p)) h = grind (arith, same_read)
 first_told text words rest (Err f) h = absurd (cc)
 
 first_short : (text more : List ℕ) (words : List (List ℕ)) (after : List ℕ) → length text ≤ most_frame → frame_at text ≡ Ok (Some (words, after))

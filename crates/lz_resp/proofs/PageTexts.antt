@@ -8,7 +8,6 @@ use Rattle.std.proofs.lemmas.Bool.Decides.{nat_tests}
 use Rattle.std.proofs.lemmas.Fmt.{length-decimal-le}
 use Rattle.lz_slot.specs.Limits.{largest_number, most_slots}
 use Rattle.lz_slot.specs.Numerals.{number_in}
-use Rattle.lz_slot.proofs.Texts.Cuts.{Lacks}
 use Rattle.lz_slot.proofs.Texts.Numerals.{decimal_read, number_told_of}
 use Rattle.lz_slot.proofs.Texts.Spellings.{decimal_lacks}
 use Rattle.lz_resp.specs.Frames.{bulk, star}
@@ -21,19 +20,14 @@ use Rattle.lz_resp.proofs.LongerTexts.{Stays, given, same_read, stays_given, sta
 use Rattle.lz_resp.proofs.Spellings.{line_read, line_spelled, word_read, word_spelled}
 
 heading_read : (n : ℕ) (more : List ℕ) → n ≤ most_words → heading_at (42 ∷ (decimal n ++ 13 ∷ 10 ∷ more)) ≡ given n more
-heading_read n more few =
-    let lacks : Lacks 13 (decimal n) = decimal_lacks 13 n refl (omega (arith, few)) in
-    ap (λ (r : Front (List ℕ)). and_then r (λ digits rest. counted (number_in 0 most_words digits) rest)) (line_read Count (decimal n) more lacks)
-    ∙ ap (λ (m : Option ℕ). counted m more) (decimal_read 0 most_words n (omega arith) (omega arith) few)
+heading_read n more few = grind (arith, decimal, decimal_lacks, line_read, decimal_read)
 
 -- a number that a page may have is short
 number_short : (n : ℕ) → n ≤ largest_number → length (decimal n) ≤ most_word
 number_short n small = let short : length (decimal n) ≤ 18 = length-decimal-le 18 n (omega arith) (omega arith) (omega arith) in omega (arith, short)
 
 number_read : (high n : ℕ) (more : List ℕ) → high ≤ largest_number → n ≤ high → number_at high (number_text n ++ more) ≡ given n more
-number_read high n more within small =
-    ap (λ (r : Front (List ℕ)). and_then r (λ word rest. counted (number_in 0 high word) rest)) (word_read (decimal n) more (number_short n (omega arith)))
-    ∙ ap (λ (m : Option ℕ). counted m more) (decimal_read 0 high n (omega arith) (omega arith) small)
+number_read high n more within small = grind (arith, word_read, decimal, number_short, decimal_read, small)
 
 small_first : (n : ℕ) (numbers : List ℕ) → list_all (λ number. nat_le number largest_number) (n ∷ numbers) ≡ true
     → (n ≤ largest_number) × (list_all (λ number. nat_le number largest_number) numbers ≡ true)
@@ -58,26 +52,13 @@ unfolding digits
 two = refl
 
 pub pages_are_read : PagesAreRead
-pages_are_read next numbers rest page =
-    let count = decimal (length numbers) in
-    let members = 42 ∷ (count ++ 13 ∷ 10 ∷ (flat_map number_text numbers ++ rest)) in
-    let parts = number_text next ++ members in
-    let first : heading_at (42 ∷ 50 ∷ 13 ∷ 10 ∷ parts) ≡ given 2 parts =
-    ap (λ (d : List ℕ). heading_at (42 ∷ (d ++ 13 ∷ 10 ∷ parts))) (sym two) ∙ heading_read 2 parts (omega arith) in
-    let cursor : number_at most_slots parts ≡ given next members = number_read most_slots next members (omega arith) page.cursor in
-    let told : members_at members ≡ given numbers rest =
-    ap (λ (r : Front ℕ). and_then r numbers_at) (heading_read (length numbers) (flat_map number_text numbers ++ rest) page.few) ∙ numbers_read numbers rest page.small in
-    ap page_at (regroup (number_text next) count (flat_map number_text numbers) rest) ∙ ap (λ (r : Front ℕ). and_then r page_of) first
-    ∙ ap (λ (r : Front ℕ). and_then r (λ next rest. and_then (members_at rest) (λ numbers after. Ok (Some ((next, numbers), after))))) cursor
-    ∙ ap (λ (r : Front (List ℕ)). and_then r (λ numbers after. Ok (Some ((next, numbers), after)))) told
+pages_are_read next numbers rest page = grind (arith, decimal, given, two, heading_read, number_read, page, numbers_read, regroup)
 
 -- a number that was told is the one that its digits spell
 counted_told : (high : ℕ) (digits rest : List ℕ) (n : ℕ) (after : List ℕ) (m : Option ℕ) → number_in 0 high digits ≡ m → counted m rest ≡ given n after
     → (n ≤ high) × (digits ≡ decimal n) × (rest ≡ after)
 counted_told high digits rest n after None is h = absurd (cc)
-counted_told high digits rest n after (Some m) is h =
-    let number = number_told_of 0 high m digits is in
-    let same = same_read m n rest after h in (omega (arith, number.1, same.0), number.2 ∙ ap decimal same.0, same.1)
+counted_told high digits rest n after (Some m) is h = grind (arith, number_told_of, same_read, decimal)
 
 count_spelled : (text : List ℕ) (n : ℕ) (rest : List ℕ) → count_at text ≡ given n rest → (n ≤ most_words) × (text ≡ decimal n ++ 13 ∷ 10 ∷ rest)
 count_spelled text n rest h =

@@ -1,34 +1,28 @@
 -- Lines of one or two digits, and frames of three words that have such lines.
-use Rattle.std.proofs.Common.{◌≡◌, ℕ, suc, ◌+◌, ◌-◌, ◌*◌, ◌/◌, ◌%◌, ◌<◌, ◌≤◌, List, [], ◌∷◌, ◌++◌, length, take, drop, get_or, true, false, nat_lt, decimal, Option, Some, Ok, refl, sym, ap, ◌∙◌, arith, append_assoc}
+use Rattle.std.proofs.Common.{◌≡◌, ℕ, suc, ◌+◌, ◌-◌, ◌*◌, ◌/◌, ◌%◌, ◌<◌, ◌≤◌, List, [], ◌∷◌, ◌++◌, length, take, drop, get_or, true, false, nat_lt, decimal, Some, Ok, refl, sym, ap, ◌∙◌, arith, append_assoc}
 use Rattle.std.specs.Prelude.{◌==◌, ◌&&◌}
 use Rattle.std.proofs.Math.Seq.{take-length}
 use Rattle.std.proofs.lemmas.Bool.Decides.{nat_tests}
 use Rattle.std.proofs.lemmas.Fmt.{decimal_digit}
 use Rattle.itoa.proofs.Decimal.{decimal_two}
-use Rattle.lz_slot.specs.Numerals.{number_in}
-use Rattle.lz_slot.proofs.Texts.Cuts.{Lacks}
 use Rattle.lz_slot.proofs.Texts.Numerals.{decimal_read}
 use Rattle.lz_slot.proofs.Texts.Spellings.{decimal_lacks}
 use Rattle.lz_proto.specs.Lines.{carriage_return, line_feed}
 use Rattle.lz_resp.specs.Digits.{digit_of}
-use Rattle.lz_resp.specs.Limits.{most_frame, most_word}
+use Rattle.lz_resp.specs.Limits.{most_frame}
 use Rattle.lz_resp.specs.Frames.{dollar, line_end}
 use Rattle.lz_resp.specs.Reading.{Front, and_then, bulk_at, end_at, first_of, frame_at, line_at, word_at, word_of, words_at}
 use Rattle.lz_resp.specs.declared.fault.Fault.{Fault}
-use Rattle.lz_resp.specs.declared.fault.Fault.TheVariants.{Length, NoEnd}
+use Rattle.lz_resp.specs.declared.fault.Fault.TheVariants.{NoEnd}
 use Rattle.lz_resp.proofs.Fronts.{first_found}
 use Rattle.lz_resp.proofs.LongerTexts.{given}
 use Rattle.lz_resp.proofs.Spellings.{line_read}
 
 short_line : (fault : Fault) (n : ℕ) (text rest : List ℕ) → n < 100 → text ≡ decimal n ++ line_end ++ rest → line_at fault text ≡ given (decimal n) rest
-short_line fault n text rest low is =
-    let lacks : Lacks 13 (decimal n) = decimal_lacks 13 n refl (omega (arith, low)) in
-    ap (line_at fault) (is ∙ append_assoc (decimal n) line_end rest) ∙ line_read fault (decimal n) rest lacks
+short_line fault n text rest low is = grind (arith, decimal, decimal_lacks, append_assoc, line_read)
 
 short_bulk : (n : ℕ) (text rest : List ℕ) → n < 100 → text ≡ decimal n ++ line_end ++ rest → bulk_at text ≡ word_of (Some n) rest
-short_bulk n text rest low is =
-    ap (λ (r : Front (List ℕ)). and_then r (λ digits rest. word_of (number_in 0 most_word digits) rest)) (short_line Length n text rest low is)
-    ∙ ap (λ (n : Option ℕ). word_of n rest) (decimal_read 0 most_word n (omega arith) (omega arith) (omega (arith, low)))
+short_bulk n text rest low is = grind (arith, short_line, decimal_read)
 
 -- the byte is the digit of the number
 digit_is : (b n : ℕ) → digit_of b ≡ Some n → (b ≡ 48 + n) × (n ≤ 9)
@@ -99,9 +93,7 @@ short_word (b ∷ t) n front word ended some mark line inside first back long cr
 
 one_more : (n : ℕ) (text rest after word : List ℕ) (words : List (List ℕ)) → word_at text ≡ Ok (Some (word, rest)) → words_at n rest ≡ Ok (Some (words, after))
     → words_at (suc n) text ≡ Ok (Some (word ∷ words, after))
-one_more n text rest after word words h k =
-    ap (λ (r : Front (List ℕ)). and_then r (λ word rest. and_then (words_at n rest) (λ words after. Ok (Some (word ∷ words, after))))) h
-    ∙ ap (λ (r : Front (List (List ℕ))). and_then r (λ words after. Ok (Some (word ∷ words, after)))) k
+one_more n text rest after word words h k = grind arith
 
 three_words : (a b c first second third rest : List ℕ) → word_at a ≡ Ok (Some (first, b)) → word_at b ≡ Ok (Some (second, c)) → word_at c ≡ Ok (Some (third, rest))
     → words_at 3 a ≡ Ok (Some (first ∷ second ∷ third ∷ [], rest))

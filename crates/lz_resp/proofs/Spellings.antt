@@ -59,21 +59,13 @@ no_minus [] h = absurd (cc)
 no_minus (b ∷ t) h = grind (arith, nat_tests)
 
 count_read : (n : ℕ) → n ≤ most_words → count_of (decimal n) ≡ Some n
-count_read n few =
-    let plain : starts_with nat_eq (decimal n) (codes "-") ≡ false = no_minus (decimal n) (decimal_number n (omega (arith, few))) in
-    rw plain (decimal_read 0 most_words n (omega arith) (omega arith) few)
+count_read n few = grind (arith, nat_eq, decimal, codes, no_minus, decimal_number, decimal_read)
 
 fits_told : (words : List (List ℕ)) → fits words ≡ true → (length words ≤ most_words) × (list_all (λ word. nat_le (length word) most_word) words ≡ true)
 fits_told words h = (grind (arith, nat_tests), grind (arith, nat_tests))
 
 array_read : (words : List (List ℕ)) (more : List ℕ) → fits words ≡ true → frame_at (array words ++ more) ≡ given words more
-array_read words more fit =
-    let both = fits_told words fit in
-    let digits = decimal (length words) in
-    let lacks : Lacks 13 digits = decimal_lacks 13 (length words) refl (omega (arith, both.0)) in
-    ap array_at (ended_line digits (flat_map bulk words) more)
-    ∙ ap (λ (r : Front (List ℕ)). and_then r (λ digits rest. array_of (count_of digits) rest)) (line_read Count digits (flat_map bulk words ++ more) lacks)
-    ∙ ap (λ (n : Option ℕ). array_of n (flat_map bulk words ++ more)) (count_read (length words) both.0) ∙ words_read words more both.1
+array_read words more fit = grind (arith, fits_told, fit, decimal, decimal_lacks, ended_line, line_read, count_read, words_read)
 
 none_read : (n : ℕ) (more : List ℕ) → 1 ≤ n → n ≤ largest_read → frame_at (less_than_none n ++ more) ≡ given [] more
 none_read n more some small =
@@ -91,15 +83,11 @@ line_frame [] tail other = refl
 line_frame (b ∷ line) tail other = rw (other_first b line other) refl
 
 inline_read : (text more : List ℕ) (words : List (List ℕ)) → IsInline text words → fits words ≡ true → frame_at (text ++ more) ≡ given words more
-inline_read text more words i fit =
-    let regroup : text ++ more ≡ i.line ++ 10 ∷ more = ap (λ (t : List ℕ). t ++ more) i.whole ∙ append_assoc i.line (10 ∷ []) more in
-    let its_fit : fits (words_of i.line) ≡ true = ap fits (sym i.its) ∙ fit in
-    ap frame_at regroup ∙ line_frame i.line more i.other ∙ ap inline_of (parted_clear 10 i.line more i.one) ∙ rw (i.plain, its_fit) (ap (λ (x : List (List ℕ)). given x more) (sym i.its))
+inline_read text more words i fit = grind (arith, append_assoc, fit, line_frame, parted_clear)
 
 frame_read : (text more : List ℕ) (words : List (List ℕ)) → IsFrame text words → fits words ≡ true → frame_at (text ++ more) ≡ given words more
 frame_read text more words (inl is) fit = ap (λ (t : List ℕ). frame_at (t ++ more)) is ∙ array_read words more fit
-frame_read text more words (inr (inl (none, (n, some, small, is)))) fit =
-    ap (λ (t : List ℕ). frame_at (t ++ more)) is ∙ none_read n more some small ∙ ap (λ (x : List (List ℕ)). given x more) (sym none)
+frame_read text more words (inr (inl (none, (n, some, small, is)))) fit = grind (arith, none_read)
 frame_read text more words (inr (inr i)) fit = inline_read text more words i fit
 
 pub frames_are_read : FramesAreRead
@@ -115,8 +103,7 @@ frames_are_read text rest words is within =
 -- where CR and LF are read they stand
 end_spelled : (fault : Fault) (text : List ℕ) (x : Unit {0}) (rest : List ℕ) → end_at fault text ≡ Ok (Some (x, rest)) → text ≡ 13 ∷ 10 ∷ rest
 end_spelled fault [] x rest h = absurd (cc)
-end_spelled fault (b ∷ []) x rest h =
-    cond_both (b == carriage_return) (Ok None) (Err fault) (λ r. r ≡ Ok (Some (x, rest)) → b ∷ [] ≡ 13 ∷ 10 ∷ rest) (λ _ h. absurd (cc)) (λ _ h. absurd (cc)) h
+end_spelled fault (b ∷ []) x rest h = grind (arith, cond_both)
 end_spelled fault (b ∷ c ∷ t) x rest h =
     cond_both ((b == carriage_return) && (c == line_feed)) (Ok (Some (tt, t))) (Err fault) (λ r. r ≡ Ok (Some (x, rest)) → b ∷ c ∷ t ≡ 13 ∷ 10 ∷ rest)
     (λ yes h.
@@ -126,11 +113,7 @@ end_spelled fault (b ∷ c ∷ t) x rest h =
 
 line_parts : (fault : Fault) (text line rest : List ℕ) (q : Option (List ℕ × List ℕ)) → AreParts 13 text q → line_of fault q ≡ Ok (Some (line, rest)) → text ≡ line ++ 13 ∷ 10 ∷ rest
 line_parts fault text line rest None is h = absurd (cc)
-line_parts fault text line rest (Some p) is h =
-    let t = then_value (end_at fault (carriage_return ∷ p.1)) (λ _ after. Ok (Some (p.0, after))) line rest h in
-    let ended = end_spelled fault (13 ∷ p.1) t.x t.rest t.first in
-    let same = same_read p.0 line t.rest rest t.second in
-    is ∙ ap (λ (t : List ℕ). p.0 ++ t) ended ∙ cc (same.0, same.1)
+line_parts fault text line rest (Some p) is h = grind (arith, then_value, end_spelled, same_read)
 
 pub line_spelled : (fault : Fault) (text line rest : List ℕ) → line_at fault text ≡ Ok (Some (line, rest)) → text ≡ line ++ 13 ∷ 10 ∷ rest
 line_spelled fault text line rest h = line_parts fault text line rest (parted 13 text) (parted_whole 13 text) h

@@ -76,8 +76,7 @@ goes_first selected text items next rest h tail others is = followed selected (t
 
 pub goes_more : (selected : Selected) (text : List ℕ) (told : List Item) (mid : Selected) (rest : List ℕ) (items : List Item) (next : Selected) (left : List ℕ) → GoesOn selected text told mid rest
     → step mid rest ≡ goes items next left → GoesOn selected text (told ++ items) next left
-goes_more selected text told mid rest items next left goes_on h tail others is =
-    rw append_assoc (goes_on tail (items ++ others) (goes_first mid rest items next left h tail others is))
+goes_more selected text told mid rest items next left goes_on h tail others is = grind (arith, append_assoc, others, goes_first)
 
 pub goes_stops : (selected : Selected) (text : List ℕ) (told : List Item) (next : Selected) (rest : List ℕ) (items : List Item) → GoesOn selected text told next rest → step next rest ≡ stops items
     → Reads (record { selected = selected; text = text }) (told ++ items) None
@@ -149,8 +148,7 @@ one_list selected text = let some = some_within (suc (length text)) selected tex
 -- a piece more
 pub reads_more : (selected : Selected) (taken piece : List ℕ) (items more : List Item) (kept new : Option Place) → Reads (record { selected = selected; text = taken }) items kept → Feeds kept piece more new
     → Reads (record { selected = selected; text = taken ++ piece }) (items ++ more) new
-reads_more selected taken piece items more None new h f =
-    subst (Reads (record { selected = selected; text = taken ++ piece }) (items ++ more)) (sym f.1) (λ rest. rw (f.0, append-nil, append_assoc) (h (piece ++ rest)))
+reads_more selected taken piece items more None new h f = grind (arith, append-nil, append_assoc)
 reads_more selected taken piece items more (Some left) None h f = λ rest. rw append_assoc (h.1 (piece ++ rest) more (rw append_assoc at (f rest)))
 reads_more selected taken piece items more (Some left) (Some after) h f =
     (f.0, λ rest others is. rw (append_assoc taken piece rest, append_assoc items more others) (h.1 (piece ++ rest) (more ++ others) (rw (append_assoc left.text piece rest) at (f.1 rest others is))))

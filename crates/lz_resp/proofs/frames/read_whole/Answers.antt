@@ -1,4 +1,4 @@
-use Rattle.std.proofs.Common.{◌∙◌, ◌++◌, ◌≡◌, ℕ, List, drop, ap}
+use Rattle.std.proofs.Common.{◌∙◌, ap}
 use Rattle.lz_resp.specs.Pieces.{step}
 use Rattle.lz_resp.proofs.Texts.{step_short}
 use Rattle.lz_resp.proofs.frames.read_whole.Goals as goal
