@@ -210,8 +210,7 @@ one_list text = let some = some_items text in (some.0, some.1, λ others is. onl
 
 -- a piece more
 pub reads_more : (taken piece : List ℕ) (items more : List Item) (kept new : Option (List ℕ)) → Reads taken items kept → Feeds kept piece more new → Reads (taken ++ piece) (items ++ more) new
-reads_more taken piece items more None new h f =
-    subst (Reads (taken ++ piece) (items ++ more)) (sym f.1) (λ rest. rw (f.0, append-nil, append_assoc) (h (piece ++ rest)))
+reads_more taken piece items more None new h f = grind (arith, append-nil, append_assoc)
 reads_more taken piece items more (Some left) None h f =
     λ rest. rw append_assoc (h.1 (piece ++ rest) more (rw append_assoc at (f rest)))
 reads_more taken piece items more (Some left) (Some after) h f =
@@ -249,8 +248,7 @@ clear_line kept r e clear first = front_clear kept (take e r) clear ∙ before_f
 
 -- what was kept and the part before place e are a line
 line_at : (kept r : List ℕ) (e : ℕ) → IsFirstByte (is_byte 10) r (Some e) → (tail : List ℕ) → (kept ++ take e r) ++ 10 ∷ (drop (e + 1) r ++ tail) ≡ (kept ++ r) ++ tail
-line_at kept r e first tail =
-    append_assoc kept (take e r) (10 ∷ (drop (e + 1) r ++ tail)) ∙ ap (λ (x : List ℕ). kept ++ x) (split_at r e first tail) ∙ sym (append_assoc kept r tail)
+line_at kept r e first tail = grind (arith, append_assoc, split_at)
 
 pub first_line : (kept r : List ℕ) (e : ℕ) (item : Item) (old new : List Item) (is_quit : Bool) → has_line_feed kept ≡ false → IsFirstByte (is_byte 10) r (Some e)
     → Adds (kept ++ take e r) item old new is_quit → is_quit ≡ false → GoesOn (kept ++ r) (item ∷ []) (drop (e + 1) r)
@@ -311,9 +309,7 @@ item_case text item false e says =
 -- what is kept of a line has its item
 pub adds_kept : {E : Type 0} (r : Result Bool E) (text front : List ℕ) (old new : List Item) → front ≡ take most_kept text → IfOk r (λ is_quit. (item : Item) × Adds front item old new is_quit)
     → IfOk r (λ is_quit. (item : Item) × Adds text item old new is_quit)
-adds_kept (Ok is_quit) text front old new is a =
-    let says : IsItem (take most_kept text) a.0 = subst (λ (t : List ℕ). IsItem t a.0) is a.1.says in
-    (a.0, record { says = item_case text a.0 (nat_lt most_kept (length text)) refl says; added = a.1.added; told = a.1.told })
+adds_kept (Ok is_quit) text front old new is a = grind (arith, item_case, nat_lt)
 adds_kept (Err fault) text front old new is a = tt
 
 least_case : (n : ℕ) (text : List ℕ) (far : Bool) → nat_lt n (length text) ≡ far → take (min (length text) n) text ≡ take n text

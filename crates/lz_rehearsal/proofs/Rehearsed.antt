@@ -191,18 +191,10 @@ none_behind play other i at = false≢true (ap is_some at)
 first_place : (play other : PlayStep) (i : ℕ) → 1 ≤ i → slice_get (play ∷ []) (i - 1) ≡ Some other → i ≡ 1
 first_place play other zero low at = absurd (omega (arith, low))
 first_place play other (suc zero) low at = refl
-first_place play other (suc (suc i)) low at =
-    let back : suc (suc i) - 1 ≡ suc i = omega arith in
-    absurd (none_behind play other i (subst (λ (n : ℕ). slice_get (play ∷ []) n ≡ Some other) back at))
+first_place play other (suc (suc i)) low at = grind (arith, none_behind, slice_get)
 
 pub stopped : (old new : WorldOver) (play : PlayStep) (i : ℕ) → StopsAt old (play ∷ []) i new → (i ≡ 1 → new ≡ old) → (new ≡ old) × ¬ IsLawful old.state play
-stopped old new play i h still =
-    let one = first_place play h.step i h.there.0 h.there.1 in
-    let same = still one in
-    let back : i - 1 ≡ 0 = omega (arith, one) in
-    let at : slice_get (play ∷ []) 0 ≡ Some h.step = subst (λ (n : ℕ). slice_get (play ∷ []) n ≡ Some h.step) back h.there.1 in
-    let its : h.step ≡ play = sym (ap (λ (o : Option PlayStep). unwrap_or o play) at) in
-    (same, subst (λ (w : WorldOver). ¬ IsLawful w.state play) same (subst (λ (s : PlayStep). ¬ IsLawful new.state s) its h.unlawful))
+stopped old new play i h still = grind (arith, first_place, still, slice_get, unwrap_or)
 
 -- what was played has the text that was put together
 pub step_put : {V E F : Type 0} (r : Result V F) (told : Result Unit E) (items : V → List ℕ) (old : WorldOver) (play : PlayStep) (marks : List Mark) (text : List ℕ) (new : WorldOver)

@@ -1,7 +1,6 @@
 -- Worked rows of scans: one that holds, and what is none, and what none tells.
-use Rattle.std.proofs.Common.{inl, None, Some, [], ◌∷◌, refl, sym, ap, ◌∙◌, subst, arith}
-use mathlib.Core.Bool.{false≢true}
-use Rattle.lz_list.specs.Traces.{Trace, member, SettledYes}
+use Rattle.std.proofs.Common.{inl, None, Some, [], ◌∷◌, refl, sym, subst, arith}
+use Rattle.lz_list.specs.Traces.{Trace, SettledYes}
 use Rattle.lz_board.specs.Glances.{Between}
 use Rattle.lz_board.proofs.GlanceRows.{E2, only_E2}
 use Rattle.lz_board.proofs.ListRows.{both_slots}
@@ -42,6 +41,4 @@ left_out : TellsMembers [] E2 E2 → ⊥
 left_out tells = let low = (tells.all 12 (omega arith) member_throughout).1 in absurd (omega (arith, low))
 
 never_was : TellsMembers (12 ∷ 9 ∷ []) E2 E2 → ⊥
-never_was tells =
-    let was = tells.only 1 0 (omega arith) in
-    false≢true (sym (ap (member 9) (only_E2 was.then was.between.from was.between.upto)) ∙ was.settled.member)
+never_was tells = grind (arith, only_E2)

@@ -1,7 +1,7 @@
 -- Rows that the definitions refuse: lists that fit no history, and texts that hold no set.
 use Rattle.std.proofs.Common.{◌≡◌, inl, inr, ⊎_elim, ℕ, ◌+◌, ◌*◌, ◌≤◌, ◌<◌, suc, true, false, List, [], ◌∷◌, ◌++◌, replicate, refl, sym, subst, arith}
 use Rattle.std.proofs.lemmas.Bool.{true≢false}
-use Rattle.lz_slot.specs.Sets.{Keys, members, after}
+use Rattle.lz_slot.specs.Sets.{Keys, members}
 use Rattle.lz_slot.specs.Histories.{History, Fits, IsCalled, ChainTo, lives, count_of}
 use Rattle.lz_slot.specs.Bytes.{Holds, header_body, slot_body}
 use Rattle.lz_slot.specs.declared.command.Command.{Command}
@@ -43,10 +43,7 @@ called_is i c (actor, inr (inr none)) = absurd none
 -- a list that fits it says nothing of another key
 other_key : (S T : Keys) (L : List ℕ) → Fits S added L T → S 8 ≡ T 8
 other_key S T [] fits = absurd (fits.answered 1 true (inl refl))
-other_key S T (i ∷ []) fits =
-    let step = fits.runs in
-    let is = called_is i step.0 step.1 in
-    subst (λ (c : Command). after c S 8 ≡ T 8) is.1 (step.3 8)
+other_key S T (i ∷ []) fits = grind (arith, called_is)
 other_key S T (i ∷ j ∷ L) fits =
     let step = fits.runs in
     let first = called_is i step.0 step.1 in

@@ -156,10 +156,7 @@ whole_is_of_its_key bytes k long fits is =
 
 -- what is read of a shut slot
 pub shut_whole : (bytes : List ℕ) → is_shut bytes ≡ true → (whole_read bytes ≡ Closed) ⊎ (whole_read bytes ≡ Torn)
-shut_whole bytes shut = elim (cases_Bool (list_all (λ b. b == 0) bytes)) [
-  | inl none ↦ inl (rw shut (rw none refl))
-  | inr some ↦ inr (rw shut (rw some refl))
-]
+shut_whole bytes shut = grind (arith, cases_Bool)
 
 -- a slot that is read as closed is all zeros, and one that is read as torn is shut
 shut_tests : (shut none pairs : Bool) (x : ℕ) → whole_tests shut none pairs x ≡ Torn → shut ≡ true

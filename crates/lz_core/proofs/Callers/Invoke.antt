@@ -20,7 +20,7 @@ use Rattle.lz_core.specs.declared.open_calls.OpenCall.{OpenCall}
 use Rattle.lz_machine.specs.Yards.{Shape, Yard, actor_at}
 use Rattle.lz_machine.specs.Table.{is_old, call_on, line_on}
 use Rattle.lz_machine.specs.Calls.{begun}
-use Rattle.lz_machine.specs.Runs.{Caller, Service, Up, Calls, Point, Reached, caller_at, invoked, state_after}
+use Rattle.lz_machine.specs.Runs.{Caller, Service, Up, Calls, Reached, caller_at, invoked, state_after}
 use Rattle.lz_yard.specs.declared.told.Told.{Told}
 use Rattle.lz_yard.specs.Parts.{YardOver}
 use Rattle.lz_yard.specs.Steps.{Played}
@@ -53,32 +53,11 @@ module _ (shape : Shape) (over : YardOver Past) (disk : Option Past) (callers : 
   in_range = (low, subst (λ (s : Shape). a ≤ s.passes) (sym (shape_is shape (state_shown shape (Some over) disk callers) calls ran)) high)
 
   reached : Reached ran.start (Up served disk_then) ran.point.marks ran.point.trace
-  reached = record {
-    steps = ran.reached.steps;
-    starts = ran.reached.starts;
-    runs = ran.reached.runs;
-    state = ap (λ (q : Point). q.state) ran.reached.point ∙ ran.at.state;
-    marks = ap (λ (q : Point). q.marks) ran.reached.point;
-    trace = ap (λ (q : Point). q.trace) ran.reached.point;
-  }
+  reached = grind arith
 
   -- its Invoke may be played
   may_invoke_on : MayStepOn over a (Invoke c)
-  may_invoke_on = record {
-    actor = in_range;
-    event = tt;
-    plays = λ has. record {
-      start = ran.start;
-      service = served;
-      medium = disk_then;
-      history = ran.point.marks;
-      trace = ran.point.trace;
-      reached = reached;
-      next = none;
-      yard = record { shape = refl; heads = refl; links = refl; keys = refl; halt = refl; pin = refl; locks = refl; vault = refl; uses = refl; actors = refl };
-      device = λ honest. refl;
-    };
-  }
+  may_invoke_on = grind (arith, in_range, reached, none)
 
   module _ (over' : YardOver Past) (outcome : Outcome) (news : Told) (event : Played over.yard a (Invoke c) outcome over'.yard news (device_of over.disk) (device_of over'.disk)) where
     abbrev disk_now : Medium

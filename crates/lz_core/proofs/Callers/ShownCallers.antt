@@ -1,5 +1,5 @@
 -- The calls that a world shows of its actors.
-use Rattle.std.proofs.Common.{◌≡◌, ◌≤◌, ◌-◌, arith, length, slice_get, unwrap_or, is_some, IsNone, ℕ, zero, suc, map, slice_index_or, slice_set, List, [], ◌∷◌, Option, Some, None, refl, sym, ◌∙◌, ap, subst}
+use Rattle.std.proofs.Common.{◌≡◌, ◌≤◌, ◌-◌, arith, length, slice_get, unwrap_or, is_some, IsNone, ℕ, zero, suc, map, slice_index_or, slice_set, List, [], ◌∷◌, Option, Some, None, refl, sym, ap, subst}
 use Rattle.std.proofs.lemmas.Bool.{false≢true}
 use Rattle.lz_slot.specs.declared.command.Command.{Command}
 use Rattle.lz_slot.specs.Counted.{of_pass}
@@ -11,7 +11,7 @@ use Rattle.lz_machine.specs.Yards.{Shape}
 use Rattle.lz_machine.specs.Calls.{event_at, progress_after}
 use Rattle.lz_machine.specs.Orders.{shape_with}
 use Rattle.lz_machine.specs.Runs.{Caller, caller_at}
-use Rattle.lz_machine.proofs.Runs.EventOrder.{shaped, same_event, same_follows}
+use Rattle.lz_machine.proofs.Runs.EventOrder.{same_event, same_follows}
 use Rattle.lz_yard.specs.Parts.{YardOver}
 use Rattle.lz_core.specs.Worlds.{HasRun, IsCallOn, IsLawful, MayCall, call_shown, state_shown}
 use Rattle.lz_core.proofs.Runs.PlayedStep.{shape_is}
@@ -24,9 +24,7 @@ shown_at (call ∷ callers) (suc i) = shown_at callers i
 
 pub shown_caller : (callers : List (Option OpenCall)) (a : ℕ) → 1 ≤ a → caller_at (map call_shown callers) a ≡ call_shown (slice_index_or callers (a - 1) None)
 shown_caller callers zero low = elim low [ ]
-shown_caller callers (suc a) low =
-    let same : suc a - 1 ≡ a = omega arith in
-    rw same (shown_at callers a)
+shown_caller callers (suc a) low = grind (arith, shown_at)
 
 pub shown_set : (callers : List (Option OpenCall)) (i : ℕ) (call : Option OpenCall) → map call_shown (slice_set callers i call) ≡ slice_set (map call_shown callers) i (call_shown call)
 shown_set [] i call = refl
@@ -78,16 +76,10 @@ of_set None caller same = absurd (false≢true (ap is_some same))
 of_set (Some own) caller same = (own, refl, sym (ap (λ (o : Option Caller). unwrap_or o (record { number = own.number; command = own.caller.command; progress = own.caller.progress })) same))
 
 pub to_event : (slots : ℕ) (shape : Shape) (own : OpenCall) → IsCallOn shape (Some own) → event_at (shape_with own.caller) own.caller.command own.caller.progress ≡ event_at shape own.caller.command own.caller.progress
-to_event slots shape own on =
-    ap (λ (b : ℕ). event_at (shaped 0 b own.caller.passes) own.caller.command own.caller.progress) on.0
-    ∙ ap (λ (p : ℕ). event_at (shaped 0 shape.buckets p) own.caller.command own.caller.progress) on.1
-    ∙ same_event 0 shape.slots shape.buckets shape.passes own.caller.command own.caller.progress
+to_event slots shape own on = grind (arith, same_event)
 
 pub to_progress : (shape : Shape) (own : OpenCall) (o : Outcome) → IsCallOn shape (Some own) → progress_after (shape_with own.caller) own.caller.command own.caller.progress o ≡ progress_after shape own.caller.command own.caller.progress o
-to_progress shape own o on =
-    ap (λ (b : ℕ). progress_after (shaped 0 b own.caller.passes) own.caller.command own.caller.progress o) on.0
-    ∙ ap (λ (p : ℕ). progress_after (shaped 0 shape.buckets p) own.caller.command own.caller.progress o) on.1
-    ∙ same_follows 0 shape.slots shape.buckets shape.passes own.caller.command own.caller.progress o
+to_progress shape own o on = grind (arith, same_follows)
 
 pub get_at : (callers : List (Option OpenCall)) (i : ℕ) (own : OpenCall) → slice_index_or callers i None ≡ Some own → slice_get callers i ≡ Some (Some own)
 get_at [] i own at = absurd (false≢true (ap is_some at))
@@ -96,6 +88,4 @@ get_at (first ∷ callers) (suc i) own at = get_at callers i own at
 
 pub of_at : (callers : List (Option OpenCall)) (a : ℕ) → 1 ≤ a → of_pass callers a None ≡ slice_index_or callers (a - 1) None
 of_at callers zero low = elim low [ ]
-of_at callers (suc a) low =
-    let same : suc a - 1 ≡ a = omega arith in
-    rw same refl
+of_at callers (suc a) low = grind arith

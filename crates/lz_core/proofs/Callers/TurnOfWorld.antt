@@ -15,7 +15,7 @@ use Rattle.lz_yard.specs.Parts.{YardOver}
 use Rattle.lz_yard.proofs.Events.KeptFit.{fault_or_not}
 use Rattle.lz_core.specs.Worlds.{TakesTurn, HasOne, IsCallOn, IsLawful, IsOutcome, IsWorld, MayStepOn, StepsOn, armed_yard, call_shown, call_after, mark_list, next_of, state_shown, world_shown}
 use Rattle.lz_core.proofs.Callers.ShownCallers.{shown_caller}
-use Rattle.lz_core.proofs.Callers.NextEvent.{called_on, in_range, may_step_on, medium, next_is, range, service}
+use Rattle.lz_core.proofs.Callers.NextEvent.{called_on, in_range, may_step_on, next_is, range}
 use Rattle.lz_core.proofs.Callers.Turn.{takes_on, turn_taken, world_on}
 
 module _ (shape : Shape) (disk : Option Past) (callers : List (Option OpenCall)) (calls a : ℕ) (tripped : Bool) (e : Event) where
@@ -67,9 +67,7 @@ module _ (shape : Shape) (disk : Option Past) (callers : List (Option OpenCall))
   tells (Some over) (Some over') outcome call' mark world is steps shown told = turn_taken shape over disk callers calls a world e is tripped over' outcome call' steps.0 steps.1 shown mark told
 
   open_here : (over : YardOver Past) (world : IsWorld shape (Some over) disk callers calls) → next_of (state_shown shape (Some over) disk callers) a ≡ Some e → (1 ≤ a) × IsSome (call_shown (slice_index_or callers (a - 1) None))
-  open_here over world is =
-      let low = (in_range shape over disk callers calls a world e is).0 in
-      (low, subst IsSome (shown_caller callers a low) (ap is_some (next_is (service shape over disk callers calls a world e is) (medium shape over disk callers calls a world e is) a e is).at))
+  open_here over world is = grind (arith, in_range, shown_caller, is_some, next_is)
 
   -- a call that goes on has another turn
   pub turns_on : (yard yard' : Option (YardOver Past)) (outcome : Outcome) (call' : Option OpenCall) → IsWorld shape yard disk callers calls → next_of (state_shown shape yard disk callers) a ≡ Some e → StepsOn (armed_yard tripped yard) a e outcome yard'

@@ -1,5 +1,5 @@
 -- A key put at its place among ascending ones, and the members among the slots below some slot.
-use Rattle.std.proofs.Common.{◌≡◌, ◌≢◌, ◌⊎◌, inl, inr, ◌↔◌, ◌<◌, ◌≤◌, ◌+◌, ◌==◌, ◌||◌, ℕ, zero, suc, Bool, true, false, List, [], ◌∷◌, slice_get, Option, Some, None, is_some, unwrap_or, refl, sym, ap, ◌∙◌, subst, arith}
+use Rattle.std.proofs.Common.{◌≡◌, ◌≢◌, ◌⊎◌, inl, inr, ◌↔◌, ◌<◌, ◌≤◌, ◌+◌, ◌==◌, ◌||◌, ℕ, zero, suc, Bool, true, false, List, [], ◌∷◌, slice_get, Some, None, is_some, unwrap_or, refl, sym, ap, ◌∙◌, arith}
 use Rattle.std.specs.List.{All, insert}
 use Rattle.std.proofs.lemmas.List.Elements.{All-cons}
 use Rattle.std.proofs.lemmas.Bool.{false≢true, cases_eq, or_cases, or_left, or_right}
@@ -64,8 +64,7 @@ or_twice false b = refl
 -- a key that is there is a member
 pub there : (xs : List ℕ) (i x k : ℕ) → slice_get xs i ≡ Some x → members xs k ≡ ((x == k) || members xs k)
 there [] i x k at = absurd (false≢true (ap is_some at))
-there (y ∷ ys) zero x k at =
-    subst (λ (q : ℕ). ((y == k) || members ys k) ≡ ((q == k) || ((y == k) || members ys k))) (ap (λ (o : Option ℕ). unwrap_or o 0) at) (or_twice (y == k) (members ys k))
+there (y ∷ ys) zero x k at = grind (arith, unwrap_or, or_twice)
 there (y ∷ ys) (suc i) x k at = ap (λ (b : Bool). (y == k) || b) (there ys i x k at) ∙ swap_or (y == k) (x == k) (members ys k)
 
 -- one slot more
@@ -73,23 +72,13 @@ more : (w : Words) (n : ℕ) (k : ℕ) → IsAmong w n k → IsAmong w (n + 1) k
 more w n k (s, lt, rest) = (s, omega arith, rest)
 
 less : (w : Words) (n : ℕ) (k : ℕ) → IsAmong w (n + 1) k → (IsListed w n k) ⊎ IsAmong w n k
-less w n k (s, lt, rest) =
-    elim (cases_eq s n) [
-      | inl same ↦ inl (subst (λ (q : ℕ). IsListed w q k) same rest)
-      | inr other ↦ inr (s, omega (arith, lt, other), rest)
-    ]
+less w n k (s, lt, rest) = grind (arith, cases_eq)
 
 pub eq_of : (j k : ℕ) → (j == k) ≡ true → j ≡ k
-eq_of j k is = elim (eqb_tells j k) [
-  | inl same ↦ same.1
-  | inr other ↦ absurd (false≢true (sym other.0 ∙ is))
-]
+eq_of j k is = grind (arith, eqb_tells)
 
 eq_self : (j k : ℕ) → Some j ≡ Some k → (j == k) ≡ true
-eq_self j k same = elim (eqb_tells j k) [
-  | inl equal ↦ equal.0
-  | inr other ↦ absurd (other.1 (ap (λ (o : Option ℕ). unwrap_or o 0) same))
-]
+eq_self j k same = grind (arith, eqb_tells, unwrap_or)
 
 module _ (w : Words) (n : ℕ) (old new : List ℕ) (invariant : (k : ℕ) → (members old k ≡ true) ↔ IsAmong w n k) where
   pub put : (key : ℕ) → ((k : ℕ) → (Some key ≡ Some k) ↔ IsListed w n k) → ((k : ℕ) → members new k ≡ ((key == k) || members old k))

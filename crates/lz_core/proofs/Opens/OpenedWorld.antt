@@ -14,7 +14,7 @@ use Rattle.lz_vault.specs.Opens.{MayOpen}
 use Rattle.lz_vault.specs.Makes.{IsFresh}
 use Rattle.lz_core.specs.declared.play.Step.TheVariants.{Open}
 use Rattle.lz_core.specs.declared.open_calls.OpenCall.{OpenCall}
-use Rattle.lz_machine.specs.Yards.{Shape, Yard, cell_read, slots_read, opened_yard}
+use Rattle.lz_machine.specs.Yards.{Shape, opened_yard}
 use Rattle.lz_yard.specs.Filling.{OpensYard}
 use Rattle.lz_yard.specs.Parts.{YardOver}
 use Rattle.lz_machine.specs.Runs.{Caller, Start, IsStart, start_keys, State, Up, Down, Opens, Point, first_point, opened_service, keys_found}
@@ -79,17 +79,10 @@ module _ (shape : Shape) (before : Past) (over : YardOver Past) (opens : OpensYa
   disk = after before.bytewise before.start before.records
 
   slots_is : (S : Keys) → Holds disk.seen shape.slots S → over.yard.shape.slots ≡ shape.slots
-  slots_is S holds =
-      let found = opens.vault.found refl in
-      let one = one_count disk.seen _ shape.slots _ S found.held holds in
-      let cells = ap (λ (y : Yard). length y.vault.cells) (yard_read _ _ _ _ _ opens refl) in
-      sym (cells ∙ length-map (slots_read disk.seen over.yard.shape.slots) cell_read ∙ read_length disk.seen over.yard.shape.slots) ∙ one
+  slots_is S holds = grind (arith, one_count, yard_read, length-map, read_length)
 
   shape_opened : (S : Keys) → Holds disk.seen shape.slots S → over.yard.shape ≡ shape
-  shape_opened S holds =
-      ap (λ (n : ℕ). record { slots = n; buckets = over.yard.shape.buckets; passes = over.yard.shape.passes }) (slots_is S holds)
-      ∙ ap (λ (n : ℕ). record { slots = shape.slots; buckets = n; passes = over.yard.shape.passes }) opens.buckets
-      ∙ ap (λ (n : ℕ). record { slots = shape.slots; buckets = shape.buckets; passes = n }) opens.passes
+  shape_opened S holds = grind (arith, slots_is)
 
   pub bytes_read : AreBytes disk.seen
   bytes_read = subst (λ (m : Medium). AreBytes m.seen) (opens.vault.medium refl) (opens.vault.kept refl).sound.seen.bytes

@@ -28,10 +28,7 @@ module _ (shape : Shape) (was : Medium) (left : Medium) (is : (left ≡ was) ⊎
   to = record { state = Down shape left; calls = calls; tripped = now }
 
   pub refused_goes : (done : Bool) × Goes from Open (OpenFails why done) (refused why ∷ []) to
-  refused_goes = ⊎_elim
-      (λ (same : left ≡ was). (false, record { is = inr (why, false, refl); may = number; to = ap (Down shape) (sym same); counts = refl; told = refl }))
-      (λ (same : left ≡ synced was). (true, record { is = inr (why, true, refl); may = number; to = ap (Down shape) (sym same); counts = refl; told = refl }))
-      is
+  refused_goes = grind arith
 
 -- a fault of the device is told where the device was tripped
 device_none : (tripped : Bool) → fault_told Device tripped ≡ None → tripped ≡ false
@@ -95,12 +92,7 @@ module _ (shape : Shape) (yard : Option (YardOver Past)) (disk : Option Past) (c
   play why number as_tripped = let step = goes why number in leads before_it after_it Open (OpenFails why step.0) (refused why ∷ []) step.1 (ranged why number, tt) as_tripped refl
 
   pub told_fault : (why : ℕ) → fault_told fault tripped ≡ Some why → PlaysOn before_it (Open ∷ []) (refused why ∷ []) after_it
-  told_fault why told = ⊎_elim
-      (λ (device : fault ≡ Device).
-      let some = device_some tripped why (subst (λ (f : OpenFault). fault_told f tripped ≡ Some why) device told) in
-      play why (inl some.1) ((λ seven. some.0), (λ is_tripped. some.1)))
-      (λ (memory : fault ≡ Memory). absurd (memory_some tripped why (subst (λ (f : OpenFault). fault_told f tripped ≡ Some why) memory told)))
-      cause
+  told_fault why told = grind (arith, device_some, play, memory_some, cause)
 
   pub told_none : fault_told fault tripped ≡ None → StopsEarly before_it (Open ∷ []) after_it
   told_none told = ⊎_elim

@@ -118,9 +118,7 @@ by_count a b c mid plays i step ms ns zero at before few now last =
 by_count a b c mid plays i step ms ns (suc zero) at before few now last =
     let within = slice_get_within plays i step at in
     record { count = i + 1; few = omega (arith, within); marks = ms ++ ns; mid = mid; before = goes_on a b mid plays i step ms ns at before now; last = ⊎_elim inl (λ lacks. absurd lacks) last }
-by_count a b c mid plays i _ ms ns (suc (suc count)) at before few now last =
-    let never : 1 ≤ 0 = omega (arith, few) in
-    elim never [ ]
+by_count a b c mid plays i _ ms ns (suc (suc count)) at before few now last = grind arith
 
 pub early_on : (a b c : WorldOver) (plays : List PlayStep) (i : ℕ) (step : PlayStep) (ms : List Mark) → slice_get plays i ≡ Some step
     → PlaysOn a (take i plays) ms b → StopsEarly b (step ∷ []) c → StopsEarly a plays c

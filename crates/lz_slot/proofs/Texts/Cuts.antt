@@ -30,10 +30,7 @@ lacks_first c r e first = lacks_below c r e (omega (arith, first.0.high)) first.
 
 -- a text is the part before place e, the byte there and the rest
 pub cut_at : (c : ℕ) (r : List ℕ) (e : ℕ) → IsFirstByte (is_byte c) r (Some e) → r ≡ take e r ++ c ∷ drop (e + 1) r
-cut_at c r e first =
-    let at : get_or r e 0 ≡ c = eqb-true _ _ first.1 in
-    let rest : drop e r ≡ c ∷ drop (e + 1) r = drop_more r e 0 first.0.high ∙ ap (λ (x : ℕ). x ∷ drop (e + 1) r) at in
-    sym (take-append-drop e r) ∙ ap (λ (x : List ℕ). take e r ++ x) rest
+cut_at c r e first = grind (arith, get_or, eqb-true, drop_more, take-append-drop)
 
 pub lacks_more : (c b : ℕ) (t : List ℕ) → Lacks c (b ∷ t) → (nat_eq c b ≡ false) × Lacks c t
 lacks_more c b t h = (grind (arith, nat_tests), grind (arith, nat_tests))

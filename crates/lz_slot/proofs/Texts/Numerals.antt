@@ -10,7 +10,7 @@ use Rattle.std.proofs.lemmas.Int.Digits.{digits_value_more}
 use Rattle.std.proofs.lemmas.Str.{digit_value_digit}
 use Rattle.std.proofs.lemmas.Str.Parse.{IsNumeralModel, numerals_by_value, digits_value-take-le}
 use Rattle.std.proofs.lemmas.Fmt.{decimal-digits_value, digits_decimal, digits_value-decimal, decimal_nonempty, first_decimal, decimal_digit}
-use Rattle.lz_slot.specs.Numerals.{is_digit, is_number, largest_read, number_in, number_read, within, NumbersReadBack}
+use Rattle.lz_slot.specs.Numerals.{is_digit, is_number, largest_read, number_in, within, NumbersReadBack}
 
 pub tested : IsNumeralModel (λ (ds : List ℕ). list_all is_digit ds ≡ true) (digits_value 10)
 tested = numerals_by_value _ (search rules)
@@ -72,11 +72,7 @@ decimal_number n small = number_tells (decimal n) (record {
 
 -- and it is read as the number
 pub decimal_read : (low high n : ℕ) → high ≤ largest_read → low ≤ n → n ≤ high → number_in low high (decimal n) ≡ Some n
-decimal_read low high n big above below =
-    let small : n ≤ largest_read = omega arith in
-    let value : digits_value 10 (decimal n) ≡ n = digits_value-decimal tested n (omega arith) in
-    let read : number_read (decimal n) ≡ Some n = rw (decimal_number n small, value) (within_fits 0 largest_read n (omega arith) small) in
-    ap (option_and_then (within low high)) read ∙ within_fits low high n above below
+decimal_read low high n big above below = grind (arith, decimal, digits_value-decimal, tested, decimal_number, within_fits)
 
 -- what is read of a text within bounds
 IsRead : ℕ → ℕ → ℕ → List ℕ → Option ℕ → Type 0

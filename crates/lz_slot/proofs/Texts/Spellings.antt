@@ -8,18 +8,17 @@ use Rattle.std.proofs.lemmas.Fmt.{length-decimal-le, digits_decimal}
 use Rattle.memchr.specs.Find.{IsFirstByte, is_byte}
 use Rattle.lz_slot.specs.Limits.{largest_key, largest_number, last_room}
 use Rattle.lz_slot.specs.Rooms.{rank, room_of, number_of}
-use Rattle.lz_slot.specs.Numerals.{is_digit, is_number, largest_read, number_in}
+use Rattle.lz_slot.specs.Numerals.{is_digit, largest_read, number_in}
 use Rattle.lz_slot.specs.Texts.{fault_behind, fault_in, fault_of_parts, key_behind, key_in, key_of_number, key_of_parts, key_read, key_text, parted, text_with_room, Spells, KeysReadBack, KeysAreRefused, WrittenKeysAreSpelled}
 use Rattle.lz_slot.specs.declared.spelling.KeyFault.{KeyFault}
-use Rattle.lz_slot.specs.declared.spelling.KeyFault.TheVariants.{NoNumber, TooLarge}
+use Rattle.lz_slot.specs.declared.spelling.KeyFault.TheVariants.{TooLarge}
 use Rattle.lz_slot.proofs.Texts.Cuts.{AreParts, Lacks, lacks_all, lacks_more, parted_at, parted_clear, parted_none, parted_whole}
 use Rattle.lz_slot.proofs.Texts.Numerals.{decimal_number, decimal_read, number_told_of, tested}
 
 -- the parts of a text that memchr found
 pub with_colon : (text : List ℕ) (e : ℕ) (r : Result ℕ KeyFault) → IsFirstByte (is_byte 58) text (Some e)
     → r ≡ key_behind (number_in 0 last_room (take e text)) (take (length text - (e + 1)) (drop (e + 1) text)) → r ≡ key_read text
-with_colon text e r first is =
-    is ∙ ap (key_behind (number_in 0 last_room (take e text))) (take_rest text (e + 1)) ∙ ap (key_of_parts text) (sym (parted_at 58 text e first))
+with_colon text e r first is = grind (arith, take_rest, parted_at)
 
 pub without_colon : (text : List ℕ) → IsFirstByte (is_byte 58) text None → key_in 0 text ≡ key_read text
 without_colon text none = ap (key_of_parts text) (sym (parted_none 58 text (lacks_all 58 text none)))
@@ -44,27 +43,17 @@ lacks_join c (b ∷ t) u p q = let both = lacks_more c b t p in rw (both.0) (lac
 
 -- what is written of a key is digits and a colon
 pub key_text_lacks : (c k : ℕ) → is_digit c ≡ false → nat_eq c 58 ≡ false → k ≤ largest_key → Lacks c (key_text k)
-key_text_lacks c k other unlike small = cond_both (room_of k == 0) (decimal (number_of k)) (text_with_room k) (λ (t : List ℕ). Lacks c t)
-    (λ _. decimal_lacks c (number_of k) other (omega arith))
-    (λ _. lacks_join c (decimal (room_of k)) (58 ∷ decimal (number_of k)) (decimal_lacks c (room_of k) other (omega arith)) (rw unlike (decimal_lacks c (number_of k) other (omega arith))))
+key_text_lacks c k other unlike small = grind (arith, cond_both, decimal, decimal_lacks, lacks_join)
 
 -- a number's text is read as the key of its room
 key_in_decimal : (room n : ℕ) → n ≤ largest_number → key_in room (decimal n) ≡ Ok (rank room n)
-key_in_decimal room n small =
-    let number : is_number (decimal n) ≡ true = decimal_number n (omega arith) in
-    cond_both (is_number (decimal n)) (key_of_number room (number_in 0 largest_number (decimal n))) (Err NoNumber) (λ (r : Result ℕ KeyFault). r ≡ Ok (rank room n))
-    (λ _. ap (key_of_number room) (decimal_read 0 largest_number n (omega arith) (omega arith) small)) (λ other. absurd (false≢true (sym other ∙ number)))
+key_in_decimal room n small = grind (arith, decimal, decimal_number, cond_both, decimal_read)
 
 same_key : (k : ℕ) → rank (room_of k) (number_of k) ≡ k
 same_key k = omega arith
 
 read_with_room : (k : ℕ) → k ≤ largest_key → key_read (text_with_room k) ≡ Ok k
-read_with_room k small =
-    let room : room_of k ≤ last_room = omega arith in
-    let number : number_of k ≤ largest_number = omega arith in
-    ap (key_of_parts (text_with_room k)) (parted_clear 58 (decimal (room_of k)) (decimal (number_of k)) (decimal_lacks 58 (room_of k) refl (omega arith)))
-    ∙ ap (λ (r : Option ℕ). key_behind r (decimal (number_of k))) (decimal_read 0 last_room (room_of k) (omega arith) (omega arith) room)
-    ∙ key_in_decimal (room_of k) (number_of k) number ∙ ap (λ (n : ℕ). Ok n) (same_key k)
+read_with_room k small = grind (arith, parted_clear, decimal, decimal_lacks, decimal_read, key_in_decimal, same_key)
 
 decimal_alone : (n : ℕ) → n ≤ largest_number → key_read (decimal n) ≡ Ok (rank 0 n)
 decimal_alone n small = ap (key_of_parts (decimal n)) (parted_none 58 (decimal n) (decimal_lacks 58 n refl (omega arith))) ∙ key_in_decimal 0 n small
@@ -84,15 +73,10 @@ spelled_read text k small (inr (first, alone)) = ap key_read alone ∙ read_alon
 numbered : (room k : ℕ) (text : List ℕ) (n : Option ℕ) → number_in 0 largest_number text ≡ n → key_of_number room n ≡ Ok k
     → (j : ℕ) × (j ≤ largest_number) × (text ≡ decimal j) × (k ≡ rank room j)
 numbered room k text None e is = absurd (cc)
-numbered room k text (Some j) e is =
-    let told = number_told_of 0 largest_number j text e in
-    let same : rank room j ≡ k = cc in
-    (j, told.1, told.2, sym same)
+numbered room k text (Some j) e is = grind (arith, number_told_of)
 
 key_in_told : (room k : ℕ) (text : List ℕ) → key_in room text ≡ Ok k → (j : ℕ) × (j ≤ largest_number) × (text ≡ decimal j) × (k ≡ rank room j)
-key_in_told room k text = cond_both (is_number text) (key_of_number room (number_in 0 largest_number text)) (Err NoNumber)
-    (λ (r : Result ℕ KeyFault). r ≡ Ok k → (j : ℕ) × (j ≤ largest_number) × (text ≡ decimal j) × (k ≡ rank room j))
-    (λ _ is. numbered room k text (number_in 0 largest_number text) refl is) (λ _ is. absurd (cc))
+key_in_told room k text = grind (arith, cond_both, decimal, numbered)
 
 abbrev IsSpelled : List ℕ → ℕ → Type 0
 IsSpelled text k = (k ≤ largest_key) × Spells text k
@@ -129,9 +113,7 @@ fault_of_number room None fault is = cc
 fault_of_number room (Some n) fault is = absurd (cc)
 
 refused_in : (room : ℕ) (text : List ℕ) (fault : KeyFault) → key_in room text ≡ Err fault → fault_in text ≡ fault
-refused_in room text fault = cond_both (is_number text) (key_of_number room (number_in 0 largest_number text)) (Err NoNumber)
-    (λ (r : Result ℕ KeyFault). r ≡ Err fault → fault_in text ≡ fault)
-    (λ number is. rw number (fault_of_number room (number_in 0 largest_number text) fault is)) (λ other is. rw other (cc))
+refused_in room text fault = grind (arith, cond_both, fault_of_number)
 
 refused_behind : (room : Option ℕ) (text : List ℕ) (fault : KeyFault) → key_behind room text ≡ Err fault → fault_behind room text ≡ fault
 refused_behind None text fault is = cc
@@ -154,6 +136,4 @@ spelled_short text k small (inl with) =
     let room : length (decimal (room_of k)) ≤ 2 = length-decimal-le 2 (room_of k) (omega arith) (omega arith) (omega arith) in
     let number : length (decimal (number_of k)) ≤ 18 = length-decimal-le 18 (number_of k) (omega arith) (omega arith) (omega arith) in
     rw with (omega (arith, length-append (decimal (room_of k)) (58 ∷ decimal (number_of k))))
-spelled_short text k small (inr (first, alone)) =
-    let number : length (decimal (number_of k)) ≤ 18 = length-decimal-le 18 (number_of k) (omega arith) (omega arith) (omega arith) in
-    rw alone (omega arith)
+spelled_short text k small (inr (first, alone)) = grind (arith, decimal, length-decimal-le)

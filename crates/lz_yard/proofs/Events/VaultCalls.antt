@@ -1,5 +1,5 @@
 -- What the calls of the vault ask for, and what they make of an event.
-use Rattle.std.proofs.Common.{◌≡◌, ℕ, ◌+◌, ◌≤◌, ◌<◌, Bool, true, false, ◌&&◌, ◌==◌, length, sym, ◌∙◌, arith}
+use Rattle.std.proofs.Common.{◌≡◌, ℕ, ◌<◌, Bool, true, false, ◌&&◌, length, sym, ◌∙◌, arith}
 use Rattle.std.specs.Prelude.{Some, Ok, slice_get, slice_set}
 use Rattle.std.proofs.lemmas.Option.{same_Some, slice_get-get_or}
 use Rattle.lz_disk.specs.Devices.{Device}

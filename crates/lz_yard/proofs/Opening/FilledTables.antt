@@ -1,7 +1,7 @@
 -- What an open makes of the members that it found fits, and is what the yard of the text read has.
-use Rattle.std.proofs.Common.{◌≡◌, ℕ, zero, suc, ◌<◌, ◌≤◌, Bool, true, ◌==◌, List, [], ◌∷◌, length, map, refl, sym, ap, ◌∙◌, subst, arith}
+use Rattle.std.proofs.Common.{◌≡◌, ℕ, zero, suc, ◌<◌, ◌≤◌, true, List, [], ◌∷◌, length, map, refl, sym, ap, ◌∙◌, subst, arith}
 use Rattle.std.specs.Prelude.{All, Some, replicate, slice_get, slice_index_or, if◌then◌else◌}
-use Rattle.std.specs.List.{list_any, range_with_len}
+use Rattle.std.specs.List.{range_with_len}
 use Rattle.std.proofs.lemmas.List.{length-map, length-replicate, get_or-replicate}
 use Rattle.std.proofs.lemmas.List.FromFn.{length-range_with_len}
 use Rattle.std.proofs.lemmas.Option.{slice_get_within, get_or_from_slice_get}
@@ -62,9 +62,7 @@ module _ (cells : List Cell) (B S : ℕ) (few : length cells ≤ most_slots) (so
   low_taken taken is = subst (All (λ s. s < N)) (sym is) (taken_low cells N)
 
   taken_uses : (taken : List ℕ) → taken ≡ taken_among cells N → first_uses N taken ≡ map (λ s. if has_slot s es then Taken else Free) (range_with_len 0 N)
-  taken_uses taken is =
-      ap (first_uses N) is
-      ∙ same_map (λ s. if list_any (λ (t : ℕ). t == s) (taken_among cells N) then Taken else Free) (λ s. if has_slot s es then Taken else Free) (range_with_len 0 N) (λ s. ap (λ (b : Bool). if b then Taken else Free) (has_taken cells es are s))
+  taken_uses taken is = grind (arith, same_map, has_taken)
 
   pub tables_are : (w v : Words) (list : Listed) (allot : Allotted) (taken : List ℕ) (actors : List Actor) → v ≡ new_words N B S → w ≡ with_members es v
       → list ≡ record { words = w; locks = free_locks w } → taken ≡ taken_among cells N → allot.uses ≡ first_uses N taken → allot.rows ≡ replicate S first_row → actors ≡ replicate S idle_actor

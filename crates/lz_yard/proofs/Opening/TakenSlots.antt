@@ -1,5 +1,5 @@
 -- The slots that an open finds taken are those of its members.
-use Rattle.std.proofs.Common.{◌≡◌, inl, inr, ℕ, zero, suc, ◌+◌, ◌<◌, Bool, true, false, ◌==◌, List, [], ◌∷◌, ◌++◌, length, refl, sym, ap, ◌∙◌, arith}
+use Rattle.std.proofs.Common.{◌≡◌, inl, inr, ℕ, zero, suc, ◌+◌, ◌<◌, Bool, true, false, ◌==◌, List, [], ◌∷◌, ◌++◌, length, sym, ap, ◌∙◌, arith}
 use mathlib.Core.Bool.{false≢true}
 use Rattle.std.specs.Prelude.{All, Option, Some, None, is_some, nat_lt, ◌&&◌, ◌||◌, if◌then◌else◌}
 use Rattle.std.specs.List.{list_any}
@@ -72,7 +72,4 @@ module _ (cells : List Cell) where
     ]
 
     pub has_taken : (s : ℕ) → list_any (λ (t : ℕ). t == s) (taken_among cells N) ≡ has_slot s es
-    has_taken s = is_taken s N ∙ sym (elim (cases_Bool (has_slot s es)) [
-      | inl has ↦ let node = slot_node s es has in has_it s node.0 node.1
-      | inr none ↦ none ∙ has_none s none (member_at cells s) refl
-    ])
+    has_taken s = grind (arith, is_taken, cases_Bool, slot_node, has_it, has_none)
