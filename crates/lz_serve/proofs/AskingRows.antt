@@ -2,7 +2,6 @@
 use Rattle.std.proofs.Common.{◌≡◌, ◌≢◌, ◌↔◌, ◌&&◌, inl, inr, ℕ, zero, suc, Bool, true, false, List, [], ◌∷◌, IsSomeAnd, IsTrue, Option, Some, None, Result, Ok, Err, refl, sym, ap, ◌∙◌, subst, arith, lit<}
 use Rattle.std.proofs.lemmas.List.Elements.{All-cons, All-nil}
 use mathlib.Core.Bool.{true≢false}
-use Rattle.lz_slot.specs.declared.command.Command.{Command}
 use Rattle.lz_slot.specs.declared.command.Command.TheVariants as command
 use Rattle.lz_slot.specs.declared.format.Format.{Format}
 use Rattle.lz_machine.specs.Orders.{Calling}
@@ -12,7 +11,7 @@ use Rattle.lz_proto.specs.declared.reply.Reply.{Reply}
 use Rattle.lz_proto.specs.declared.reply.Reply.TheVariants.{Yes, Full}
 use Rattle.lz_board.specs.declared.pass.Pass.{Pass}
 use Rattle.lz_board.specs.declared.view.Part.{Part}
-use Rattle.lz_board.specs.Seats.{BoardId, part}
+use Rattle.lz_board.specs.Seats.{BoardId}
 use Rattle.lz_set.specs.declared.fault.Fault.{Fault}
 use Rattle.lz_set.specs.declared.fault.Fault.TheVariants as fault
 use Rattle.lz_set.specs.declared.underway.Stage.{Stage}
@@ -27,7 +26,7 @@ use Rattle.lz_serve.specs.Replies.{AreAskedAgain, IsCallAnswered, command_of, to
 use Rattle.lz_serve.proofs.Seats.{alone_once, told_full}
 use Rattle.lz_serve.specs.Askings.{AnswersNoOther, Asked, HasAnswered, IsAnsweredWith, IsAnswering, IsAsking, IsCounting, IsMadeAgain, IsSameQuestion, IsStopped, StillAwaits, WaitsForSlots}
 use Rattle.lz_serve.specs.declared.line.Line.{Line}
-use Rattle.lz_serve.proofs.Askings.{counted, resting}
+use Rattle.lz_serve.proofs.Askings.{resting}
 use Rattle.lz_serve.proofs.ClientRows.{asks, before_the_first_line, before_the_second, posed, two}
 use Rattle.lz_serve.proofs.ReplyRows.{never_full, silent_again, silent_alone, silent_at_last, silent_beside_a_removal, silent_while_one_waits}
 
@@ -38,10 +37,7 @@ module _ (b : BoardId) (F : Format) (given : List Part) (q : Posed) (pass : Pass
 
   -- the call under way is for the request
   other_call : (k : Calling) → call ≡ Some k → q.request ≡ Add 7 → k.command ≡ command.Has 7 → ⊥
-  other_call k begun adds looks =
-      let asked = ap command_of (sym adds) ∙ is.asked in
-      let counts = (counted b F given is begun).command in
-      absurd (cc)
+  other_call k begun adds looks = grind arith
 
   -- a first call is made by the pass as it was before
   first_is_made_at_once : tries ≡ 0 → is.middle ≡ q.before
@@ -53,9 +49,7 @@ module _ (b : BoardId) (F : Format) (given : List Part) (q : Posed) (pass : Pass
 
   -- a set of one pass is asked once
   alone_twice : b.sizes.passes ≡ 1 → tries ≡ 1 → ⊥
-  alone_twice one twice =
-      let earlier = subst (λ (n : ℕ). AreAskedAgain b F q.earlier is.c n q.before is.middle) twice is.earlier in
-      alone_once b 0 q.earlier earlier.2.answer one earlier.2.again
+  alone_twice one twice = grind (arith, alone_once)
 
 module _ (b : BoardId) (F : Format) (given : List Part) (a : Asked) (is : IsAsking b F given a) (rests : a.question ≡ None) where
   -- a pass that rests and whose reply told of a halt has seen it
@@ -80,9 +74,7 @@ unplayed : (y : Yard) (a : Asked) → a.stage ≡ None → IsStopped y a → ⊥
 unplayed y a none stops = subst (λ (o : Option Stage). IsSomeAnd o (λ stage. IsSomeAnd a.call (λ k. StandsBefore y stage k))) none stops
 
 replied : (y : Yard) (a : Asked) (k : Calling) → a.stage ≡ Some Answers → a.call ≡ Some k → IsStopped y a → ⊥
-replied y a k answers begun stops =
-    subst (λ (o : Option Calling). IsSomeAnd o (λ k. StandsBefore y Answers k)) begun
-    (subst (λ (o : Option Stage). IsSomeAnd o (λ stage. IsSomeAnd a.call (λ k. StandsBefore y stage k))) answers stops)
+replied y a k answers begun stops = grind arith
 
 -- a pass at the first client's place that answers this question, after so many calls that were made again
 abbrev answers : Posed → Pass → ℕ → Asked
@@ -213,9 +205,7 @@ module _ (b : BoardId) (F : Format) (earlier : Bool) (asked : Asked) (reply : Op
   many_more silent all = silent_at_last b (earlier && is.question.earlier) is.answer (subst (λ (n : ℕ). None ≡ told_of b n (earlier && is.question.earlier) is.answer) all (sym silent ∙ is.told))
 
   silent_lookup : reply ≡ None → is.c ≡ command.Has 7 → ⊥
-  silent_lookup silent looks =
-      let last = subst (λ (c : Command). IsCallAnswered b F c is.answer is.middle after) looks is.last in
-      never_full F (part is.middle) (part after) is.answer (told_full b asked.tries (earlier && is.question.earlier) is.answer (silent_again _ _ (sym silent ∙ is.told))) last.call
+  silent_lookup silent looks = grind (arith, never_full, told_full, silent_again)
 
   -- another answer's reply
   yes_as_full : reply ≡ Some Full → is.answer ≡ Ok true → ⊥
@@ -224,10 +214,7 @@ module _ (b : BoardId) (F : Format) (earlier : Bool) (asked : Asked) (reply : Op
 -- `full`, of three passes, while a slot waits, or while the first line awaits its reply
 module _ (b : BoardId) (F : Format) (p after : Pass) (three : b.sizes.passes ≡ 3) where
   full_at_once : (is : IsAnsweredWith b F false (answers (second p true) p 0) (Some Full) after) → is.answer ≡ one_waits → ⊥
-  full_at_once is waits =
-      let told = subst (λ (a : Result Bool Fault). Some Full ≡ told_of b 0 false a) waits is.told in
-      let silent = silent_while_one_waits b three in
-      absurd (cc)
+  full_at_once is waits = grind (arith, silent_while_one_waits)
 
   full_beside : (earlier : Bool) (so : IsTrue earlier ↔ StillAwaits (two p []) (answers (second p true) p 0)) (is : IsAnsweredWith b F earlier (answers (second p true) p 0) (Some Full) after) → is.answer ≡ members → ⊥
   full_beside earlier so is full =

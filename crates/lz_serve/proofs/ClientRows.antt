@@ -1,6 +1,6 @@
 -- Worked rows of clients and their questions, most of which must not hold.
 use Rattle.std.proofs.Common.{◌≡◌, ◌≢◌, ◌++◌, ℕ, false, All, List, [], ◌∷◌, Some, None, refl, ap, subst, arith, lit<, lit≤}
-use Rattle.std.proofs.lemmas.List.Elements.{All-cons, All-head, All-nil}
+use Rattle.std.proofs.lemmas.List.Elements.{All-head, All-nil}
 use Rattle.lz_list.specs.Traces.{Begins, Trace}
 use Rattle.lz_list.specs.declared.publishing.Publishing.{Publishing}
 use Rattle.lz_proto.specs.declared.request.Request.{Request}
@@ -45,15 +45,7 @@ abbrev pub asks_on : Pass → Request → Asker
 asks_on p request = record (asks p []) { waiting = request ∷ [] }
 
 pub has_line : (p : Pass) → HasLine (asks_on p (Has 6))
-has_line p = record {
-  there = refl;
-  goes = refl;
-  request = Has 6;
-  waits = refl;
-  numbered = λ all. absurd (omega (arith, all));
-  free = All-cons (λ (line : Line). line.reply ≡ None → key_asked line.request ≢ Some 6) (awaited (Add 5)) [] (λ none same. let five : ◌≡◌ {A = ℕ} 5 6 = cc in absurd (omega (arith, five)))
-      (All-nil (λ (line : Line). line.reply ≡ None → key_asked line.request ≢ Some 6));
-}
+has_line p = grind arith
 
 -- it is put behind the others once
 behind : queued 3 (4 ∷ []) ≡ 4 ∷ 3 ∷ []

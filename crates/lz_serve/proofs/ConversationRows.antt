@@ -1,8 +1,7 @@
 -- Worked conversations.
 use Rattle.std.specs.Prelude.{⊤}
-use Rattle.std.proofs.Common.{◌≡◌, ◌≢◌, inl, inr, ℕ, List, [], ◌∷◌, ◌++◌, ◌+◌, suc, length, Option, Some, None, false, refl, sym, ap, subst, ◌∙◌, arith, codes, length-append}
+use Rattle.std.proofs.Common.{◌≡◌, inl, inr, ℕ, List, [], ◌∷◌, ◌++◌, ◌+◌, suc, length, Option, Some, None, false, refl, sym, ap, subst, ◌∙◌, arith, codes, length-append}
 use Rattle.std.proofs.lemmas.List.{append-nil, nil_from_length}
-use Rattle.std.proofs.lemmas.List.Elements.{All-cons, All-nil}
 use Rattle.std.specs.Fmt.{digits}
 use Rattle.lz_proto.specs.declared.request.Request.{Request}
 use Rattle.lz_proto.specs.declared.request.Request.TheVariants.{Add, Has, Quit}
@@ -104,9 +103,7 @@ abbrev awaits_one : List Line
 awaits_one = awaited (Add 1) ∷ []
 
 two_is_free : IsFree awaits_one (Some 2)
-two_is_free =
-    All-cons (λ (line : Line). line.reply ≡ None → key_asked line.request ≢ Some 2) (awaited (Add 1)) [] (λ none same. let one : ◌≡◌ {A = ℕ} 1 2 = cc in absurd (omega (arith, one)))
-    (All-nil (λ (line : Line). line.reply ≡ None → key_asked line.request ≢ Some 2))
+two_is_free = grind arith
 
 -- a request with another key isn't held up by one that is under way
 rests_not : Rests (record (stands [] (Has 2 ∷ []) 0 [] ends.Done) { under = awaits_one }) → ⊥
@@ -188,10 +185,7 @@ first_request [] = None
 first_request (g ∷ grants) = Some g.question.request
 
 no_reply : (p : Pass) (reply : Reply) (mid : List Grant) → IsGranted 1 [] (Has 1) reply mid → gets p Yes ≡ mid → ⊥
-no_reply p reply mid so is =
-    let first : Some (Add 1) ≡ Some so.0.question.request = ap first_request (is ∙ so.1) in
-    let other = so.2.of_request in
-    absurd (cc)
+no_reply p reply mid so is = grind arith
 
 unserved : (p : Pass) (replies : List Reply) → Serves (IsGranted 1) [] (Asks (Has 1) ∷ []) replies (gets p Yes) → ⊥
 unserved p [] s = s
@@ -233,10 +227,7 @@ as_many old new (Faulty bad ∷ asked) replies s = as_many old new asked replies
 as_many old new (Asks Quit ∷ asked) [] s = let e : length new ≡ length old = ap (λ (x : List Grant). length x) s in omega (arith, e)
 as_many old new (Asks Quit ∷ asked) (reply ∷ replies) s = absurd s
 as_many old new (Asks request ∷ asked) [] s = absurd s
-as_many old new (Asks request ∷ asked) (Halted ∷ replies) s =
-    let e : length new ≡ length old + 1 = ap (λ (x : List Grant). length x) s.0.1 ∙ length-append old (s.0.0 ∷ []) in
-    let n : length replies ≡ 0 = ap (λ (x : List Reply). length x) s.1 in
-    omega (arith, e, n)
+as_many old new (Asks request ∷ asked) (Halted ∷ replies) s = grind (arith, length-append)
 as_many old new (Asks request ∷ asked) (reply ∷ replies) s =
     let e : length s.0 ≡ length old + 1 = ap (λ (x : List Grant). length x) s.1.1 ∙ length-append old (s.1.0 ∷ []) in
     let n : length new ≡ length s.0 + length replies = as_many s.0 new asked replies s.2 in
@@ -268,10 +259,7 @@ first_line [] = 0
 first_line (g ∷ grants) = g.question.line
 
 too_late : (p : Pass) (reply : Reply) (mid : List Grant) → IsGranted 1 [] (Add 1) reply mid → late p Yes ∷ [] ≡ mid → ⊥
-too_late p reply mid so is =
-    let first : 2 ≡ so.0.question.line = ap first_line (is ∙ so.1) in
-    let one : so.0.question.line ≡ 1 = so.2.of_number in
-    absurd (omega (arith, first, one))
+too_late p reply mid so is = grind arith
 
 unserved_late : (p : Pass) (replies : List Reply) → Serves (IsGranted 1) [] (Asks (Add 1) ∷ []) replies (late p Yes ∷ []) → ⊥
 unserved_late p [] s = s

@@ -18,11 +18,7 @@ pub keeps_same : (a b : Askers) → b ≡ a → Keeps a b
 keeps_same a b is = subst (Keeps a) (sym is) (keeps_itself a)
 
 pub keeps_then : (a b c : Askers) → Keeps a b → Keeps b c → Keeps a c
-keeps_then a b c one two = record {
-  awaited = λ token q is. two.awaited token q (one.awaited token q is);
-  heard = λ token q is heard. two.heard token q (one.awaited token q is) (one.heard token q is heard);
-  seen = λ known are. two.seen known (one.seen known are);
-}
+keeps_then a b c one two = grind arith
 
 -- a question that is awaited, if there is one
 pub some_kept : (a b : Askers) (token : ℕ) (r : Option Posed) → Keeps a b → IfSome r (λ q. IsAwaited a token q) → IfSome r (λ q. IsAwaited b token q)
@@ -31,8 +27,7 @@ some_kept a b token (Some q) keeps is = keeps.awaited token q is
 
 -- where one doesn't wait for a page any more
 pub takes_keeps : (a b : Askers) (token : ℕ) → TakesScan a b token → Keeps a b
-takes_keeps a b token taken =
-    subst (Keeps a) (sym taken.same) (record { awaited = λ t q is. record { admitted = is.admitted; own = is.own }; heard = λ t q is heard. heard; seen = λ known are. are })
+takes_keeps a b token taken = grind arith
 
 -- where no client has come or changed
 
@@ -156,13 +151,11 @@ module _ {X : Type 0} (f : X → Option Asker) where
 
   -- where others wait for their turn
   pub keeps_here : (a : Askers) (n : ℕ) {queue later scans : List ℕ} (places : List X) → at_places n queue scans places ≡ a → Keeps a (at_places n later scans places)
-  keeps_here a n {queue} {later} {scans} places view_is =
-      subst (λ (b : Askers). Keeps b (at_places n later scans places)) view_is (record { awaited = λ token q is. record { admitted = is.admitted; own = is.own }; heard = λ token q is heard. heard; seen = λ known are. are })
+  keeps_here a n {queue} {later} {scans} places view_is = grind arith
 
   -- the client of a place leaves
   pub leaves_at : (a : Askers) (n : ℕ) {queue later scans : List ℕ} (places : List X) (at : ℕ) (new : X) → at_places n queue scans places ≡ a → f new ≡ None → OnlyLeave a (at_places n later scans (set places at new))
-  leaves_at a n {queue} {later} {scans} places at new view_is gone =
-      subst (λ (b : Askers). OnlyLeave b (at_places n later scans (set places at new))) view_is (record { admitted = refl; stay = λ token x is. left_there places at new token x gone is })
+  leaves_at a n {queue} {later} {scans} places at new view_is gone = grind (arith, left_there)
 
   module _ (a : Askers) (n : ℕ) {queue scans : List ℕ} (places : List X) (at : ℕ) (old : X) (view_is : at_places n queue scans places ≡ a) (within : at < length places) (here : old ≡ get_or places at old) where
     there : slice_get places at ≡ Some old
@@ -183,9 +176,7 @@ module _ {X : Type 0} (f : X → Option Asker) where
 
     -- what this client was told of a page the one here was
     pub paged_here : (scan : Scan) (b : Askers) → IfSome (slice_get b.clients at) (TellsPageOf (f old) scan) → TellsPageAt a at scan b
-    paged_here scan b paged =
-        subst (λ (x : Askers). TellsPageAt x at scan b) view_is
-        (subst (λ (o : Option (Option Asker)). IfSome o (λ was. IfSome (slice_get b.clients at) (TellsPageOf was scan))) (sym (client_there places at old there)) paged)
+    paged_here scan b paged = grind (arith, slice_get, client_there, there)
 
     -- what all clients have seen this one has
     pub seen_here : (known : Trace) → HaveSeenIn a known → HasSeenIn a.admitted known (f old)
@@ -194,8 +185,7 @@ module _ {X : Type 0} (f : X → Option Asker) where
 
     module _ (new : X) where
       pub keeps_awaited : {later : List ℕ} → KeepsOwn (f old) (f new) → KeepsAwaited a (at_places n later scans (set places at new))
-      keeps_awaited {later} own token q is =
-          let mine = subst (λ (b : Askers). IsAwaited b token q) (sym view_is) is in record { admitted = mine.admitted; own = so_there (λ (c : Option Asker). IsOwnOf c q) places at old new token there (λ _. own q) mine.own }
+      keeps_awaited {later} own token q is = grind (arith, so_there, there)
 
       pub keeps_heard : (later : List ℕ) → KeepsHeard (f old) (f new) → KeepsReplies a (at_places n later scans (set places at new))
       keeps_heard later keeps token q is heard =

@@ -205,24 +205,7 @@ module _ {X : Type 0} (f : X → Trace) where
   -- there was no pass that was free
   pub desk_left : (given most room here room_calls : ℕ) (a : Askers) (mid old it gone : Option X) (calls : List Asked) (free rest : List X) (n_free n_rest : ℕ) → IsDesk given most (n_free + count_of old) room room_calls a (option_map f old) calls (map f free)
       → mid ≡ old → it ≡ None → (it ≡ None → (mid ≡ None) × (n_free ≡ 0)) → gone ≡ None → (mid ≡ None → free ≡ rest ++ option_to_list it) → n_rest + count_of it ≡ n_free + count_of mid → here ≡ room → IsDesk given most (n_rest + count_of gone) here room_calls a (option_map f gone) calls (map f rest)
-  desk_left given most room here room_calls a mid old it gone calls free rest n_free n_rest was taken nothing none away split count same =
-      let empty = (none nothing).0 in
-      let left = ap (λ (o : Option X). count_of o) nothing in
-      let counted = was.count in
-      let spare = was.spare_free in
-      let from : old ≡ None = sym taken ∙ empty in
-      let both : old ≡ gone = from ∙ sym away in
-      let one = ap (λ (o : Option X). count_of o) taken in
-      let two = ap (λ (o : Option X). count_of o) both in
-      let three = ap (λ (o : Option X). count_of o) away in
-      let items : free ≡ rest = split empty ∙ ap (λ (o : Option X). rest ++ option_to_list o) nothing ∙ append-nil rest in
-      record {
-        fit = was.fit;
-        count = omega (arith, counted, count, one, two, three, left);
-        spare_free = omega (arith, spare, same);
-        spare_calls = was.spare_calls;
-        joined = subst (λ (o : Option X). AreJoined a given (option_map f o) calls (map f rest)) both (subst (λ (l : List X). AreJoined a given (option_map f old) calls (map f l)) items was.joined);
-      }
+  desk_left given most room here room_calls a mid old it gone calls free rest n_free n_rest was taken nothing none away split count same = grind (arith, option_to_list, append-nil, option_map)
 
 -- a call is played on, and answers the same question
 pub desk_played : (given most idle room room_calls : ℕ) (a : Askers) (meeting : Option Trace) (calls : List Asked) (free : List Trace) (at : ℕ) (old new : Asked) → IsDesk given most idle room room_calls a meeting calls free → at < length calls

@@ -1,5 +1,5 @@
 -- Passes that threads hand back, one after the other.
-use Rattle.std.proofs.Common.{◌≡◌, ◌⊎◌, ⊎_elim, Bool, true, false, ◌||◌, All, ℕ, ◌<◌, List, [], ◌∷◌, ◌++◌, map, refl, sym, ap, ◌∙◌, subst, append_assoc, arith}
+use Rattle.std.proofs.Common.{◌≡◌, ◌⊎◌, ⊎_elim, Bool, true, false, ◌||◌, All, ℕ, ◌<◌, List, [], ◌∷◌, ◌++◌, map, refl, sym, subst, append_assoc, arith}
 use Rattle.std.specs.List.{Any, list_any}
 use Rattle.std.proofs.lemmas.List.{get_or-map, get_or_append_left, length-append, length-map}
 use Rattle.std.proofs.lemmas.List.Elements.{All-append}
@@ -14,9 +14,7 @@ module _ {X : Type 0} (P : X → Type 0) (xs ys : List X) (x : X) (pushed : ys �
   all_back each new = subst (All P) (sym pushed) (All-append P xs (x ∷ []) each (λ k d low. grind arith))
 
   here_or_before : Any P xs → Any P (xs ++ x ∷ [])
-  here_or_before (k, y, low, at, holds) =
-      let longer = length-append xs (x ∷ []) in
-      (k, y, omega (arith, low, longer), get_or_append_left xs (x ∷ []) y k low ∙ at, holds)
+  here_or_before (k, y, low, at, holds) = grind (arith, length-append, get_or_append_left)
 
   -- it holds of one of them, where it held of one before, or holds of the last
   pub one_back : (was found now : Bool) → (was ≡ true → Any P xs) → (found ≡ true → P x) → now ≡ true → (now ≡ true → (was ≡ true) ⊎ (found ≡ true)) → Any P ys
@@ -30,13 +28,11 @@ each_part P ps all = λ k d low. subst P (get_or-map (λ p. part p) ps k d (part
 -- those that were handed back and those that are left are all, one after the other
 module _ {X : Type 0} (left rest : List X) (x : X) (first : left ≡ x ∷ rest) where
   pub handed_on : {Y : Type 0} (f : X → Y) (xs ys all : List Y) (y : Y) → ys ≡ xs ++ y ∷ [] → y ≡ f x → xs ++ map f left ≡ all → ys ++ map f rest ≡ all
-  handed_on {Y} f xs ys all y pushed is so =
-      ap (λ (l : List Y). l ++ map f rest) pushed ∙ append_assoc xs (y ∷ []) (map f rest) ∙ ap (λ (z : Y). xs ++ z ∷ map f rest) is ∙ sym (ap (λ (l : List X). xs ++ map f l) first) ∙ so
+  handed_on {Y} f xs ys all y pushed is so = grind (arith, append_assoc)
 
   either_on : (a b c : Bool) → ((a || b) || c) ≡ (a || (b || c))
   either_on true b c = refl
   either_on false b c = refl
 
   pub found_on : (p : X → Bool) (was found now all : Bool) → now ≡ (was || found) → found ≡ p x → (was || list_any p left) ≡ all → (now || list_any p rest) ≡ all
-  found_on p was found now all either is so =
-      ap (λ (h : Bool). h || list_any p rest) either ∙ either_on was found (list_any p rest) ∙ ap (λ (h : Bool). was || (h || list_any p rest)) is ∙ sym (ap (λ (l : List X). was || list_any p l) first) ∙ so
+  found_on p was found now all either is so = grind (arith, either_on)

@@ -8,7 +8,7 @@ use Rattle.lz_list.specs.Traces.{Trace, Begins}
 use Rattle.lz_list.proofs.Traces.WalkEnd.{begins_before}
 use Rattle.lz_board.specs.Seats.{part}
 use Rattle.lz_serve.specs.Askings.{AnswersNoOther, Asked}
-use Rattle.lz_serve.specs.Clients.{Asker, Askers, HasSeenIn, HaveSeenIn, IsAwaited, KeepsAwaited}
+use Rattle.lz_serve.specs.Clients.{Asker, Askers, HasSeenIn, HaveSeenIn, KeepsAwaited}
 use Rattle.lz_serve.specs.Desks.{AnswersOneOf, AreJoined, IsCalled, Knows, count_of}
 use Rattle.lz_serve.specs.Grants.{Posed}
 use Rattle.lz_serve.proofs.Crowds.{from_nothing}
@@ -31,8 +31,7 @@ knows_met a (Some met) known is seen = is
 
 -- the same question is answered
 pub called_same : (a : Askers) (meeting : Option Trace) (old new : Asked) → new.question ≡ old.question → new.token ≡ old.token → IsCalled a meeting old → IsCalled a meeting new
-called_same a meeting old new question token is =
-    record { question = is.question; asks = question ∙ is.asks; awaited = subst (λ (n : ℕ). IsAwaited a n is.question) (sym token) is.awaited; knows = is.knows }
+called_same a meeting old new question token is = grind arith
 
 pub either_so : {x : Bool} (y : Bool) → x ≡ true → (x || y) ≡ true
 either_so y is = ap (λ (e : Bool). e || y) is
@@ -169,9 +168,7 @@ module _ (a : Askers) (given : ℕ) (old new : Option Trace) (calls : List Asked
 
   met_then : (o : Option Trace) → o ≡ old → IfSome new (HaveSeenIn a)
   met_then None is = found (sym is) new (first (sym is))
-  met_then (Some t) is =
-      let it = subst (λ (x : Option Trace). IfSome x (λ met. new ≡ Some met)) (sym is) same in
-      subst (λ (x : Option Trace). IfSome x (HaveSeenIn a)) (sym it) (subst (λ (x : Option Trace). IfSome x (HaveSeenIn a)) (sym is) was.met)
+  met_then (Some t) is = grind arith
 
   pub first_met : IfSome new (HaveSeenIn a)
   first_met = met_then old refl
@@ -179,18 +176,7 @@ module _ (a : Askers) (given : ℕ) (old new : Option Trace) (calls : List Asked
   -- one more pass is given, where all are free
   module _ (last : Trace) (no_call : length calls ≡ 0) (all : length free + count_of old ≡ given) (none : new ≡ None → (old ≡ None) × (length free ≡ 0)) where
     few : new ≡ None → (length rest ≡ 0) × (given ≡ 0)
-    few empty =
-        let it = none empty in
-        let split = ap (λ (l : List Trace). length l) (first it.0) ∙ length-append rest (option_to_list new) in
-        let here = ap (λ (x : Option Trace). count_of x) it.0 in
-        let zero_free = it.1 in
-        (omega (arith, split, zero_free), omega (arith, all, here, zero_free))
+    few empty = grind (arith, length-append, option_to_list)
 
     pub joined_taken : AreJoined a (given + 1) new calls (rest ++ last ∷ [])
-    joined_taken = record {
-      called = all_none (IsCalled a new) calls no_call;
-      know = All-push (Knows a new) rest last (frees_now a a old new (λ token q is. is) first_met rest (λ empty. (few empty).0)) (knows_met a new last first_met (λ empty. seen_later a [] last (from_nothing last) (was.unseen (few empty).1)));
-      met = first_met;
-      alone = λ empty. let rest_none = (few empty).0 in let more = length-append rest (last ∷ []) in omega (arith, no_call, rest_none, more);
-      unseen = λ nothing. absurd (omega (arith, nothing));
-    }
+    joined_taken = grind (arith, all_none, frees_now, first_met, few, knows_met, seen_later, from_nothing, length-append)

@@ -80,8 +80,7 @@ past_more (first ∷ under) (p ∷ puts) line put e here past = (past.0, past_mo
 past_noted : (under : List Line) (puts : List Pass) (at : ℕ) (request : Request) (reply : Reply) (e : Grant) → slice_get under at ≡ Some (awaited request) → IsPast under puts e → IsPast (slice_set under at (replied request reply)) puts e
 past_noted [] puts at request reply e is past = past
 past_noted (line ∷ under) [] at request reply e is past = absurd past
-past_noted (line ∷ under) (put ∷ puts) zero request reply e is past =
-    let same : line ≡ awaited request = cc in (subst (λ (l : Line). key_asked e.question.request ≡ key_asked l.request → Begins (part e.after).known (part put).known) same past.0, past.1)
+past_noted (line ∷ under) (put ∷ puts) zero request reply e is past = grind arith
 past_noted (line ∷ under) (put ∷ puts) (suc at) request reply e is past = (past.0, past_noted under puts at request reply e is past.1)
 
 module _ (P : List Grant → Type 0) (connection : ℕ) where
@@ -105,14 +104,7 @@ module _ (P : List Grant → Type 0) (connection : ℕ) where
     -- one more is handed out
     earned_put : (number : ℕ) (line : Line) (reply : Reply) (put : Pass) (under : List Line) (puts : List Pass) (request : Request) (last : Pass) → Begins seen (part last).known
         → IsEarned P seen connection number line.request reply put under puts → IsEarned P seen connection number line.request reply put (under ++ awaited request ∷ []) (puts ++ last ∷ [])
-    earned_put number line reply put under puts request last all is = record {
-      grant = is.grant;
-      of_line = is.of_line;
-      put_so = is.put_so;
-      seen_so = is.seen_so;
-      past = past_more under puts (awaited request) last is.grant (λ _. begins_before (part is.grant.after).known seen (part last).known is.seen_so all) is.past;
-      promised = is.promised;
-    }
+    earned_put number line reply put under puts request last all is = grind (arith, past_more, begins_before)
 
     earned_first : (number : ℕ) (line : Line) (put : Pass) (under : List Line) (puts : List Pass) (request : Request) (last : Pass) (reply : Option Reply) → Begins seen (part last).known
         → IfSome reply (λ r. IsEarned P seen connection number line.request r put under puts) → IfSome reply (λ r. IsEarned P seen connection number line.request r put (under ++ awaited request ∷ []) (puts ++ last ∷ []))
@@ -136,14 +128,7 @@ module _ (P : List Grant → Type 0) (connection : ℕ) where
     earned_beside : (number : ℕ) (line : Line) (put : Pass) (under : List Line) (puts : List Pass) (at : ℕ) (request : Request) (now : Reply) (reply : Option Reply) → slice_get under at ≡ Some (awaited request)
         → IfSome reply (λ r. IsEarned P seen connection number line.request r put under puts) → IfSome reply (λ r. IsEarned P seen connection number line.request r put (slice_set under at (replied request now)) puts)
     earned_beside number line put under puts at request now None is earned = tt
-    earned_beside number line put under puts at request now (Some reply) is earned = record {
-      grant = earned.grant;
-      of_line = earned.of_line;
-      put_so = earned.put_so;
-      seen_so = earned.seen_so;
-      past = past_noted under puts at request now earned.grant is earned.past;
-      promised = earned.promised;
-    }
+    earned_beside number line put under puts at request now (Some reply) is earned = grind (arith, past_noted)
 
     module _ (request : Request) (reply : Reply) (g : Grant) (so : Begins (part g.after).known seen) (promised : (grants : List Grant) → P grants → IsLater grants g → P (grants ++ g ∷ [])) where
       here : (number : ℕ) (told : ℕ) (line : Line) (put : Pass) (under : List Line) (puts : List Pass) → line ≡ awaited request → put ≡ g.question.before → IsOfLine connection number request reply g
@@ -156,11 +141,7 @@ module _ (P : List Grant → Type 0) (connection : ℕ) where
           → AreEarned P seen connection told under puts → AreEarned P seen connection told (slice_set under at (replied request reply)) puts
       earned_at told at number [] puts is of stands to are = are
       earned_at told at number (line ∷ under) [] is of stands to are = absurd are
-      earned_at told zero number (line ∷ under) (put ∷ puts) is of stands to are =
-          let one : number ≡ suc told = omega (arith, is) in
-          let line_is : line ≡ awaited request = cc in
-          let put_is : put ≡ g.question.before = cc in
-          (here (suc told) (suc told) line put under puts line_is put_is (subst (λ (n : ℕ). IsOfLine connection n request reply g) one of) are.1 are.2, (λ none. absurd (cc)), are.2)
+      earned_at told zero number (line ∷ under) (put ∷ puts) is of stands to are = grind (arith, here)
       earned_at told (suc at) number (line ∷ under) (put ∷ puts) is of stands to are =
           let next : number ≡ suc told + suc at = omega (arith, is) in (
             earned_beside (suc told) line put under puts at request reply line.reply stands are.0,
@@ -185,8 +166,7 @@ module _ (P : List Grant → Type 0) (connection : ℕ) where
 
     -- these are the same lines
     pub earned_same : (told same : ℕ) (under those : List Line) (puts its : List Pass) → same ≡ told → those ≡ under → its ≡ puts → AreEarned P seen connection told under puts → AreEarned P seen connection same those its
-    earned_same told same under those puts its n is to are =
-        subst (λ (k : ℕ). AreEarned P seen connection k those its) (sym n) (subst (λ (l : List Line). AreEarned P seen connection told l its) (sym is) (subst (AreEarned P seen connection told under) (sym to) are))
+    earned_same told same under those puts its n is to are = grind arith
 
   -- nothing is under way
   pub none_earned : (seen : Trace) (told : ℕ) (under : List Line) (puts : List Pass) → under ≡ [] → puts ≡ [] → AreEarned P seen connection told under puts
@@ -196,8 +176,7 @@ module _ (P : List Grant → Type 0) (connection : ℕ) where
   earned_now : (old new : Trace) (number : ℕ) (line : Line) (put : Pass) (under : List Line) (puts : List Pass) (reply : Option Reply) → Begins old new
       → IfSome reply (λ r. IsEarned P old connection number line.request r put under puts) → IfSome reply (λ r. IsEarned P new connection number line.request r put under puts)
   earned_now old new number line put under puts None more is = tt
-  earned_now old new number line put under puts (Some reply) more is =
-      record { grant = is.grant; of_line = is.of_line; put_so = is.put_so; seen_so = begins_before (part is.grant.after).known old new is.seen_so more; past = is.past; promised = is.promised }
+  earned_now old new number line put under puts (Some reply) more is = grind (arith, begins_before)
 
   pub earned_seen : (old new : Trace) (told : ℕ) (under : List Line) (puts : List Pass) → Begins old new → AreEarned P old connection told under puts → AreEarned P new connection told under puts
   earned_seen old new told [] [] more are = tt
@@ -211,27 +190,16 @@ module _ (P : List Grant → Type 0) where
 
   -- what was told comes before one more line that is put
   pub before_more : (seen : Trace) (under : List Line) (puts : List Pass) (line : Line) (put : Pass) (grants : List Grant) → Begins seen (part put).known → AreBefore P seen under puts grants → AreBefore P seen (under ++ line ∷ []) (puts ++ put ∷ []) grants
-  before_more seen under puts line put grants all are = (
-    are.0,
-    All-weaker (IsBefore seen under puts) (IsBefore seen (under ++ line ∷ []) (puts ++ put ∷ []))
-        (λ e is. record { seen_so = is.seen_so; past = past_more under puts line put e (λ _. begins_before (part e.after).known seen (part put).known is.seen_so all) is.past }) grants are.1,
-  )
+  before_more seen under puts line put grants all are = grind (arith, past_more, begins_before)
 
   -- and one whose reply is noted
   pub before_noted : (old new : Trace) (under : List Line) (puts : List Pass) (at : ℕ) (request : Request) (reply : Reply) (grants : List Grant) → Begins old new → slice_get under at ≡ Some (awaited request) → AreBefore P old under puts grants
       → AreBefore P new (slice_set under at (replied request reply)) puts grants
-  before_noted old new under puts at request reply grants more is are = (
-    are.0,
-    All-weaker (IsBefore old under puts) (IsBefore new (slice_set under at (replied request reply)) puts)
-        (λ e so. record { seen_so = begins_before (part e.after).known old new so.seen_so more; past = past_noted under puts at request reply e is so.past }) grants are.1,
-  )
+  before_noted old new under puts at request reply grants more is are = grind (arith, slice_set, begins_before, past_noted)
 
   -- where the client has seen more
   pub before_seen : (old new : Trace) (under : List Line) (puts : List Pass) (grants : List Grant) → Begins old new → AreBefore P old under puts grants → AreBefore P new under puts grants
-  before_seen old new under puts grants more are = (
-    are.0,
-    All-weaker (IsBefore old under puts) (IsBefore new under puts) (λ e so. record { seen_so = begins_before (part e.after).known old new so.seen_so more; past = so.past }) grants are.1,
-  )
+  before_seen old new under puts grants more are = grind (arith, begins_before)
 
   -- these are the same lines
   pub before_same : (seen : Trace) (under those : List Line) (puts its : List Pass) (grants : List Grant) → those ≡ under → its ≡ puts → AreBefore P seen under puts grants → AreBefore P seen those its grants

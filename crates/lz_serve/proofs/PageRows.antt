@@ -1,8 +1,7 @@
 -- Worked exchanges that ask for a page.
 use Rattle.std.proofs.Common.{◌≡◌, ℕ, zero, suc, true, false, List, [], ◌∷◌, All, Ok, Err, Some, None, refl, sym, ap, ◌∙◌, subst, arith, codes, lit<}
-use Rattle.std.proofs.lemmas.List.Elements.{All-head}
 use Rattle.std.specs.Fmt.{digits}
-use Rattle.lz_list.specs.Traces.{Begins, Trace}
+use Rattle.lz_list.specs.Traces.{Begins}
 use Rattle.lz_list.specs.declared.publishing.Publishing.{Publishing}
 use Rattle.lz_proto.specs.declared.end.End.TheVariants.{Done, Quit}
 use Rattle.lz_resp.specs.declared.scan.Scan.{Scan}
@@ -96,8 +95,7 @@ nothing_begun e begins = absurd (cc)
 
 -- a page of a pass that had seen nothing, where a reply was told before whose pass had
 too_old : (g : Grant) (l : Listing) (change : Publishing) → (part g.after).known ≡ change ∷ [] → (part l.before).known ≡ [] → IsPageFor any first (g ∷ []) l → ⊥
-too_old g l change had none for =
-    nothing_begun change (subst (λ (t : Trace). Begins t []) had (subst (Begins (part g.after).known) none (All-head (λ (e : Grant). Begins (part e.after).known (part l.before).known) g [] for.late)))
+too_old g l change had none for = grind (arith, nothing_begun)
 
 -- a page that was listed for another room
 another_room : (l : Listing) → l.scan ≡ record { room = 2; from = 0; most = 10 } → IsPageFor any first [] l → ⊥
@@ -149,11 +147,7 @@ which token is = cc
 told_to_nobody : (p q : Pass) → MayTellPage (waits (turn.Lists first ∷ [])) (at_second (turn.Lists first ∷ [])) p q → ⊥
 told_to_nobody p q (nobody none same kept) = absurd (cc)
 told_to_nobody p q (left token taken none kept) = awaits_and_not (subst (AwaitsNoneAt (waits (turn.Lists first ∷ []))) (which token taken.stood) none)
-told_to_nobody p q (listed token scan stood paged) =
-    let awaited = subst (λ (t : ℕ). AwaitsPageAt (waits (turn.Lists first ∷ [])) t scan) (which token stood) paged.awaited in
-    let told = subst (λ (t : ℕ). TellsPageAt (waits (turn.Lists first ∷ [])) t scan (at_second (turn.Lists first ∷ []))) (which token stood) paged.told in
-    let fewer = told awaited refl in
-    absurd (omega (arith, fewer))
+told_to_nobody p q (listed token scan stood paged) = grind (arith, which)
 
 -- it was told to the first, where the second waited
 abbrev both : List Turn → List Turn → List ℕ → Askers
@@ -161,25 +155,14 @@ both one two scans = record { admitted = 2; clients = Some (lister one) ∷ Some
 
 told_to_another : (p q : Pass) → MayTellPage (both (turn.Lists first ∷ []) (turn.Lists first ∷ []) (1 ∷ [])) (both [] (turn.Lists first ∷ []) []) p q → ⊥
 told_to_another p q (nobody none same kept) = absurd (cc)
-told_to_another p q (left token taken none kept) =
-    let same = ap (λ (a : Askers). a.clients) taken.same in
-    let one : lister [] ≡ lister (turn.Lists first ∷ []) = cc in
-    let turns = ap (λ (a : Asker). a.turns) one in
-    absurd (cc)
-told_to_another p q (listed token scan stood paged) =
-    let others = subst (λ (t : ℕ). ChangesAt t (both (turn.Lists first ∷ []) (turn.Lists first ∷ []) (1 ∷ [])) (both [] (turn.Lists first ∷ []) [])) (which token stood) paged.others in
-    let same = others 0 (λ is. absurd (omega (arith, is))) in
-    let one : lister [] ≡ lister (turn.Lists first ∷ []) = cc in
-    let turns = ap (λ (a : Asker). a.turns) one in
-    absurd (cc)
+told_to_another p q (left token taken none kept) = grind arith
+told_to_another p q (listed token scan stood paged) = grind (arith, which)
 
 -- who awaited none has left
 left_for_nothing : (p q : Pass) → MayTellPage (waits []) (record (at_second []) { clients = None ∷ None ∷ [] }) p q → ⊥
 left_for_nothing p q (nobody none same kept) = absurd (cc)
 left_for_nothing p q (left token taken none kept) = let same = ap (λ (a : Askers). a.clients) taken.same in absurd (cc)
-left_for_nothing p q (listed token scan stood paged) =
-    let awaited = subst (λ (t : ℕ). AwaitsPageAt (waits []) t scan) (which token stood) paged.awaited in
-    awaits_none scan awaited
+left_for_nothing p q (listed token scan stood paged) = grind (arith, which, awaits_none)
 
 -- where none waits the pass has seen more
 listed_for_none : (p q : Pass) → (q ≡ p → ⊥) → MayTellPage (at_second []) (at_second []) p q → ⊥

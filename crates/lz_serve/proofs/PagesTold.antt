@@ -6,7 +6,6 @@ use Rattle.lz_list.specs.Traces.{Trace}
 use Rattle.lz_proto.specs.declared.end.End.TheVariants.{Done}
 use Rattle.lz_board.specs.declared.pass.Pass.{Pass}
 use Rattle.lz_resp.specs.declared.scan.Scan.{Scan}
-use Rattle.lz_serve.specs.declared.turn.Turn.{Turn}
 use Rattle.lz_serve.specs.declared.turn.Turn.TheVariants as turn
 use Rattle.lz_serve.specs.Clients.{Asker, Askers, AwaitsNoPage, AwaitsPage, AwaitsPageAt, ChangesAt, MayTellPage, OnlyLeave, TakesScan, TellsPage, TellsPageAt, TellsPageOf, listed}
 use Rattle.lz_serve.specs.Conversations.{Paged, Talk}
@@ -16,10 +15,7 @@ use Rattle.lz_serve.proofs.Crowds.{client_there, leave_so}
 -- a page that was listed for the first exchange is told, and fewer wait
 pub page_told : (told : Bool) (l : Listing) (old new : Talk) → (told ≡ true → (old.turns ≡ turn.Lists l.scan ∷ drop 1 old.turns) × (old.ended ≡ Done) × Paged l old new)
     → (told ≡ false → old.ended ≡ Done → old.turns ≡ turn.Lists l.scan ∷ drop 1 old.turns → ⊥) → old.ended ≡ Done → old.turns ≡ turn.Lists l.scan ∷ drop 1 old.turns → length new.turns < length old.turns
-page_told true l old new some rests goes first =
-    let one_less = ap (λ (turns : List Turn). length turns) first in
-    let left = ap (λ (t : Talk). length t.turns) (some refl).2 in
-    omega (arith, one_less, left)
+page_told true l old new some rests goes first = grind arith
 page_told false l old new some rests goes first = absurd (rests refl goes first)
 
 still_there : (was is : Bool) → (was ≡ true → is ≡ was) → is ≡ false → was ≡ false
@@ -28,11 +24,7 @@ still_there true is stays there = absurd (true≢false (sym (stays refl) ∙ the
 
 -- what is seen and told after that brings no exchange back, and no client that was lost
 pub told_on : (old paged noted new : Asker) (scan : Scan) (seen : Trace) → TellsPage old scan paged → noted ≡ record paged { seen = seen } → (noted.lost ≡ true → new ≡ noted) → length new.turns ≤ length noted.turns → TellsPage old scan new
-told_on old paged noted new scan seen tells is lost fewer awaits there =
-    let noted_there = still_there noted.lost new.lost (λ gone. ap (λ (a : Asker). a.lost) (lost gone)) there in
-    let less = tells awaits (sym (ap (λ (a : Asker). a.lost) is) ∙ noted_there) in
-    let same = ap (λ (a : Asker). length a.turns) is in
-    omega (arith, less, same, fewer)
+told_on old paged noted new scan seen tells is lost fewer awaits there = grind (arith, still_there)
 
 none_was : (scan : Scan) (o : Option (Option Asker)) → IfSome o (TellsPageOf None scan)
 none_was scan None = tt
@@ -84,9 +76,7 @@ nobody_there f (x ∷ places) zero is = absurd (cc)
 nobody_there f (x ∷ places) (suc at) is = nobody_there f places at is
 
 pub nobody_here : {X : Type 0} (P : Asker → Type 0) (f : X → Option Asker) (clients : List (Option Asker)) (places xs : List X) (at : ℕ) → xs ≡ places → map f places ≡ clients → length xs ≤ at → IfSome (slice_get clients at) (λ client. IfSome client P)
-nobody_here {X} P f clients places xs at same are past =
-    subst (λ (o : Option (Option Asker)). IfSome o (λ client. IfSome client P))
-    (sym (ap (λ (l : List (Option Asker)). slice_get l at) (sym (ap (λ (l : List X). map f l) same ∙ are)) ∙ nobody_there f xs at (slice_get_past xs at past))) tt
+nobody_here {X} P f clients places xs at same are past = grind (arith, slice_get, nobody_there, slice_get_past)
 
 -- who awaits what is the same where the clients are
 pub awaits_same : (old new : List (Option Asker)) (token : ℕ) (r : Option Scan) → new ≡ old → IfSome r (λ scan. IsSomeAnd (slice_get new token) (λ client. IsSomeAnd client (λ a. AwaitsPage a scan))) → IfSome r (λ scan. IsSomeAnd (slice_get old token) (λ client. IsSomeAnd client (λ a. AwaitsPage a scan)))

@@ -121,9 +121,7 @@ pub record AskedUpTo (b : BoardId) (F : Format) (beside : Bool) (c : Command) (t
 
 module _ {b : BoardId} {F : Format} {beside : Bool} {c : Command} {tries : ℕ} {old : Pass} {answer : Result Bool Fault} {new : Pass} (upto : AskedUpTo b F beside c tries old answer new) where
   pub one_more : (earlier : Bool) → (earlier ≡ true → beside ≡ true) → asks_again b tries earlier answer ≡ true → AreAskedAgain b F beside c (tries + 1) old new
-  one_more earlier so again =
-      let next : suc tries ≡ tries + 1 = omega arith in
-      subst (λ (n : ℕ). AreAskedAgain b F beside c n old new) next (upto.middle, upto.before, record { answer = answer; answered = upto.last; again = still_asked b tries earlier beside answer so again })
+  one_more earlier so again = grind (arith, still_asked)
 
   -- one more is made
   pub asked_more : (earlier : Bool) {next : Result Bool Fault} {newest : Pass} → (earlier ≡ true → beside ≡ true) → asks_again b tries earlier answer ≡ true → IsCallAnswered b F c next new newest

@@ -1,5 +1,5 @@
 -- Where a conversation stands after each step.
-use Rattle.std.proofs.Common.{◌≡◌, ◌-◌, ℕ, zero, suc, List, [], ◌∷◌, ◌++◌, ◌+◌, ◌≤◌, take, drop, length, map, slice_set, Some, None, refl, sym, ap, subst, ◌∙◌, append_assoc, length-append, arith}
+use Rattle.std.proofs.Common.{◌≡◌, ℕ, zero, suc, List, [], ◌∷◌, ◌++◌, ◌+◌, ◌≤◌, take, drop, length, map, slice_set, Some, None, refl, sym, ap, subst, ◌∙◌, append_assoc, length-append, arith}
 use Rattle.std.proofs.lemmas.List.{append-nil, take-append-drop}
 use Rattle.lz_proto.specs.declared.request.Request.{Request}
 use Rattle.lz_proto.specs.declared.reply.Reply.{Reply}
@@ -23,7 +23,7 @@ use Rattle.lz_serve.specs.declared.turn.Wording.{Wording}
 use Rattle.lz_serve.specs.Exchanges.{CameFrom, EndsWith, Exchange, ReadsMore, asks, end_by, ends, lists, of_frame, of_line, requests_in, says, tells, turn_of, worded}
 use Rattle.lz_serve.specs.Grants.{Grant}
 use Rattle.lz_serve.specs.Listings.{Listing, listing_end, listing_text}
-use Rattle.lz_serve.specs.Lines.{asked_by, awaited, replied, replies_of}
+use Rattle.lz_serve.specs.Lines.{asked_by, awaited, replies_of}
 use Rattle.lz_serve.specs.Conversations.{AreFor, AreTold, Fed, Finished, IsAt, IsPageFor, IsTold, Noted, Paged, Talk, Told, more, nothing_yet, query_end, replies_in, nothing as none_told}
 use Rattle.lz_serve.proofs.ExchangesMore.{map_more, requests_more}
 use Rattle.lz_serve.proofs.LineReplies.{asked_more, asked_noted}
@@ -127,26 +127,14 @@ module _ (L : Listing → Type 0) (connection : ℕ) (grants : List Grant) (text
 
   -- the next request is handed out
   pub handed_out : (request : Request) (new : Talk) → t.waiting ≡ request ∷ drop 1 t.waiting → new ≡ record t { waiting = drop 1 t.waiting; under = t.under ++ awaited request ∷ [] } → IsAt L connection grants text sent new
-  handed_out request new next is =
-      let same : asked_by t.under ++ t.waiting ≡ asked_by (t.under ++ awaited request ∷ []) ++ drop 1 t.waiting =
-      ap (λ (x : List Request). asked_by t.under ++ x) next ∙ sym (append_assoc (asked_by t.under) (request ∷ []) (drop 1 t.waiting)) ∙ ap (λ (x : List Request). x ++ drop 1 t.waiting) (sym (asked_more t.under (awaited request ∷ []))) in
-      subst (IsAt L connection grants text sent) (sym is)
-      (record { done = at.done; left = at.left; came = at.came; turns = at.turns; asked = at.asked ∙ same; told = at.told; counted = at.counted })
+  handed_out request new next is = grind (arith, append_assoc, asked_more)
 
   -- a reply is noted
   pub noted : (number : ℕ) (request : Request) (reply : Reply) (new : Talk) → Noted number request reply t new → IsAt L connection grants text sent new
-  noted number request reply new is =
-      let same : asked_by t.under ++ t.waiting ≡ asked_by (slice_set t.under (number - suc t.told) (replied request reply)) ++ t.waiting =
-      ap (λ (x : List Request). x ++ t.waiting) (sym (asked_noted t.under (number - suc t.told) request reply is.0.1)) in
-      subst (IsAt L connection grants text sent) (sym is.1)
-      (record { done = at.done; left = at.left; came = at.came; turns = at.turns; asked = at.asked ∙ same; told = at.told; counted = at.counted })
+  noted number request reply new is = grind (arith, slice_set, asked_noted)
 
   pub sent_more : (count : ℕ) (new : Talk) → new ≡ record t { unsent = drop count t.unsent } → IsAt L connection grants text (sent ++ take count t.unsent) new
-  sent_more count new is =
-      let same : sent ++ t.unsent ≡ (sent ++ take count t.unsent) ++ drop count t.unsent =
-      ap (λ (x : List ℕ). sent ++ x) (sym (take-append-drop count t.unsent)) ∙ sym (append_assoc sent (take count t.unsent) (drop count t.unsent)) in
-      subst (IsAt L connection grants text (sent ++ take count t.unsent)) (sym is)
-      (record { done = at.done; left = at.left; came = at.came; turns = at.turns; asked = at.asked; told = subst (λ (w : List ℕ). AreTold L connection at.done grants w t.ended) same at.told; counted = at.counted })
+  sent_more count new is = grind (arith, take-append-drop, append_assoc)
 
   -- an exchange more is told
   module _ (goes : t.ended ≡ Done) (e : Exchange) (left : List Exchange) (first : at.left ≡ e ∷ left) where

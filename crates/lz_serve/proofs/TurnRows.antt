@@ -1,5 +1,5 @@
 -- Worked rows of turns, and of what a client has told and keeps, most of which must not hold.
-use Rattle.std.proofs.Common.{◌≡◌, ◌≢◌, ◌∷◌, ℕ, zero, suc, false, List, [], inl, inr, Some, None, refl, sym, ap, subst, arith, lit≤}
+use Rattle.std.proofs.Common.{◌≡◌, ◌≢◌, ◌∷◌, ℕ, zero, suc, false, List, [], inl, inr, Some, None, refl, sym, subst, arith, lit≤}
 use Rattle.lz_proto.specs.declared.request.Request.TheVariants.{Add, Has}
 use Rattle.lz_proto.specs.declared.reply.Reply.TheVariants.{Yes}
 use Rattle.lz_resp.specs.declared.query.Query.{Query}
@@ -169,9 +169,4 @@ one_more p keeps = let is : ◌≡◌ {A = ℕ} 2 1 = cc in absurd (omega (arith
 -- a call goes on that stands where it stood
 stands_still : (b : BoardId) (F : Format) (was now : Askers) (a : Asked) (q : Posed) → a.question ≡ Some q → GoesAnew b F was now a a → ⊥
 stands_still b F was now a q is (inl again) = let more = again.more in absurd (omega (arith, more))
-stands_still b F was now a q is (inr both) =
-    let (question, next, later) = both.2 in
-    let same : q ≡ question = cc in
-    let low = later q is refl (ap (λ (x : Posed). x.connection) same) in
-    let line = ap (λ (x : Posed). x.line) same in
-    absurd (omega (arith, low, line))
+stands_still b F was now a q is (inr both) = grind arith

@@ -128,13 +128,7 @@ module _ (start : Start) (a : ℕ) (service : Service) (disk : Medium) (M : Hist
 
     -- what its list leads to is served, where no call was cut off
     fits_open : (N : ℕ) (life : Life) (t : List ℕ) (trace : Trace) → AloneUp a (suc calls) service life.history → has_cut life.history ≡ false → HasList N life trace t → HasSet N life t
-    fits_open N life t trace h clean list =
-        let told = told_of life.history h in (
-          list.found,
-          list.holds,
-          subst (λ (H : History). IsPlain life.start H list.found) (sym told.1)
-              (served_open i a c told.0 life.start list.calls list.found told.3 (subst (λ (H : History). has_cut H ≡ false) told.1 clean) (subst (λ (H : History). Fits life.start H list.calls list.found) told.1 list.fits)),
-        )
+    fits_open N life t trace h clean list = grind (arith, served_open)
 
     module _ (after : Yard × Outcome) (new : Medium) (trace : Trace) where
       abbrev next : Progress

@@ -1,12 +1,11 @@
 -- A turn of one actor: the other actors' part is as before, and so is the ledger, where the call goes on without a publishing.
-use Rattle.std.proofs.Common.{◌≡◌, ◌≢◌, inl, inr, ℕ, zero, suc, ◌≤◌, [], ◌∷◌, ◌++◌, Bool, true, List, length, Option, Some, None, refl, sym, ap, ◌∙◌, subst, arith}
+use Rattle.std.proofs.Common.{◌≡◌, ◌≢◌, inl, inr, ℕ, zero, suc, ◌≤◌, [], ◌∷◌, ◌++◌, Bool, true, List, length, Option, Some, None, refl, ap, ◌∙◌, subst, arith}
 use Rattle.std.proofs.lemmas.Bool.{cases_eq, cases_lt}
 use Rattle.std.proofs.lemmas.List.{get_or_past}
 use Rattle.std.proofs.lemmas.Option.{same_Some, none-some}
 use Rattle.lz_slot.specs.declared.format.Format.{Format}
-use Rattle.lz_slot.specs.declared.command.Command.{Command}
 use Rattle.lz_slot.specs.Counted.{set_of_pass}
-use Rattle.lz_slot.specs.Histories.{History, IsUnderWay}
+use Rattle.lz_slot.specs.Histories.{History}
 use Rattle.lz_slot.proofs.Counted.{of_pass_same, of_pass_other, length-set_of_pass}
 use Rattle.lz_vault.specs.Stages.{Cell}
 use Rattle.lz_vault.specs.Vaults.{Vaulted}
@@ -15,9 +14,7 @@ use Rattle.lz_machine.specs.declared.actor.Actor.{Actor}
 use Rattle.lz_machine.specs.declared.caller.Progress.{Progress}
 use Rattle.lz_machine.specs.Yards.{Shape, actor_in, pin_in}
 use Rattle.lz_machine.specs.Runs.{Caller, caller_at}
-use Rattle.lz_machine.specs.Ledgers.{Row, Each, change_at, times}
-use Rattle.lz_machine.specs.Kept.{publishing}
-use Rattle.lz_machine.specs.Entries.{IsLedger, IsSettledEntry, IsChangeOf}
+use Rattle.lz_machine.specs.Ledgers.{Row, times}
 use Rattle.lz_machine.specs.Notes.{Notes, pending_row, pending, entries}
 use Rattle.lz_machine.specs.CallersSound.{view_of, CallerSound, CallersSound}
 use Rattle.lz_machine.specs.LedgerSound.{LedgerSound}
@@ -69,20 +66,7 @@ module _ (callers : List (Option Caller)) (a : ℕ) (caller : Caller) (at : call
   number_still b one is = grind (arith, cases_eq, same_Some, moved_same, moved_other)
 
   pub ledger_turn : (n calls passes : ℕ) (P : Trace) (M : History) (notes : Notes) → LedgerSound n calls passes callers P M notes → LedgerSound n calls passes (moving callers a caller next) P M notes
-  ledger_turn n calls passes P M notes h =
-      let same = sym (same_entries passes notes) in
-      record {
-        opened = h.opened;
-        ledger = subst (λ (rows : List Row). IsLedger n P rows [] M) same h.ledger;
-        settled = subst (Each (IsSettledEntry P)) same h.settled;
-        changes = λ j early late. subst (λ (rows : List Row). IsChangeOf (publishing j P) (change_at j rows)) same (h.changes j early late);
-        numbered = h.numbered;
-        refused = h.refused;
-        one_call = h.one_call;
-        open_call = λ b one is. let old = number_still b one is in subst (λ (q : ℕ). IsUnderWay M q one.command) old.2 (subst (λ (q : Command). IsUnderWay M old.0.number q) old.3 (h.open_call b old.0 old.1));
-        apart = λ b d one two is_b is_d number. let x = number_still b one is_b in let z = number_still d two is_d in h.apart b d x.0 z.0 x.1 z.1 (x.2 ∙ number ∙ sym z.2);
-        unlisted = λ b one is. let old = number_still b one is in ap (λ (q : ℕ). times q notes.ended) (sym old.2) ∙ h.unlisted b old.0 old.1;
-      }
+  ledger_turn n calls passes P M notes h = grind (arith, same_entries, number_still)
 
   -- the callers, where each other one's part stays, and the actor has become x
   pub callers_moved : (shape : Shape) (vault vault' : Vaulted) (pins : List ℕ) (actors actors' : List Actor) (P P' : Trace) (notes notes' : Notes) (x : Actor) (changed : Option ℕ)

@@ -103,19 +103,7 @@ module _ (n calls passes a : ℕ) (c : Command) (first : Progress) (callers : Li
 
   -- the rows are a ledger of the longer history too
   ledger_still : IsLedger n P (entries passes callers notes) [] (Call (suc calls) a c ∷ M)
-  ledger_still =
-      let old = sound.ledger in
-      record {
-        each = old.each;
-        calls = each_weaker (IsRowIn M) (IsRowIn (Call (suc calls) a c ∷ M)) row_still (entries passes callers notes ++ []) old.calls;
-        tail_open = old.tail_open;
-        once = old.once;
-        answered = λ i answer is. ⊎_elim (λ e. absurd (clash (Answer i answer) refl e)) (λ there. old.answered i answer there) is;
-        order = λ r q at_r at_q before. ⊎_elim
-            (λ new. let number : q.number ≡ suc calls = sym (ap number_of new.3) in absurd (omega (arith, number, row_below q at_q)))
-            (λ there. old.order r q at_r at_q there)
-            before;
-      }
+  ledger_still = grind (arith, each_weaker, row_still, clash, row_below)
 
   answered_below : (i : ℕ) (answer : Bool) → IsAnswered M i answer → i ≤ calls
   answered_below i answer is = grind (arith, row_below)

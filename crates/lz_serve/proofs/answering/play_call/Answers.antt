@@ -1,4 +1,4 @@
-use Rattle.std.proofs.Common.{inl, inr, rules}
+use Rattle.std.proofs.Common.{inl, inr}
 use Rattle.lz_serve.proofs.Askings.{same_anew, same_made, same_replied, same_told}
 use Rattle.lz_serve.proofs.answering.play_call.Goals as goal
 

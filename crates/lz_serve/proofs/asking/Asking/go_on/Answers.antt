@@ -1,4 +1,4 @@
-use Rattle.std.proofs.Common.{◌≡◌, subst}
+use Rattle.std.proofs.Common.{subst}
 use Rattle.lz_machine.specs.declared.kind.Kind.TheVariants.{Sync}
 use Rattle.lz_board.specs.Seats.{part}
 use Rattle.lz_set.specs.Stages.{StepsUnfailed, kind_of_failed}
