@@ -1,25 +1,21 @@
 -- Worked rows: what may be put, what is left under the name, and how a growth isn't refused.
-use Rattle.std.proofs.Common.{◌≡◌, ⊎_elim, ℕ, ◌+◌, ◌*◌, List, [], ◌∷◌, length, get_or, Ok, IsTrue, refl, sym, ◌∙◌, ap, arith}
+use Rattle.std.proofs.Common.{◌≡◌, ⊎_elim, ℕ, ◌+◌, ◌*◌, List, [], ◌∷◌, length, get_or, Ok, IsTrue, refl, sym, ◌∙◌, arith}
 use Rattle.lz_slot.specs.Bytes.{format_of, open_byte}
 use Rattle.lz_slot.specs.Sets.{Keys}
 use Rattle.lz_slot.specs.declared.format.Format.{Format}
 use Rattle.lz_slot.specs.declared.format.Format.TheVariants.{Two, Three}
-use Rattle.lz_disk.specs.Images.{IsImage, Medium}
+use Rattle.lz_disk.specs.Images.{IsImage}
 use Rattle.lz_disk.specs.Devices.{Device}
 use Rattle.lz_vault.specs.declared.making.MakeFault.TheVariants as making
 use Rattle.lz_vault.specs.declared.renewing.RenewFault.{RenewFault}
 use Rattle.lz_vault.specs.declared.renewing.RenewFault.TheVariants.{New}
 use Rattle.lazyset_offline.specs.Growths.{HoldOneSetAtRest, IsLeftOrHolds, IsRefusedLate, IsUnread, MayBeLeft, growth_text}
 use Rattle.lazyset_offline.specs.Renewals.{renewal_text}
-use Rattle.lazyset_offline.specs.declared.growing.Standing.{Standing}
 use Rattle.lazyset_offline.specs.declared.growing.Standing.TheVariants as stands
 
 -- a new file whose gate isn't durable yet isn't put
 loose_gate : (old new : Device) → IsTrue old.honest → IsTrue new.honest → new.medium.loose ≡ (0, open_byte ∷ []) ∷ [] → HoldOneSetAtRest old new → ⊥
-loose_gate old new old_honest honest loose alike =
-    let none : new.medium.loose ≡ [] = ap (λ (m : Medium). m.loose) (alike old_honest honest).1 in
-    let e : ◌≡◌ {A = List (ℕ × List ℕ)} ((0, open_byte ∷ []) ∷ []) [] = sym loose ∙ none in
-    absurd cc
+loose_gate old new old_honest honest loose alike = grind arith
 
 -- where nothing was put, nothing of the new file is left under the name
 only_old : (old after new : Device) (t : List ℕ) → (after.left_since old.moment t → ⊥) → MayBeLeft old after new stands.Old t → ⊥
@@ -27,10 +23,7 @@ only_old old after new t never left = ⊎_elim never (λ put. put.0 refl) left
 
 -- a growth whose new file has the name isn't refused, and one isn't refused late for a file that was a set before
 put_is_done : (old after new new_after : Device) (format : Format) (n : ℕ) (fault : RenewFault) → IsRefusedLate old after new new_after stands.New format n fault → ⊥
-put_is_done old after new new_after format n fault refused = ⊎_elim
-    (λ early. let e : ◌≡◌ {A = Standing} stands.New stands.Old = early.0 in absurd cc)
-    (λ late. let e : ◌≡◌ {A = Standing} stands.New stands.Either = late.0 in absurd cc)
-    refused.why
+put_is_done old after new new_after format n fault refused = grind arith
 
 made_before : (old after new new_after : Device) → IsUnread old after new new_after (New making.AlreadyMade) → ⊥
 made_before old after new new_after unread = unread

@@ -24,8 +24,7 @@ torn_same says n next after is = rw after (rw is (omega arith))
 
 -- a slot of a piece of format 4
 pub says_in_piece : (t : List ℕ) (n i : ℕ) (piece : List ℕ) → format_of t ≡ Four → IsPieceAt t n piece → 16 * i + 16 ≤ length piece → slot_at t (n + i) ≡ slot_read Four (slice_range piece (16 * i) (16 * i + 16))
-says_in_piece t n i piece four at low =
-    ap (λ (F : Format). slot_read F (slot_bytes t (n + i))) four ∙ ap (slot_read Four) (slot_in_piece t n i piece at low)
+says_in_piece t n i piece four at low = grind (arith, slot_in_piece)
 
 -- no slot of another format is torn
 none_gated : (F : Format) (bytes : List ℕ) → is_torn (gated_read F bytes) ≡ false

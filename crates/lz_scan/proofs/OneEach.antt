@@ -37,11 +37,7 @@ again keys k j here = grind (arith, nat_tests)
 
 -- one more was told
 pub told_more : (told old new : List ℕ) (k : ℕ) → AreOnce told old → AddsOnce k old new → AreOnce (told ++ k ∷ []) new
-told_more told old new k are (inl (here, is)) = subst (λ (ks : List ℕ). AreOnce (told ++ k ∷ []) ks) (sym is) (record {
-  same = λ j. again old k j here ∙ ap (λ b. b || ((k == j) || false)) (are.same j) ∙ sym (one_more told k j);
-  once = are.once;
-  fit = are.fit;
-})
+told_more told old new k are (inl (here, is)) = grind (arith, again, one_more)
 told_more told old new k are (inr (none, fits, is)) = subst (λ (ks : List ℕ). AreOnce (told ++ k ∷ []) ks) (sym is) (record {
   same = λ j. one_more old k j ∙ ap (λ b. b || ((k == j) || false)) (are.same j) ∙ sym (one_more told k j);
   once = IsDistinct-push nat_eq_equiv old k are.once (unlike old k none);

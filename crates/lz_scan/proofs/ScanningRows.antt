@@ -16,6 +16,5 @@ next_one sent replies told first = one_page 1 0 0 (8 ∷ []) sent replies told (
 -- a room is at its end, or goes on from a later cursor, before anything was asked
 unasked : (room : ℕ) (q : Option ℕ) (sent replies told : List ℕ) → Scanned room q sent replies told → q ≢ Some 0 → 0 < length sent
 unasked _ _ _ _ _ begins other = absurd (other refl)
-unasked _ _ _ _ _ (one_page room cursor next numbers sent replies told so) other =
-    let some : 0 < length (request_text room cursor) = omega arith in omega (arith, length-append sent (request_text room cursor), some)
+unasked _ _ _ _ _ (one_page room cursor next numbers sent replies told so) other = grind (arith, length-append)
 unasked _ _ _ _ _ (one_room room sent replies told so) other = absurd (other refl)

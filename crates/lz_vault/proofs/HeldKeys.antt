@@ -58,9 +58,7 @@ apart_later (Some k) cell cells is distinct later (suc i) (suc j) low low' same 
 
 apart : (cells : List Cell) → AreDistinct cells → Apart (keys_in cells)
 apart [] distinct = λ i j low low' same. absurd (omega (arith, low))
-apart (cell ∷ cells) distinct =
-    apart_later (member_in cell) cell cells refl distinct
-    (apart cells (λ i j k low low' one two. omega (arith, distinct (suc i) (suc j) k (omega (arith, low)) (omega (arith, low')) one two)))
+apart (cell ∷ cells) distinct = grind (arith, apart_later, apart cells (λ i j k low low' one two. omega (arith, distinct (suc i) (suc j) k (omega (arith, low)) (omega (arith, low')) one two)))
 
 -- they are the set that the cells hold
 same_later : (stage : Stage) (key : ℕ) (cells : List Cell) (k : ℕ) → keys_of cells k ≡ members (keys_in cells) k

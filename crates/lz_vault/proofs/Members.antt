@@ -172,9 +172,7 @@ AreInOrder ms = (i : ℕ) → i + 1 < length ms → ((node_at ms i).0 ≤ (node_
 module _ (cells : List Cell) (ms : Nodes) (are : AreListed cells (length cells) ms) (up : AreInOrder ms) where
   further : (i d : ℕ) → i + d < length ms → (node_at ms i).0 ≤ (node_at ms (i + d)).0
   further i zero lt = grind arith
-  further i (suc d) lt =
-      let next : i + suc d ≡ (i + d) + 1 = omega arith in
-      subst (λ (q : ℕ). (node_at ms i).0 ≤ (node_at ms q).0) (sym next) (omega (arith, further i d (omega (arith, lt)), (up (i + d) (omega (arith, lt))).0))
+  further i (suc d) lt = grind (arith, further i d (omega (arith, lt)))
 
   far : (i j : ℕ) → i ≤ j → j < length ms → (node_at ms i).0 ≤ (node_at ms j).0
   far i j le lt =

@@ -9,7 +9,7 @@ use Rattle.std.proofs.lemmas.Map.Keys.{sorted_head, sorted_tail}
 use Rattle.std.proofs.lemmas.Option.{same_Some}
 use Rattle.std.proofs.lemmas.Bool.{cases_eq}
 use Rattle.std.proofs.lemmas.Bool.Decides.{nat_tests, eqb_tells}
-use Rattle.lz_slot.specs.Sets.{Keys, Same, after, key_of, reply}
+use Rattle.lz_slot.specs.Sets.{Keys, Same, after}
 use Rattle.lz_slot.specs.declared.history.Mark.{Mark}
 use Rattle.lz_slot.specs.Histories.{IsAnswered, IsCalled, IsEarlier, IsListed, Runs, count_of}
 use Rattle.lz_slot.proofs.Sets.{after_same}
@@ -99,10 +99,7 @@ among_listed (m ∷ calls) l is = ⊎_elim (λ here. inl (ap (λ (x : Listed). x
 
 unlisted_count : (i : ℕ) (L : List ℕ) → (IsListed i L → ⊥) → count_of i L ≡ 0
 unlisted_count i [] never = refl
-unlisted_count i (j ∷ L) never = elim (eqb_tells j i) [
-  | inl t ↦ absurd (never (inl t.1))
-  | inr f ↦ rw f.0 (unlisted_count i L (λ there. never (inr there)))
-]
+unlisted_count i (j ∷ L) never = grind (arith, eqb_tells, unlisted_count i L (λ there. never (inr there)))
 
 module _ (places : BTreeMap ℕ ℕ) where
   abbrev pub HavePlaces : List Listed → Type 0
@@ -147,12 +144,7 @@ module _ (places : BTreeMap ℕ ℕ) where
 pub runs : (H : List Mark) (answers : BTreeMap ℕ Bool) (calls : List Listed) (S T S' T' : Keys) → ((i : ℕ) (b : Bool) → IsAnswered H i b → tree.get nat_cmp answers i ≡ Some b)
     → ((l : Listed) → Among l calls → IsCalled H l.call l.command) → Same S S' → Same T T' → Plays answers calls S T → Runs H S' (calls_of calls) T'
 runs H answers [] S T S' T' told called start end plays = λ k. sym (start k) ∙ plays k ∙ end k
-runs H answers (l ∷ calls) S T S' T' told called start end plays = (
-  l.command,
-  called l (inl refl),
-  λ b answered. ap (reply l.command) (sym (start (key_of l.command))) ∙ plays.0 b (told l.call b answered),
-  runs H answers calls (after l.command S) T (after l.command S') T' told (λ m at. called m (inr at)) (after_same l.command S S' start) end plays.1,
-)
+runs H answers (l ∷ calls) S T S' T' told called start end plays = grind (arith, after_same, runs H answers calls (after l.command S) T (after l.command S') T' told (λ m at. called m (inr at)) (after_same l.command S S' start) end plays.1)
 
 -- what is known of the calls that a life's list has
 pub record OfLife (places : BTreeMap ℕ ℕ) (H : List Mark) (calls : List Listed) : Type 0 where

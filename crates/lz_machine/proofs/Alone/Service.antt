@@ -74,10 +74,7 @@ listed_count i (l ∷ L) (inr at) = grind (arith, nat_tests, listed_count i L at
 
 is_listed_or : (i : ℕ) (L : List ℕ) → IsListed i L ⊎ (¬ IsListed i L)
 is_listed_or i [] = inr (λ at. at)
-is_listed_or i (l ∷ L) = elim (cases_eq l i) [
-  | inl same ↦ inl (inl same)
-  | inr other ↦ ⊎_elim (λ at. inl (inr at)) (λ none. inr (λ at. ⊎_elim other none at)) (is_listed_or i L)
-]
+is_listed_or i (l ∷ L) = grind (arith, cases_eq, is_listed_or i L)
 
 earlier_listed : (j i : ℕ) (L : List ℕ) → IsEarlier j i L → IsListed i L
 earlier_listed j i [] at = absurd at

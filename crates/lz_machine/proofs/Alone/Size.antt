@@ -77,9 +77,7 @@ distribute n x y = grind arith
 
 keys_members : (k : ℕ) (t : List ℕ) (n q : ℕ) → members (keys_but k t n) q ≡ (not (k == q) && found t n q)
 keys_members k t zero q = grind (arith, nat_tests)
-keys_members k t (suc n) q =
-    members_append (keys_but k t n) (key_but k (slot_at t n)) q ∙ ap (λ (b : Bool). b || members (key_but k (slot_at t n)) q) (keys_members k t n q)
-    ∙ ap (λ (b : Bool). (not (k == q) && found t n q) || b) (key_members k q (slot_at t n)) ∙ distribute (not (k == q)) (found t n q) (reads_key q (slot_at t n))
+keys_members k t (suc n) q = grind (arith, members_append, not, key_members, distribute, keys_members k t n q)
 
 -- no key stands twice
 next_distinct : (k : ℕ) (t : List ℕ) (N n : ℕ) (S : Keys) → Holds t N S → suc n ≤ N → IsDistinct nat_eq (keys_but k t n) → IsDistinct nat_eq (keys_but k t (suc n))
@@ -128,8 +126,7 @@ members_but k t N S T holds is = record {
 -- calls that have ended, none of them cut off, lead to one set
 pub plain_once : (n : ℕ) (M : History) (S T U : Keys) → Ended n M → has_cut M ≡ false → IsPlain S M T → IsPlain S M U → Same T U
 plain_once n [] S T U h clean one other = λ k. sym (one k) ∙ other k
-plain_once n (Answer i answer ∷ Call j a c ∷ M) S T U h clean one other =
-    λ k. sym (one.2.3 k) ∙ after_same c one.2.0 other.2.0 (plain_once j M S one.2.0 other.2.0 h.2 clean one.2.1 other.2.1) k ∙ other.2.3 k
+plain_once n (Answer i answer ∷ Call j a c ∷ M) S T U h clean one other = grind (arith, after_same, plain_once j M S one.2.0 other.2.0 h.2 clean one.2.1 other.2.1)
 plain_once n (Refused i Full ∷ Call j a c ∷ M) S T U h clean one other = plain_once j M S T U h.2 clean one.2 other.2
 plain_once n (Refused i Worn ∷ Call j a c ∷ M) S T U h clean one other = plain_once j M S T U h.2 clean one.1 other.1
 plain_once n (Refused i OldFile ∷ Call j a c ∷ M) S T U h clean one other = plain_once j M S T U h.2 clean one.1 other.1

@@ -8,7 +8,7 @@ use Rattle.lz_slot.specs.Limits.{most_slots_of}
 use Rattle.lz_slot.specs.declared.format.Format.{Format}
 use Rattle.lz_slot.specs.declared.command.Command.{Command}
 use Rattle.lz_slot.specs.declared.command.Command.TheVariants.{Add, Remove}
-use Rattle.lz_slot.specs.Sets.{Keys, Same, key_of, after, reply}
+use Rattle.lz_slot.specs.Sets.{Keys, Same, key_of, after}
 use Rattle.lz_slot.specs.Bytes.{Holds, format_of, slot_at, open_byte, header_body}
 use Rattle.lz_slot.specs.declared.slot.SlotRead.{SlotRead}
 use Rattle.lz_slot.specs.declared.slot.SlotRead.TheVariants.{Member, BadKey}
@@ -68,12 +68,7 @@ module _ (n : ℕ) (P : Trace) (drop : Keys) where
 -- the same calls fit from a set with the same keys
 runs_from : (M : History) (L : List ℕ) (S T U : Keys) → Same S T → Runs M S L U → Runs M T L U
 runs_from M [] S T U same runs = λ k. sym (same k) ∙ runs k
-runs_from M (i ∷ L) S T U same runs = (
-  runs.0,
-  runs.1,
-  λ answer is. ap (reply runs.0) (sym (same (key_of runs.0))) ∙ runs.2 answer is,
-  runs_from M L (after runs.0 S) (after runs.0 T) U (after_same runs.0 S T same) runs.3,
-)
+runs_from M (i ∷ L) S T U same runs = grind (arith, after_same, runs_from M L (after runs.0 S) (after runs.0 T) U (after_same runs.0 S T same) runs.3)
 
 fits_from : (M : History) (L : List ℕ) (S T U : Keys) → Same S T → Fits S M L U → Fits T M L U
 fits_from M L S T U same fits = record { once = fits.once; answered = fits.answered; not_refused = fits.not_refused; order = fits.order; runs = runs_from M L S T U same fits.runs }

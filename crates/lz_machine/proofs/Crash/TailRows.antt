@@ -1,12 +1,11 @@
 -- The rows that an image puts at the end of its list: one for each slot that asks for a call.
 use Rattle.std.proofs.Common.{◌≡◌, ◌≢◌, ◌⊎◌, ⊎_elim, inl, inr, ℕ, zero, suc, ◌<◌, ◌≤◌, ◌==◌, Bool, true, false, List, [], ◌∷◌, ◌++◌, Option, Some, None, refl, sym, ap, ◌∙◌, subst, arith}
 use Rattle.std.specs.List.{list_any}
-use Rattle.std.specs.Prelude.{MatchOption}
 use Rattle.std.proofs.lemmas.Bool.{cases_eq, or_left, or_right, eq-eqb}
 use Rattle.std.proofs.lemmas.Bool.Decides.{nat_tests}
 use Rattle.std.proofs.lemmas.Option.{none-some, same_Some}
 use Rattle.lz_slot.specs.declared.command.Command.{Command}
-use Rattle.lz_slot.specs.Sets.{Keys, key_of, after, reply, moved}
+use Rattle.lz_slot.specs.Sets.{Keys, key_of, after, moved}
 use Rattle.lz_slot.proofs.Sets.{after_at, moved_other}
 use Rattle.lz_slot.specs.Histories.{History, IsCalled}
 use Rattle.lz_disk.specs.Images.{Medium, IsImage}
@@ -45,10 +44,7 @@ times_or i (l ∷ L) = elim (cases_eq l.number i) [
 -- rows without an answer give no wrong one
 open_gives : (S : Keys) (L : List Row) → Each (λ r. r.answer ≡ None) L → Gives S L
 open_gives S [] each = tt
-open_gives S (r ∷ L) each = (
-  subst (λ (o : Option Bool). MatchOption o (Unit {0}) (λ a. reply r.command (S (key_of r.command)) ≡ a)) (sym each.0) tt,
-  open_gives (after r.command S) L each.1,
-)
+open_gives S (r ∷ L) each = grind (arith, open_gives (after r.command S) L each.1)
 
 -- where each row that names a key makes the same of it, so does the list
 ends_at : (k : ℕ) (v : Bool) (L : List Row) (S : Keys) → ((r : Row) → HasRow r L → key_of r.command ≡ k → (b : Bool) → moved k r.command b ≡ v) → (names k L ≡ false → S k ≡ v) → ends S L k ≡ v

@@ -63,10 +63,7 @@ link_in_range slots k x (n ∷ c) within =
 -- a slot's flags tell of its last linking
 pub added_tells : (buckets slots s : ℕ) (P : Trace) → Lawful buckets slots P → has_added s P ≡ true → is_settled (linking_in s P) P ≡ true
 added_tells buckets slots s [] law is = absurd (false≢true is)
-added_tells buckets slots s (linked k t p ∷ P) law is = elim (eqb_tells t s) [
-  | inl same ↦ absurd (false≢true (sym law.0.not_added ∙ ap (λ (q : ℕ). has_added q P) same.1 ∙ is))
-  | inr f ↦ let same : linking_in s (linked k t p ∷ P) ≡ linking_in s P = rw f.0 in ap (λ (n : ℕ). is_settled n P) same ∙ added_tells buckets slots s P law.1 is
-]
+added_tells buckets slots s (linked k t p ∷ P) law is = grind (arith, eqb_tells, added_tells buckets slots s P law.1 is)
 added_tells buckets slots s (settled t c ∷ P) law is = elim (eqb_tells t s) [
   | inl same ↦ grind (arith, nat_tests, same.1)
   | inr f ↦ grind (arith, nat_tests, added_tells buckets slots s P law.1 (rw f.0 at is))
@@ -82,10 +79,7 @@ added_tells buckets slots s (halted ∷ P) law is = added_tells buckets slots s 
 
 pub removed_tells : (buckets slots s : ℕ) (P : Trace) → Lawful buckets slots P → has_removed s P ≡ true → is_removed (linking_in s P) P ≡ true
 removed_tells buckets slots s [] law is = absurd (false≢true is)
-removed_tells buckets slots s (linked k t p ∷ P) law is = elim (eqb_tells t s) [
-  | inl same ↦ absurd (false≢true (sym law.0.not_removed ∙ ap (λ (q : ℕ). has_removed q P) same.1 ∙ is))
-  | inr f ↦ let same : linking_in s (linked k t p ∷ P) ≡ linking_in s P = rw f.0 in ap (λ (n : ℕ). is_removed n P) same ∙ removed_tells buckets slots s P law.1 is
-]
+removed_tells buckets slots s (linked k t p ∷ P) law is = grind (arith, eqb_tells, removed_tells buckets slots s P law.1 is)
 removed_tells buckets slots s (settled t c ∷ P) law is = elim (eqb_tells t s) [
   | inl same ↦ grind (arith, nat_tests, same.1, removed_tells buckets slots s P law.1)
   | inr f ↦ grind (arith, nat_tests, removed_tells buckets slots s P law.1 (rw f.0 at is))

@@ -1,9 +1,9 @@
 -- The list that a trace and a ledger give fits the history.
-use Rattle.std.proofs.Common.{◌≡◌, ◌⊎◌, ⊎_elim, inl, inr, ℕ, zero, suc, ◌<◌, ◌≤◌, Bool, true, not, ◌==◌, ◌&&◌, List, [], ◌∷◌, ◌++◌, length, filter, Option, None, MatchOption, refl, sym, ap, ◌∙◌, subst, arith}
+use Rattle.std.proofs.Common.{◌≡◌, ◌⊎◌, ⊎_elim, inl, inr, ℕ, zero, suc, ◌<◌, ◌≤◌, Bool, true, not, ◌==◌, ◌&&◌, List, [], ◌∷◌, ◌++◌, length, filter, None, refl, sym, ap, ◌∙◌, subst, arith}
 use Rattle.std.proofs.lemmas.Bool.{cases_Bool, cases_lt}
 use Rattle.std.proofs.lemmas.Bool.Decides.{nat_tests}
 use Rattle.std.proofs.lemmas.Option.{none-some}
-use Rattle.lz_slot.specs.Sets.{key_of, Keys, after, reply}
+use Rattle.lz_slot.specs.Sets.{Keys, after}
 use Rattle.lz_slot.specs.Histories.{IsRefused, History, IsAnswered, IsBefore, IsListed, count_of, IsEarlier, Runs, Fits}
 use Rattle.lz_list.specs.Traces.{Trace, Lawful}
 use Rattle.lz_machine.specs.Ledgers.{Row, quiet_at, change_at, listed, HasRow, Stands, times, is_within, Each, IsRight, Moves, Leads}
@@ -29,12 +29,7 @@ listed_runs buckets slots n P drop rows law may each fit = listed_leads (kept_ke
 
 runs_rows : (M : History) (L : List Row) (S T : Keys) → Each (IsRowIn M) L → Leads S L T → Runs M S (numbers L) T
 runs_rows M [] S T each leads = leads.ends_in
-runs_rows M (r ∷ L) S T each leads = (
-  r.command,
-  each.0.is_called,
-  λ a is. subst (λ (o : Option Bool). MatchOption o (Unit {0}) (λ b. reply r.command (S (key_of r.command)) ≡ b)) (each.0.answers a is) leads.gives.0,
-  runs_rows M L (after r.command S) T each.1 (record { gives = leads.gives.1; ends_in = leads.ends_in }),
-)
+runs_rows M (r ∷ L) S T each leads = grind (arith, runs_rows M L (after r.command S) T each.1 (record { gives = leads.gives.1; ends_in = leads.ends_in }))
 
 count_rows : (i : ℕ) (L : List Row) → count_of i (numbers L) ≡ times i L
 count_rows i [] = refl

@@ -17,12 +17,7 @@ use Rattle.lz_machine.proofs.Frames.Limbo.{shorter}
 
 pub upto_begins : (n : ℕ) (P : Trace) → Begins (upto n P) P
 upto_begins n [] = refl
-upto_begins n (e ∷ P) = elim (leb_tells (suc (length P)) n) [
-  | inl t ↦ inl (rw t.0)
-  | inr f ↦
-      let same : upto n (e ∷ P) ≡ upto n P = rw f.0 in
-      inr (subst (λ (R : Trace). Begins R P) (sym same) (upto_begins n P))
-]
+upto_begins n (e ∷ P) = grind (arith, leb_tells, upto_begins n P)
 
 pub length-upto : (n : ℕ) (P : Trace) → n ≤ length P → length (upto n P) ≡ n
 length-upto n [] le = omega arith

@@ -6,18 +6,12 @@ use Rattle.lz_machine.specs.Ledgers.{Row, quiet_at, change_at, listed, HasRow, S
 
 pub has_filter : (test : Row → Bool) (r : Row) (L : List Row) → HasRow r L → test r ≡ true → HasRow r (filter test L)
 has_filter test r (l ∷ L) (inl here) passes = rw (ap test here ∙ passes) (inl here)
-has_filter test r (l ∷ L) (inr there) passes = elim (cases_Bool (test l)) [
-  | inl t ↦ rw t (inr (has_filter test r L there passes))
-  | inr f ↦ rw f (has_filter test r L there passes)
-]
+has_filter test r (l ∷ L) (inr there) passes = grind (arith, cases_Bool, has_filter test r L there passes)
 has_filter test r [] h passes = absurd h
 
 pub stands_filter : (test : Row → Bool) (r q : Row) (L : List Row) → Stands r q L → test r ≡ true → test q ≡ true → Stands r q (filter test L)
 stands_filter test r q (l ∷ L) (inl here) passes too = rw (ap test here.0 ∙ passes) (inl (here.0, has_filter test q L here.1 too))
-stands_filter test r q (l ∷ L) (inr there) passes too = elim (cases_Bool (test l)) [
-  | inl t ↦ rw t (inr (stands_filter test r q L there passes too))
-  | inr f ↦ rw f (stands_filter test r q L there passes too)
-]
+stands_filter test r q (l ∷ L) (inr there) passes too = grind (arith, cases_Bool, stands_filter test r q L there passes too)
 stands_filter test r q [] h passes too = absurd h
 
 pub has_left : (r : Row) (L M : List Row) → HasRow r L → HasRow r (L ++ M)
@@ -103,6 +97,4 @@ module _ (rows : List Row) where
 
   pub listed_times : (n i : ℕ) → times i (listed rows n) ≡ times i (filter (is_within n) rows)
   listed_times zero i = times_first i rows
-  listed_times (suc n) i =
-      times_append i (listed rows n) (change_at n rows ++ quiet_at (suc n) rows) ∙ ap (λ (t : ℕ). times i (listed rows n) + t) (times_append i (change_at n rows) (quiet_at (suc n) rows))
-      ∙ omega (arith, listed_times n i, times_split n i rows)
+  listed_times (suc n) i = grind (arith, times_append, times_split, listed_times n i)

@@ -1,5 +1,5 @@
 -- The rows of a ledger in parts: a call's row is taken out, and put after those that ended.
-use Rattle.std.proofs.Common.{◌≡◌, ◌≢◌, ◌⊎◌, ⊎_elim, inl, inr, ℕ, zero, suc, ◌<◌, ◌≤◌, ◌+◌, ◌==◌, ◌&&◌, if◌then◌else◌, true, false, List, [], ◌∷◌, ◌++◌, length, Option, Some, None, refl, sym, ap, ◌∙◌, arith, append_assoc}
+use Rattle.std.proofs.Common.{◌≡◌, ◌≢◌, ◌⊎◌, ⊎_elim, inl, inr, ℕ, zero, suc, ◌<◌, ◌≤◌, ◌+◌, ◌==◌, if◌then◌else◌, true, false, List, [], ◌∷◌, ◌++◌, length, Option, Some, None, refl, sym, ap, ◌∙◌, arith, append_assoc}
 use Rattle.std.proofs.lemmas.Bool.{cases_Bool, cases_eq}
 use Rattle.std.proofs.lemmas.Bool.Decides.{nat_tests, eqb_tells}
 use Rattle.std.proofs.lemmas.List.{append-nil}
@@ -87,10 +87,7 @@ times_has i x (l ∷ L) (inl here) number none = go (eqb_tells l.number i)
     go : ((l.number == i) ≡ true) × (l.number ≡ i) ⊎ (((l.number == i) ≡ false) × (l.number ≢ i)) → ⊥
     go (inl same) = omega (arith, rw same.0 at none)
     go (inr other) = other.1 (ap (λ (q : Row). q.number) here ∙ number)
-times_has i x (l ∷ L) (inr there) number none = times_has i x L there number (elim (cases_Bool (l.number == i)) [
-  | inl same ↦ absurd (omega (arith, rw same at none))
-  | inr other ↦ rw other at none
-])
+times_has i x (l ∷ L) (inr there) number none = grind (arith, cases_Bool, times_has i x L there number (elim (cases_Bool (l.number == i)) [ | inl same ↦ absurd (omega (arith, rw same at none)) | inr other ↦ rw other at none ]))
 times_has i x [] h number none = absurd h
 
 pub none_of : (i j : ℕ) (L : List Row) → Each (λ r. r.number ≡ i) L → j ≢ i → times j L ≡ 0
@@ -174,10 +171,7 @@ module _ (i : ℕ) (E F B pend last : List Row) (all_pend : Each (λ r. r.number
 
 pub change_append : (j : ℕ) (L M : List Row) → change_at j (L ++ M) ≡ change_at j L ++ change_at j M
 change_append j [] M = refl
-change_append j (l ∷ L) M = elim (cases_Bool (l.changes && (l.position == j))) [
-  | inl t ↦ rw t (ap (λ (q : List Row). l ∷ q) (change_append j L M))
-  | inr f ↦ rw f (change_append j L M)
-]
+change_append j (l ∷ L) M = grind (arith, cases_Bool, change_append j L M)
 
 pub length_app : (L M : List Row) → length (L ++ M) ≡ length L + length M
 length_app [] M = omega arith

@@ -53,10 +53,7 @@ text_head F cells = grind arith
 body_at : (F : Format) (cells : List Cell) (i j : ℕ) → i < length cells → j < 16 → get_or (body_text F cells) (16 * i + j) 0 ≡ get_or (slot_text F (get_or cells i no_cell)) j 0
 body_at F [] i j low lt = absurd (omega (arith, low))
 body_at F (cell ∷ cells) zero j low lt = grind (arith, get_or, get_or_append_left, slot_size)
-body_at F (cell ∷ cells) (suc i) j low lt =
-    let back : 16 * suc i + j - 16 ≡ 16 * i + j = omega arith in
-    get_or-append_right (slot_text F cell) (body_text F cells) 16 (16 * suc i + j) 0 (slot_size F cell.stage cell.key) (omega arith)
-    ∙ ap (λ (n : ℕ). get_or (body_text F cells) n 0) back ∙ body_at F cells i j (omega (arith, low)) lt
+body_at F (cell ∷ cells) (suc i) j low lt = grind (arith, get_or-append_right, slot_size, get_or, body_at F cells i j (omega (arith, low)) lt)
 
 text_slot : (F : Format) (cells : List Cell) (i : ℕ) → i < length cells → slot_bytes (text_of F cells) i ≡ slot_text F (get_or cells i no_cell)
 text_slot F cells i low =

@@ -69,9 +69,7 @@ flag_removed s n P is = grind arith
 mark_since : (buckets : ℕ) (slots : ℕ) (P0 : Trace) (b s : ℕ) (R P : Trace) → IsQuiet buckets P0 P → Begins R P → Stood buckets b P0 R (suc s) → is_marked s R ≡ true → (is_marked s P ≡ true) × Stood buckets b P0 P (suc s)
 mark_since buckets slots P0 b s R [] quiet to stood mark = (ap (is_marked s) (sym to) ∙ mark, subst (λ (Q : Trace). Stood buckets b P0 Q (suc s)) to stood)
 mark_since buckets slots P0 b s R (e ∷ P) quiet (inl here) stood mark = (ap (is_marked s) (sym here) ∙ mark, subst (λ (Q : Trace). Stood buckets b P0 Q (suc s)) here stood)
-mark_since buckets slots P0 b s R (e ∷ P) quiet (inr to) stood mark =
-    let before = mark_since buckets slots P0 b s R P quiet.1 to stood mark in
-    (mark_stays buckets slots P0 b s e P quiet.0 before.1 before.0, inr before.1)
+mark_since buckets slots P0 b s R (e ∷ P) quiet (inr to) stood mark = grind (arith, mark_stays, mark_since buckets slots P0 b s R P quiet.1 to stood mark)
 
 module _ (n calls : ℕ) (y : Yard) (callers : List (Option Caller)) (disk : Medium) (M : History) (P : Trace) (notes : Notes) (sound : Sound n calls y callers disk M P notes) (a s : ℕ) where
   -- the event, where the slot's last write is durable, and where it isn't

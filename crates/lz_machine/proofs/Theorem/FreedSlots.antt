@@ -42,14 +42,7 @@ module _ (s q : ℕ) where
 
   past_publishing : (new : Trace) (ms : List Moment) (P0 P : Trace) → IsPast ms P0 P → IsPast (unlinkings new ++ ms) P0 (new ++ P)
   past_publishing [] ms P0 P h = h
-  past_publishing (unlinked k t p ∷ new) ms P0 P h =
-      let before = past_publishing new ms P0 P h in (
-        inr before.0,
-        elim (eqb_tells t s) [
-          | inl same ↦ inr (inl (same.1, before.0))
-          | inr other ↦ ⊎_elim (λ was. inl (rw other.0 was)) (λ since. inr (inr since)) before.1
-        ],
-      )
+  past_publishing (unlinked k t p ∷ new) ms P0 P h = grind (arith, eqb_tells, past_publishing new ms P0 P h)
   past_publishing (e ∷ new) ms P0 P h = let before = past_publishing new ms P0 P h in (inr before.0, before.1)
 
   -- of an open service, with the trace at which the pass went in
@@ -99,9 +92,7 @@ module _ (s q : ℕ) where
   run_past : (start : Start) (steps : List Transition) → IsRun (first_point start) steps
       → PastAt (run (first_point start) steps).state (moments (first_point start) steps) (trace_outside (first_point start) steps q) (run (first_point start) steps).trace
   run_past start [] runs = (begins_itself _, inl (rw (pass_of {X = ℕ} start.shape.passes q 0) refl))
-  run_past start (step ∷ steps) runs =
-      let p = run (first_point start) steps in
-      step_past _ p.state step (moments (first_point start) steps) (trace_outside (first_point start) steps q) p.trace runs.0 (run_past start steps runs.1)
+  run_past start (step ∷ steps) runs = grind (arith, step_past, run_past start steps runs.1)
 
   -- in a state in which the pass is outside
   past_out : (p : Point) (steps : List Transition) (service : Service) (disk : Medium) → (run p steps).state ≡ Up service disk → is_out (Up service disk) q ≡ true → was_outside s q (moments p steps) ≡ true

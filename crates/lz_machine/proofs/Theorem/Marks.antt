@@ -233,9 +233,7 @@ run_tells start [] runs = record {
   numbered = λ i c is. absurd is.1;
   open_calls = (length-replicate start.shape.passes None, opens_open start.shape start.text [] (λ a i is. is));
 }
-run_tells start (step ∷ steps) runs =
-    let p = run (first_point start) steps in
-    step_tells p.calls p.state p.marks step runs.0 (run_tells start steps runs.1)
+run_tells start (step ∷ steps) runs = grind (arith, step_tells, run_tells start steps runs.1)
 
 -- the marks tell of each call once, and of one that is open for each actor
 pub marks_tell : MarksTell
