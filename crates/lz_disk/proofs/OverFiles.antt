@@ -23,9 +23,6 @@ nothing_waits t at bytes none = ap (overwritten t at) none ∙ nothing t at
 nothing_written : (at : ℕ) (bytes : List ℕ) (writes : List (ℕ × List ℕ)) (i b : ℕ) → bytes ≡ [] → was_written ((at, bytes) ∷ writes) i b ≡ was_written writes i b
 nothing_written at bytes writes i b none = let size : length bytes ≡ 0 = ap length none in grind (arith, nat_tests)
 
-abbrev read_as : Medium → List ℕ → List (ℕ × List ℕ) → List ℕ → Medium
-read_as file sure loose seen = record { bytewise = file.bytewise; sure = sure; seen = seen; loose = loose }
-
 -- where no write waits, each image of the disk is one of the file
 pub disk_image : (file : Medium) (waiting : Waiting) (unsynced : List (ℕ × List ℕ)) → IsOver file waiting unsynced → waiting.bytes ≡ []
     → (c : List ℕ) → IsImage (medium_over file waiting unsynced) c → IsImage file c

@@ -87,7 +87,7 @@ times_has i x (l ∷ L) (inl here) number none = go (eqb_tells l.number i)
     go : ((l.number == i) ≡ true) × (l.number ≡ i) ⊎ (((l.number == i) ≡ false) × (l.number ≢ i)) → ⊥
     go (inl same) = omega (arith, rw same.0 at none)
     go (inr other) = other.1 (ap (λ (q : Row). q.number) here ∙ number)
-times_has i x (l ∷ L) (inr there) number none = grind (arith, cases_Bool, times_has i x L there number (elim (cases_Bool (l.number == i)) [ | inl same ↦ absurd (omega (arith, rw same at none)) | inr other ↦ rw other at none ]))
+times_has i x (l ∷ L) (inr there) number none = grind (arith, cases_Bool, times_has i x L there number (elim (cases_Bool (l.number == i)) [ inl same ↦ absurd (omega (arith, rw same at none)) | inr other ↦ rw other at none ]))
 times_has i x [] h number none = absurd h
 
 pub none_of : (i j : ℕ) (L : List Row) → Each (λ r. r.number ≡ i) L → j ≢ i → times j L ≡ 0
