@@ -1,14 +1,8 @@
 -- What the answer to an adding says of an event.
 use Rattle.std.proofs.Common.{inr, ℕ, Bool, true, false, Result, Ok, Err}
-use Rattle.lz_slot.specs.declared.command.Command.TheVariants.{Add}
-use Rattle.lz_slot.specs.declared.format.Format.{Format}
-use Rattle.lz_board.specs.declared.answer.Glance.{Glance}
-use Rattle.lz_board.specs.declared.answer.GlanceFault.{GlanceFault}
-use Rattle.lz_board.specs.declared.view.Part.{Part}
-use Rattle.lz_board.specs.Glances.{Glances}
-use Rattle.lz_board.specs.Walkers.{KeepsCall}
-use Rattle.lz_set.specs.declared.fault.Fault.{Fault}
-use Rattle.lz_set.specs.Answers.{reply_of}
+use Rattle.lz_slot.specs.declared.{command.Command.TheVariants.{Add}, format.Format.{Format}}
+use Rattle.lz_board.specs.{declared.{answer.{Glance.{Glance}, GlanceFault.{GlanceFault}}, view.Part.{Part}}, Glances.{Glances}, Walkers.{KeepsCall}}
+use Rattle.lz_set.specs.{declared.fault.Fault.{Fault}, Answers.{reply_of}}
 use Rattle.lz_tie.specs.Answers.{Answers}
 use Rattle.duplicate_filter.specs.Filters.{Filters, WasAdded}
 

@@ -1,15 +1,9 @@
 -- What a duplicate filter says of an event.
-use Rattle.std.specs.Prelude.{◌⊎◌, ℕ, Bool, true, false, Result, Ok, Err}
-use Rattle.lz_slot.specs.declared.command.Command.TheVariants.{Add}
-use Rattle.lz_slot.specs.declared.format.Format.{Format}
-use Rattle.lz_board.specs.declared.answer.Glance.{Glance}
 use Rattle.lz_board.specs.declared.answer.Glance.TheVariants as glance
-use Rattle.lz_board.specs.declared.answer.GlanceFault.{GlanceFault}
-use Rattle.lz_board.specs.declared.view.Part.{Part}
-use Rattle.lz_board.specs.Glances.{Glances}
-use Rattle.lz_board.specs.Walkers.{KeepsCall}
-use Rattle.lz_set.specs.Answers.{reply_of}
-use Rattle.lz_set.specs.declared.fault.Fault.{Fault}
+use Rattle.std.specs.Prelude.{◌⊎◌, ℕ, Bool, true, false, Result, Ok, Err}
+use Rattle.lz_slot.specs.declared.{command.Command.TheVariants.{Add}, format.Format.{Format}}
+use Rattle.lz_board.specs.{declared.{answer.{Glance.{Glance}, GlanceFault.{GlanceFault}}, view.Part.{Part}}, Glances.{Glances}, Walkers.{KeepsCall}}
+use Rattle.lz_set.specs.{Answers.{reply_of}, declared.fault.Fault.{Fault}}
 use Rattle.lz_tie.specs.Answers.{Answers}
 
 -- A glance at the event, whatever it told, was followed by an adding with this answer. No other call was made.

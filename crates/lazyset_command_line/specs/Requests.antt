@@ -1,12 +1,8 @@
 -- The numbers of a request.
 use Rattle.std.specs.Prelude.{◌≡◌, ◌≤◌, ℕ, IfSome, None}
-use Rattle.lz_slot.specs.Limits.{last_room, most_buckets, most_buckets_of, most_passes, most_rehearsed}
-use Rattle.lz_slot.specs.Rooms.{last_room_of}
-use Rattle.lz_serve.specs.declared.observer.Loops.{Loops}
-use Rattle.lz_serve.specs.declared.options.ServeOptions.{ServeOptions}
-use Rattle.lz_serve.specs.Options.{most_connections, most_threads}
-use Rattle.lazyset_command_line.specs.declared.request.Request.{Request}
-use Rattle.lazyset_command_line.specs.declared.request.Request.TheVariants.{Renew, Grow, Copy, Run, Serve, Rehearse}
+use Rattle.lz_slot.specs.{Limits.{last_room, most_buckets, most_buckets_of, most_passes, most_rehearsed}, Rooms.{last_room_of}}
+use Rattle.lz_serve.specs.{declared.{observer.Loops.{Loops}, options.ServeOptions.{ServeOptions}}, Options.{most_connections, most_threads}}
+use Rattle.lazyset_command_line.specs.declared.request.Request.{Request, TheVariants.{Renew, Grow, Copy, Run, Serve, Rehearse}}
 
 -- loops of so many passes, each of which has a thread, and a pass and a connection at least
 abbrev pub AreWithin : ℕ → Loops → Type 0

@@ -1,12 +1,10 @@
 -- Worked rows: what a command leaves is a life, as the law of lives that follow on one another asks for it.
-use Rattle.std.proofs.Common.{ℕ, List}
-use Rattle.std.specs.Prelude.{IsTrue, Option}
+use Rattle.std.{proofs.Common.{ℕ, List}, specs.Prelude.{IsTrue, Option}}
 use Rattle.lz_disk.specs.Devices.{Device}
 use Rattle.lz_board.specs.declared.view.Note.{Note}
 use Rattle.lz_set.specs.JoinedLives.{EndedAfter, Lived}
 use Rattle.lazyset_offline.specs.declared.status.Status.{Status}
-use Rattle.lazyset_commands.specs.Runs.{RanSeat}
-use Rattle.lazyset_commands.specs.Services.{HadPlace, RanService}
+use Rattle.lazyset_commands.specs.{Runs.{RanSeat}, Services.{HadPlace, RanService}}
 
 module _ {D : Type 0} (device : D → Device) (old new : D) (honest : IsTrue (device old).honest) (seen : List Note) (t : List ℕ) where
   -- of a session's one pass

@@ -1,21 +1,13 @@
 -- What an open leaves of the disk, and one that was refused.
-use Rattle.std.proofs.Common.{◌≡◌, ◌⊎◌, inl, inr, ⊎_elim, ℕ, List, Option, IsTrue, sym, ap, subst, arith}
-use Rattle.lz_slot.specs.Sets.{Keys}
-use Rattle.lz_slot.specs.Bytes.{Holds}
-use Rattle.lz_disk.specs.Images.{Medium, AreBytes, IsImage, synced}
-use Rattle.lz_disk.specs.Devices.{Device, IsTimely, LeavesOnly}
-use Rattle.lz_disk.proofs.Moments.{leaves_more}
-use Rattle.lz_disk.proofs.Writes.{synced_image}
-use Rattle.lz_vault.specs.Opens.{IsRefusedFor}
-use Rattle.lz_vault.specs.Vaults.{LeavesEither}
-use Rattle.lz_vault.specs.declared.opening.OpenFault.{OpenFault}
 use Rattle.lz_vault.specs.declared.opening.OpenFault.TheVariants as opening
-use Rattle.lz_machine.proofs.Open.OpenFailures.{held_is_opened}
-use Rattle.lazyset_offline.specs.Ends.{open_status}
-use Rattle.lazyset_offline.specs.Refusals.{FailedOpen, refusal_text}
-use Rattle.lazyset_offline.specs.Tellings.{Tells}
-use Rattle.lazyset_offline.specs.declared.status.Status.{Status}
 use Rattle.lazyset_offline.specs.declared.status.Status.TheVariants as status
+use Rattle.std.proofs.Common.{◌≡◌, ◌⊎◌, inl, inr, ⊎_elim, ℕ, List, Option, IsTrue, sym, ap, subst, arith}
+use Rattle.lz_slot.specs.{Sets.{Keys}, Bytes.{Holds}}
+use Rattle.lz_disk.{specs.{Images.{Medium, AreBytes, IsImage, synced}, Devices.{Device, IsTimely, LeavesOnly}}, proofs.Moments.{leaves_more}}
+use Rattle.lz_disk.proofs.Writes.{synced_image}
+use Rattle.lz_vault.specs.{Opens.{IsRefusedFor}, Vaults.{LeavesEither}, declared.opening.OpenFault.{OpenFault}}
+use Rattle.lz_machine.proofs.Open.OpenFailures.{held_is_opened}
+use Rattle.lazyset_offline.specs.{Ends.{open_status}, Refusals.{FailedOpen, refusal_text}, Tellings.{Tells}, declared.status.Status.{Status}}
 
 -- what a sync makes durable was an image before
 synced_was : (old : Device) → IsTimely old → (t : List ℕ) → IsImage (synced old.medium) t → IsImage old.medium t

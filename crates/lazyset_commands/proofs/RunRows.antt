@@ -1,7 +1,6 @@
 -- Worked rows of what a crash in a run leaves: the first ones of the replies, computed on small cases.
 use Rattle.std.proofs.Common.{[], ◌∷◌, refl}
-use Rattle.lz_proto.specs.declared.request.Request.TheVariants.{Has}
-use Rattle.lz_proto.specs.declared.reply.Reply.TheVariants.{Yes, No, Worn, Halted}
+use Rattle.lz_proto.specs.declared.{request.Request.TheVariants.{Has}, reply.Reply.TheVariants.{Yes, No, Worn, Halted}}
 use Rattle.lazyset_commands.specs.Runs.{AreFirst, Collects}
 
 -- three additions were answered yes: the first two are done, or the third is under way too

@@ -1,36 +1,22 @@
 -- What a service leaves whose passes were handed back.
-use Rattle.std.proofs.Common.{◌≡◌, ◌⊎◌, inl, inr, ⊎_elim, All, Bool, true, false, ℕ, ◌≤◌, ◌<◌, zero, suc, List, [], ◌∷◌, length, map, refl, sym, ap, ◌∙◌, subst, Some, None, eq-eqb}
-use Rattle.std.specs.Prelude.{◌==◌, ◌||◌, Option, get_or}
-use Rattle.std.specs.List.{AllByRecursion, Any, list_any}
-use Rattle.std.proofs.lemmas.Bool.{eqb-true}
-use Rattle.std.proofs.lemmas.List.{get_or-map, length-map}
-use Rattle.std.proofs.lemmas.List.Elements.{All-from_recursion, All-map, recursion_from_All}
-use Rattle.std.proofs.lemmas.List.Folds.{Any-from_list_any, list_any-from_Any}
+use Rattle.std.proofs.Common.{◌≡◌, ◌⊎◌, inl, inr, ⊎_elim, All, Bool, true, false, ℕ, ◌≤◌, ◌<◌, zero, suc, List, [], ◌∷◌, length, map, refl, sym, ap, ◌∙◌, subst}
+use Rattle.std.proofs.{Common.{Some, None, eq-eqb}, lemmas.{Bool.{eqb-true}, List.{get_or-map, length-map}}}
+use Rattle.std.proofs.lemmas.List.{Elements.{All-from_recursion, All-map, recursion_from_All}, Folds.{Any-from_list_any, list_any-from_Any}}
+use Rattle.std.specs.{Prelude.{◌==◌, ◌||◌, Option, get_or}, List.{AllByRecursion, Any, list_any}}
 use mathlib.Core.Bool.{true≢false}
-use Rattle.lz_slot.specs.declared.command.Command.{Command}
-use Rattle.lz_slot.specs.Histories.{History}
+use Rattle.lz_slot.specs.{declared.command.Command.{Command}, Histories.{History}}
 use Rattle.lz_disk.specs.Devices.{Device}
 use Rattle.lz_vault.specs.Vaults.{last_sync}
-use Rattle.lz_list.specs.Traces.{Trace}
-use Rattle.lz_machine.specs.declared.event.Reply.{Reply}
-use Rattle.lz_machine.specs.declared.event.Reply.TheVariants.{Halted, Device as failed_device}
-use Rattle.lz_machine.specs.Yards.{Shape}
-use Rattle.lz_board.specs.declared.pass.Pass.{Pass}
-use Rattle.lz_board.specs.declared.view.Part.{Part}
-use Rattle.lz_list.specs.declared.layout.Sizes.{Sizes}
-use Rattle.lz_board.specs.Notes.{Extends, shape_of_sizes, trace_of}
-use Rattle.lz_board.specs.Plays.{knowing, parts_from}
-use Rattle.lz_board.specs.Seats.{BoardId, IsOf, part}
-use Rattle.lz_board.proofs.Walk.GlanceAnswer.{halt_since}
-use Rattle.lz_tie.specs.Marks.{NoneIsCut, marks_in}
-use Rattle.lz_tie.specs.OwnCalls.{Ending, SeenCall, calls_of, ending_in, shown, told, unnumbered}
+use Rattle.lz_list.specs.{Traces.{Trace}, declared.layout.Sizes.{Sizes}}
+use Rattle.lz_machine.specs.{declared.event.Reply.{Reply, TheVariants.{Halted, Device as failed_device}}, Yards.{Shape}}
+use Rattle.lz_board.specs.{declared.{pass.Pass.{Pass}, view.Part.{Part}}, Notes.{Extends, shape_of_sizes, trace_of}, Plays.{knowing, parts_from}}
+use Rattle.lz_board.{specs.Seats.{BoardId, IsOf, part}, proofs.Walk.GlanceAnswer.{halt_since}}
+use Rattle.lz_tie.specs.{Marks.{NoneIsCut, marks_in}, OwnCalls.{Ending, SeenCall, calls_of, ending_in, shown, told, unnumbered}}
 use Rattle.lz_tie.proofs.Marks.CutCalls.{HasCut, IsCutIn, cut_in, is_cut}
-use Rattle.lz_set.specs.Blanks.{AreNew}
-use Rattle.lz_set.specs.Left.{IsLeftWith, IsWelcome}
+use Rattle.lz_set.specs.{Blanks.{AreNew}, Left.{IsLeftWith, IsWelcome}}
 use Rattle.lz_serve.specs.Halts.{IsCalm, SawHalt, was_cut}
 use Rattle.lazyset_commands.specs.Services.{AreAllPasses, AreUnused, ServedPasses}
-use Rattle.lazyset_offline.specs.declared.status.Status.{Status}
-use Rattle.lazyset_offline.specs.declared.status.Status.TheVariants.{Done, Failed}
+use Rattle.lazyset_offline.specs.declared.status.Status.{Status, TheVariants.{Done, Failed}}
 
 length_parts : (z : Sizes) (opened : Trace) (n p : ℕ) → length (parts_from z opened n p) ≡ n
 length_parts z opened zero p = refl

@@ -1,13 +1,9 @@
 -- What the plain set replies to a request.
-use Rattle.std.specs.Prelude.{◌≡◌, ◌⊎◌, ℕ, true, false}
-use Rattle.lz_slot.specs.Sets.{Keys, key_of, after, reply, HasMembers}
-use Rattle.lz_slot.specs.declared.command.Command.{Command}
 use Rattle.lz_slot.specs.declared.command.Command.TheVariants as command
-use Rattle.lz_slot.specs.declared.format.Format.{Format}
+use Rattle.std.specs.Prelude.{◌≡◌, ◌⊎◌, ℕ, true, false}
+use Rattle.lz_slot.specs.{Sets.{Keys, key_of, after, reply, HasMembers}, declared.{command.Command.{Command}, format.Format.{Format}}}
 use Rattle.lz_machine.specs.Table.{is_old}
-use Rattle.lz_proto.specs.declared.request.Request.{Request}
-use Rattle.lz_proto.specs.declared.request.Request.TheVariants.{Add, Remove, Has, Quit}
-use Rattle.lz_proto.specs.declared.reply.Reply.{Reply}
+use Rattle.lz_proto.specs.declared.{request.Request.{Request, TheVariants.{Add, Remove, Has, Quit}}, reply.Reply.{Reply}}
 use Rattle.lz_proto.specs.declared.reply.Reply.TheVariants.{Yes, No, Full, Halted, Worn, OldFile}
 
 -- a command that would make a new member finds the set with fewer than N

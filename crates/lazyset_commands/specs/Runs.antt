@@ -1,34 +1,18 @@
 -- What a run of commands does, by the one pass of a set, and what it leaves of the disk.
-use Rattle.std.specs.Prelude.{◌≡◌, ◌⊎◌, ℕ, ◌≤◌, ◌<◌, false, Option, Result, Ok, List, [], ◌∷◌, ◌++◌}
-use Rattle.std.specs.Io.KnownBytes.{Appends}
-use Rattle.lz_slot.specs.Sets.{Keys}
-use Rattle.lz_slot.specs.Bytes.{Holds}
-use Rattle.lz_slot.specs.declared.format.Format.{Format}
-use Rattle.lz_disk.specs.Images.{Medium, IsImage}
-use Rattle.lz_disk.specs.Devices.{Device, LeavesOnly}
-use Rattle.lz_vault.specs.Vaults.{last_sync}
-use Rattle.lz_proto.specs.Lines.{Items}
-use Rattle.lz_proto.specs.declared.item.Item.{Item}
-use Rattle.lz_proto.specs.declared.request.Request.{Request}
-use Rattle.lz_proto.specs.declared.reply.Reply.{Reply}
-use Rattle.lz_proto.specs.declared.reply.Reply.TheVariants.{Halted}
-use Rattle.lz_proto.specs.declared.end.End.{End}
 use Rattle.lz_proto.specs.declared.end.End.TheVariants as ends
-use Rattle.lz_proto.specs.declared.fault.SessionFault.{SessionFault}
-use Rattle.lz_proto.specs.Sessions.{IsInput, Serves, SessionTells, Writes, session_text}
+use Rattle.std.specs.{Prelude.{◌≡◌, ◌⊎◌, ℕ, ◌≤◌, ◌<◌, false, Option, Result, Ok, List, [], ◌∷◌, ◌++◌}, Io.KnownBytes.{Appends}}
+use Rattle.lz_slot.specs.{Sets.{Keys}, Bytes.{Holds}, declared.format.Format.{Format}}
+use Rattle.lz_disk.specs.{Images.{Medium, IsImage}, Devices.{Device, LeavesOnly}}
+use Rattle.lz_vault.specs.Vaults.{last_sync}
+use Rattle.lz_proto.specs.{Lines.{Items}, declared.{item.Item.{Item}, request.Request.{Request}, reply.Reply.{Reply, TheVariants.{Halted}}, end.End.{End}}}
+use Rattle.lz_proto.specs.{declared.fault.SessionFault.{SessionFault}, Sessions.{IsInput, Serves, SessionTells, Writes, session_text}}
 use Rattle.lz_yard.specs.Filling.{OpensYard}
-use Rattle.lz_board.specs.declared.pass.Pass.{Pass}
-use Rattle.lz_board.specs.declared.view.Note.{Note}
-use Rattle.lz_board.specs.Opened.{opened_by}
-use Rattle.lz_board.specs.Seats.{BoardId, IsNew, part}
-use Rattle.lz_tie.specs.Holds.{sizes_of}
-use Rattle.lz_tie.specs.Sessions.{TellsAlone}
-use Rattle.lz_set.specs.Blanks.{BlankOver}
-use Rattle.lz_set.specs.Left.{IsLeft}
+use Rattle.lz_board.specs.{declared.{pass.Pass.{Pass}, view.Note.{Note}}, Opened.{opened_by}, Seats.{BoardId, IsNew, part}}
+use Rattle.lz_tie.specs.{Holds.{sizes_of}, Sessions.{TellsAlone}}
+use Rattle.lz_set.specs.{Blanks.{BlankOver}, Left.{IsLeft}}
 use Rattle.lz_serve.specs.Replies.{SeatAnswers}
-use Rattle.lazyset_offline.specs.Ends.{session_status}
+use Rattle.lazyset_offline.specs.{Ends.{session_status}, declared.status.Status.{Status}}
 use Rattle.lazyset_commands.specs.PlainReplies.{PassAnswers}
-use Rattle.lazyset_offline.specs.declared.status.Status.{Status}
 
 -- each image of the disk is a file of N slots that holds the set S
 abbrev pub EachHolds : Medium → ℕ → Keys → Type 0

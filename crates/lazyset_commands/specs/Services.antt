@@ -1,28 +1,13 @@
 -- What a service of a set does: its passes are served, each by a thread, or by loops.
-use Rattle.std.specs.Prelude.{◌≡◌, ◌⊎◌, ◌≤◌, ◌<◌, ℕ, All, List, [], ◌∷◌, ◌++◌, codes, decimal, length, Option, None, Some, Result, Ok, Err}
-use Rattle.std.specs.List.{Any}
+use Rattle.std.specs.{Prelude.{◌≡◌, ◌⊎◌, ◌≤◌, ◌<◌, ℕ, All, List, [], ◌∷◌, ◌++◌, codes, decimal, length, Option, None, Some, Result, Ok, Err}, List.{Any}}
 use Rattle.lz_disk.specs.Devices.{Device}
-use Rattle.lz_vault.specs.Opens.{IsRefusedFor}
-use Rattle.lz_vault.specs.Vaults.{last_sync}
-use Rattle.lz_vault.specs.declared.opening.OpenFault.{OpenFault}
+use Rattle.lz_vault.specs.{Opens.{IsRefusedFor}, Vaults.{last_sync}, declared.opening.OpenFault.{OpenFault}}
 use Rattle.lz_yard.specs.Filling.{OpensYard}
-use Rattle.lz_board.specs.declared.view.Note.{Note}
-use Rattle.lz_board.specs.declared.view.Part.{Part}
-use Rattle.lz_board.specs.Notes.{shape_of_sizes}
-use Rattle.lz_board.specs.Opened.{opened_by}
-use Rattle.lz_board.specs.Seats.{BoardId}
-use Rattle.lz_tie.specs.Holds.{sizes_of}
-use Rattle.lz_tie.specs.Marks.{NoneIsCut, marks_in}
-use Rattle.lz_set.specs.Blanks.{BlankOver}
-use Rattle.lz_set.specs.Left.{IsLeft, IsLeftWith}
-use Rattle.lazyset_offline.specs.Ends.{open_status}
-use Rattle.lazyset_offline.specs.Refusals.{refusal_text}
-use Rattle.lz_proto.specs.Steps.{SendTells}
-use Rattle.lz_proto.specs.declared.fault.SessionFault.{SessionFault}
-use Rattle.lz_proto.specs.declared.fault.SessionFault.TheVariants.{Write}
-use Rattle.lazyset_offline.specs.Tellings.{Tells}
-use Rattle.lazyset_offline.specs.declared.status.Status.{Status}
-use Rattle.lazyset_offline.specs.declared.status.Status.TheVariants.{Done, Failed}
+use Rattle.lz_board.specs.{declared.view.{Note.{Note}, Part.{Part}}, Notes.{shape_of_sizes}, Opened.{opened_by}, Seats.{BoardId}}
+use Rattle.lz_tie.specs.{Holds.{sizes_of}, Marks.{NoneIsCut, marks_in}}
+use Rattle.lz_set.specs.{Blanks.{BlankOver}, Left.{IsLeft, IsLeftWith}}
+use Rattle.lazyset_offline.specs.{Ends.{open_status}, Refusals.{refusal_text}, Tellings.{Tells}, declared.status.Status.{Status, TheVariants.{Done, Failed}}}
+use Rattle.lz_proto.specs.{Steps.{SendTells}, declared.fault.SessionFault.{SessionFault, TheVariants.{Write}}}
 
 -- each pass of the set is among these
 abbrev pub AreAllPasses : BoardId → List Part → Type 0

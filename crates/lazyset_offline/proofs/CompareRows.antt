@@ -1,11 +1,7 @@
 -- Worked rows of what is told of two files: comparisons that must not be.
 use Rattle.std.proofs.Common.{◌≡◌, ⊎_elim, ℕ, ◌+◌, ◌*◌, List, [], ◌∷◌, ◌++◌, codes, get_or, Option, Some, Result, Ok, Err, refl, ap, arith}
-use Rattle.lz_judge.specs.Renewals.{IsVerdictOn}
-use Rattle.lz_judge.specs.declared.renewing.RenewFlaw.{RenewFlaw}
-use Rattle.lz_judge.specs.declared.renewing.RenewFlaw.TheVariants.{NotHeld, Missing, Extra}
-use Rattle.lazyset_offline.specs.Comparisons.{IsCompared, verdict_status, verdict_text}
-use Rattle.lazyset_offline.specs.Tellings.{Tells}
-use Rattle.lazyset_offline.specs.declared.status.Status.TheVariants.{Done, Damaged}
+use Rattle.lz_judge.specs.{Renewals.{IsVerdictOn}, declared.renewing.RenewFlaw.{RenewFlaw, TheVariants.{NotHeld, Missing, Extra}}}
+use Rattle.lazyset_offline.specs.{Comparisons.{IsCompared, verdict_status, verdict_text}, Tellings.{Tells}, declared.status.Status.TheVariants.{Done, Damaged}}
 
 -- two empty texts hold no set, so they aren't told as the same
 empty_not_same : (before after : Option (List ℕ)) → IsCompared [] [] Done before after → ⊥

@@ -1,8 +1,6 @@
 -- Keys that a scan told, of which a file is made.
 use Rattle.std.proofs.Common.{◌≡◌, ℕ, ◌≤◌, List, length, get_or, Option, refl, sym, subst}
-use Rattle.lz_slot.specs.Limits.{largest_key, last_room}
-use Rattle.lz_slot.specs.Rooms.{largest_of, last_room_of}
-use Rattle.lz_slot.specs.declared.format.Format.{Format}
+use Rattle.lz_slot.specs.{Limits.{largest_key, last_room}, Rooms.{largest_of, last_room_of}, declared.format.Format.{Format}}
 use Rattle.lz_slot.specs.declared.format.Format.TheVariants.{One, Two, Three, Four}
 use Rattle.lz_scan.specs.Scanning.{IsScan}
 use Rattle.lz_vault.specs.Makes.{MayBeMembers}

@@ -1,34 +1,17 @@
 -- What a growth reads again, and what it leaves.
-use Rattle.std.proofs.Common.{◌≡◌, ◌⊎◌, inl, inr, ⊎_elim, ℕ, ◌≤◌, ◌<◌, List, length, take, get_or, Result, Ok, Err, IsTrue, sym, ◌∙◌, ap, subst, arith}
-use Rattle.std.specs.Prelude.{All, IsErrOf, ◌↔◌}
-use Rattle.std.specs.Cmp.{both_ways}
-use Rattle.std.proofs.lemmas.List.Elements.{All-get_or}
-use Rattle.std.proofs.lemmas.Bool.Decides.{nat_tests}
-use Rattle.lz_slot.specs.Bytes.{Holds, format_of, header_read}
-use Rattle.lz_slot.specs.Limits.{last_room}
-use Rattle.lz_slot.specs.Rooms.{largest_of, last_room_of}
-use Rattle.lz_slot.specs.Sets.{Keys, Same, members}
-use Rattle.lz_slot.specs.declared.format.Format.{Format}
-use Rattle.lz_slot.proofs.Files.HeadBytes.{head_alone}
-use Rattle.lz_slot.proofs.Files.HeldSets.{holds_same_set}
-use Rattle.lz_disk.specs.Images.{Medium, IsImage, synced}
-use Rattle.lz_disk.specs.Devices.{Device, IsTimely, LeavesOnly}
-use Rattle.lz_disk.proofs.Moments.{leaves_more, leaves_then}
-use Rattle.lz_disk.proofs.Writes.{synced_image}
-use Rattle.lz_judge.proofs.OneSet.{held_alike}
-use Rattle.lz_judge.proofs.Surveys.SoundFile.{held_head}
-use Rattle.lz_vault.specs.Makes.{IsBadCount}
-use Rattle.lz_vault.specs.Opens.{IsFaultOf, IsRefusedFor}
-use Rattle.lz_vault.specs.Renewals.{AreHeldBy, OnlySyncs, Renews}
-use Rattle.lz_vault.specs.declared.opening.OpenFault.{OpenFault}
-use Rattle.lz_vault.specs.declared.opening.OpenFault.TheVariants.{Device as DeviceFailed, Memory}
 use Rattle.lz_vault.specs.declared.making.MakeFault.TheVariants as making
-use Rattle.lz_vault.specs.declared.renewing.RenewFault.{RenewFault}
-use Rattle.lz_vault.specs.declared.renewing.RenewFault.TheVariants.{Old, New}
-use Rattle.lz_vault.proofs.ReadAgain.{are_its_keys}
-use Rattle.lazyset_offline.specs.Growths.{HoldOneSetAtRest, IsGrowth, IsLeftOrHolds, IsUnread, MayBeLeft, new_fault}
-use Rattle.lazyset_offline.specs.declared.growing.Standing.{Standing}
 use Rattle.lazyset_offline.specs.declared.growing.Standing.TheVariants as stands
+use Rattle.std.proofs.Common.{◌≡◌, ◌⊎◌, inl, inr, ⊎_elim, ℕ, ◌≤◌, ◌<◌, List, length, take, get_or, Result, Ok, Err, IsTrue, sym, ◌∙◌, ap, subst, arith}
+use Rattle.std.{proofs.lemmas.{List.Elements.{All-get_or}, Bool.Decides.{nat_tests}}, specs.{Prelude.{All, IsErrOf, ◌↔◌}, Cmp.{both_ways}}}
+use Rattle.lz_slot.specs.{Bytes.{Holds, format_of, header_read}, Limits.{last_room}, Rooms.{largest_of, last_room_of}, Sets.{Keys, Same, members}}
+use Rattle.lz_slot.{specs.declared.format.Format.{Format}, proofs.Files.{HeadBytes.{head_alone}, HeldSets.{holds_same_set}}}
+use Rattle.lz_disk.{specs.{Images.{Medium, IsImage, synced}, Devices.{Device, IsTimely, LeavesOnly}}, proofs.Moments.{leaves_more, leaves_then}}
+use Rattle.lz_disk.proofs.Writes.{synced_image}
+use Rattle.lz_judge.proofs.{OneSet.{held_alike}, Surveys.SoundFile.{held_head}}
+use Rattle.lz_vault.specs.{Makes.{IsBadCount}, Opens.{IsFaultOf, IsRefusedFor}, Renewals.{AreHeldBy, OnlySyncs, Renews}, declared.opening.OpenFault.{OpenFault}}
+use Rattle.lz_vault.specs.declared.{opening.OpenFault.TheVariants.{Device as DeviceFailed, Memory}, renewing.RenewFault.{RenewFault, TheVariants.{Old, New}}}
+use Rattle.lz_vault.proofs.ReadAgain.{are_its_keys}
+use Rattle.lazyset_offline.specs.{Growths.{HoldOneSetAtRest, IsGrowth, IsLeftOrHolds, IsUnread, MayBeLeft, new_fault}, declared.growing.Standing.{Standing}}
 use Rattle.lazyset_offline.proofs.HeldKeys.{fit as held_fit}
 
 -- a file that holds a set has no fault of its own

@@ -1,17 +1,11 @@
 -- Worked rows: what may be put, what is left under the name, and how a growth isn't refused.
-use Rattle.std.proofs.Common.{◌≡◌, ⊎_elim, ℕ, ◌+◌, ◌*◌, List, [], ◌∷◌, length, get_or, Ok, IsTrue, refl, sym, ◌∙◌, arith}
-use Rattle.lz_slot.specs.Bytes.{format_of, open_byte}
-use Rattle.lz_slot.specs.Sets.{Keys}
-use Rattle.lz_slot.specs.declared.format.Format.{Format}
-use Rattle.lz_slot.specs.declared.format.Format.TheVariants.{Two, Three}
-use Rattle.lz_disk.specs.Images.{IsImage}
-use Rattle.lz_disk.specs.Devices.{Device}
 use Rattle.lz_vault.specs.declared.making.MakeFault.TheVariants as making
-use Rattle.lz_vault.specs.declared.renewing.RenewFault.{RenewFault}
-use Rattle.lz_vault.specs.declared.renewing.RenewFault.TheVariants.{New}
-use Rattle.lazyset_offline.specs.Growths.{HoldOneSetAtRest, IsLeftOrHolds, IsRefusedLate, IsUnread, MayBeLeft, growth_text}
-use Rattle.lazyset_offline.specs.Renewals.{renewal_text}
 use Rattle.lazyset_offline.specs.declared.growing.Standing.TheVariants as stands
+use Rattle.std.proofs.Common.{◌≡◌, ⊎_elim, ℕ, ◌+◌, ◌*◌, List, [], ◌∷◌, length, get_or, Ok, IsTrue, refl, sym, ◌∙◌, arith}
+use Rattle.lz_slot.specs.{Bytes.{format_of, open_byte}, Sets.{Keys}, declared.format.Format.{Format, TheVariants.{Two, Three}}}
+use Rattle.lz_disk.specs.{Images.{IsImage}, Devices.{Device}}
+use Rattle.lz_vault.specs.declared.renewing.RenewFault.{RenewFault, TheVariants.{New}}
+use Rattle.lazyset_offline.specs.{Growths.{HoldOneSetAtRest, IsLeftOrHolds, IsRefusedLate, IsUnread, MayBeLeft, growth_text}, Renewals.{renewal_text}}
 
 -- a new file whose gate isn't durable yet isn't put
 loose_gate : (old new : Device) → IsTrue old.honest → IsTrue new.honest → new.medium.loose ≡ (0, open_byte ∷ []) ∷ [] → HoldOneSetAtRest old new → ⊥

@@ -1,21 +1,11 @@
 -- The keys that the slots of a file hold, in the order of the slots.
-use Rattle.std.proofs.Common.{◌≡◌, ◌≢◌, ⊎_elim, ℕ, zero, suc, ◌<◌, ◌≤◌, true, false, List, [], ◌∷◌, ◌++◌, nat_eq, refl, sym, ap, subst, ◌∙◌, arith}
-use Rattle.std.specs.Prelude.{All, map, ◌||◌, ◌==◌}
-use Rattle.std.specs.Cmp.{nat_eq_equiv}
-use Rattle.std.specs.List.{IsDistinct, list_any}
-use Rattle.std.proofs.lemmas.Bool.{cases_eq, or_cases, eqb-true, eq-eqb}
-use Rattle.std.proofs.lemmas.Bool.Decides.{nat_tests}
-use Rattle.std.proofs.lemmas.List.{append-nil, map-append}
-use Rattle.std.proofs.lemmas.List.Elements.{All-nil, All-map, All-head, All-tail, All-push, All-weaker}
-use Rattle.std.proofs.lemmas.List.Folds.{list_any-append}
-use Rattle.std.proofs.lemmas.Map.Keys.{IsDistinct-push}
-use Rattle.lz_slot.specs.Rooms.{largest_of}
-use Rattle.lz_slot.specs.Sets.{Keys as SetOf, Same, members}
-use Rattle.lz_slot.specs.Bytes.{Holds, format_of, held, held_key, slot_at, slot_bytes}
-use Rattle.lz_slot.specs.declared.slot.SlotRead.{SlotRead}
 use Rattle.lz_slot.specs.declared.slot.SlotRead.TheVariants as read
-use Rattle.lz_slot.proofs.Files.ExactBytes.{read_fits}
-use Rattle.lz_slot.proofs.Files.HeldSets.{holds_same_set}
+use Rattle.std.proofs.Common.{◌≡◌, ◌≢◌, ⊎_elim, ℕ, zero, suc, ◌<◌, ◌≤◌, true, false, List, [], ◌∷◌, ◌++◌, nat_eq, refl, sym, ap, subst, ◌∙◌, arith}
+use Rattle.std.proofs.lemmas.{Bool.{cases_eq, or_cases, eqb-true, eq-eqb, Decides.{nat_tests}}, List.{append-nil, map-append}}
+use Rattle.std.proofs.lemmas.{List.{Elements.{All-nil, All-map, All-head, All-tail, All-push, All-weaker}, Folds.{list_any-append}}, Map.Keys.{IsDistinct-push}}
+use Rattle.std.specs.{Prelude.{All, map, ◌||◌, ◌==◌}, Cmp.{nat_eq_equiv}, List.{IsDistinct, list_any}}
+use Rattle.lz_slot.specs.{Rooms.{largest_of}, Sets.{Keys as SetOf, Same, members}, Bytes.{Holds, format_of, held, held_key, slot_at, slot_bytes}}
+use Rattle.lz_slot.{specs.declared.slot.SlotRead.{SlotRead}, proofs.Files.{ExactBytes.{read_fits}, HeldSets.{holds_same_set}}}
 use Rattle.lz_judge.specs.Surveys.{open_slot, open_slots}
 use Rattle.lz_vault.specs.Renewals.{AreHeldBy}
 use Rattle.lz_scan.proofs.OneEach.{none_twice}

@@ -1,9 +1,6 @@
 -- What the lines of renewals say, case by case.
-use Rattle.std.proofs.Common.{◌≡◌, ℕ, arith}
-use Rattle.std.proofs.lemmas.Bool.Decides.{nat_tests}
-use Rattle.lz_vault.specs.Opens.{open_fault_number}
-use Rattle.lz_vault.specs.declared.opening.OpenFault.{OpenFault}
-use Rattle.lz_vault.specs.declared.opening.OpenFault.TheVariants.{BadKey, Twice}
+use Rattle.std.proofs.{Common.{◌≡◌, ℕ, arith}, lemmas.Bool.Decides.{nat_tests}}
+use Rattle.lz_vault.specs.{Opens.{open_fault_number}, declared.opening.OpenFault.{OpenFault, TheVariants.{BadKey, Twice}}}
 use Rattle.lazyset_offline.specs.Renewals.{old_number_text, old_text}
 
 -- a fault of an old file without slots is told by its number

@@ -1,28 +1,18 @@
 -- A list of keys that is read in pieces.
-use Rattle.std.proofs.Common.{◌≡◌, ◌≢◌, inl, inr, ℕ, ◌+◌, ◌-◌, ◌<◌, ◌≤◌, List, [], ◌∷◌, ◌++◌, length, take, drop, false, Option, Some, None, refl, sym, ap, subst, ◌∙◌, arith, append_assoc, length-append, decimal}
-use Rattle.std.specs.Prelude.{IfErr, IfOk, IfSome, map, Result, Ok, Err, nat_eq, ◌||◌}
-use Rattle.std.specs.Io.KnownBytes.{Consumes, IsAtEnd}
-use Rattle.std.proofs.lemmas.Bool.{cond_both}
-use Rattle.std.proofs.lemmas.Bool.Decides.{nat_tests}
-use Rattle.std.proofs.lemmas.Fmt.{length-decimal-le}
-use Rattle.std.proofs.lemmas.List.{append-nil, drop-drop, length-take, take_rest}
-use Rattle.std.proofs.lemmas.List.Folds.{list_any-append}
+use Rattle.std.proofs.Common.{◌≡◌, ◌≢◌, inl, inr, ℕ, ◌+◌, ◌-◌, ◌<◌, ◌≤◌, List, [], ◌∷◌, ◌++◌, length, take, drop, false, Option, Some, None, refl, sym, ap}
+use Rattle.std.proofs.{Common.{subst, ◌∙◌, arith, append_assoc, length-append, decimal}, lemmas.Bool.{cond_both, Decides.{nat_tests}}}
+use Rattle.std.proofs.lemmas.{Fmt.{length-decimal-le}, List.{append-nil, drop-drop, length-take, take_rest, Folds.{list_any-append}}}
+use Rattle.std.specs.{Prelude.{IfErr, IfOk, IfSome, map, Result, Ok, Err, nat_eq, ◌||◌}, Io.KnownBytes.{Consumes, IsAtEnd}}
 use Rattle.memchr.specs.Find.{IsFirstByte, is_byte}
-use Rattle.lz_slot.specs.Rooms.{number_of, room_of}
-use Rattle.lz_slot.specs.Texts.{Spells}
-use Rattle.lz_slot.specs.declared.format.Format.{Format}
-use Rattle.lz_slot.proofs.Files.ExactBytes.{key_of_format}
+use Rattle.lz_slot.{specs.{Rooms.{number_of, room_of}, Texts.{Spells}, declared.format.Format.{Format}}, proofs.Files.ExactBytes.{key_of_format}}
 use Rattle.lz_slot.proofs.Texts.Cuts.{cut_at, first_cut, lacks_more, stands}
 use Rattle.lz_judge.specs.Places.{IsTable}
 use Rattle.lz_proto.specs.Lines.{has_line_feed, line_feed, without_return}
 use Rattle.lz_vault.specs.Makes.{MayBeMembers}
 use Rattle.lazyset_offline.specs.Lists.{AddsKey, HasFirstLine, HasNoKey, IsLineFaultOf, IsListFaultOf, Lists, nothing, SpellsKey}
-use Rattle.lazyset_offline.specs.ListParts.{BeginsList, EndsWith, FailsAtEnd, FailsIn, GoesOn, HasRead, IsOpenList, Leaves}
-use Rattle.lazyset_offline.specs.declared.list.KeyList.{KeyList}
-use Rattle.lazyset_offline.specs.declared.list.ListFault.{ListFault}
-use Rattle.lazyset_offline.specs.declared.list.ListFault.TheVariants.{Line, Twice}
+use Rattle.lazyset_offline.specs.{ListParts.{BeginsList, EndsWith, FailsAtEnd, FailsIn, GoesOn, HasRead, IsOpenList, Leaves}, declared.list.KeyList.{KeyList}}
+use Rattle.lazyset_offline.{specs.declared.list.ListFault.{ListFault, TheVariants.{Line, Twice}}, proofs.Listed.{one_more}}
 use Rattle.lz_scan.proofs.OneEach.{none_twice}
-use Rattle.lazyset_offline.proofs.Listed.{one_more}
 
 -- a line that goes on has no line feed where neither part has one
 pub clear_both : (line part : List ℕ) → has_line_feed line ≡ false → has_line_feed part ≡ false → has_line_feed (line ++ part) ≡ false

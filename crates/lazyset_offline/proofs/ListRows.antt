@@ -1,16 +1,11 @@
 -- Worked rows: texts that list keys, and texts that must not.
-use Rattle.std.proofs.Common.{◌≡◌, ℕ, List, [], ◌∷◌, ◌++◌, codes, true, false, refl, sym, ap, subst, ◌∙◌, arith}
-use Rattle.std.specs.List.{IsDistinct}
-use Rattle.lz_slot.specs.declared.format.Format.{Format}
-use Rattle.lz_slot.specs.declared.format.Format.TheVariants.{One, Two}
-use Rattle.lz_slot.specs.declared.spelling.KeyFault.TheVariants.{NoNumber}
+use Rattle.std.{proofs.Common.{◌≡◌, ℕ, List, [], ◌∷◌, ◌++◌, codes, true, false, refl, sym, ap, subst, ◌∙◌, arith}, specs.List.{IsDistinct}}
+use Rattle.lz_slot.specs.declared.{format.Format.{Format, TheVariants.{One, Two}}, spelling.KeyFault.TheVariants.{NoNumber}}
 use Rattle.lz_slot.proofs.Texts.Cuts.{first_cut, stands}
 use Rattle.lz_proto.specs.Lines.{has_line_feed, line_feed}
-use Rattle.lazyset_offline.specs.Lists.{IsListFaultOf, Lists, nothing, more, SpellsKey}
-use Rattle.lazyset_offline.specs.declared.list.ListFault.TheVariants.{Line, Twice}
+use Rattle.lazyset_offline.specs.{Lists.{IsListFaultOf, Lists, nothing, more, SpellsKey}, declared.list.ListFault.TheVariants.{Line, Twice}}
+use Rattle.lazyset_offline.proofs.{Listed.{spelled_by, spelled_not, spelled_other}, OneList.{no_bad_line, no_key_again, not_empty}}
 use Rattle.lz_scan.proofs.OneEach.{none_twice}
-use Rattle.lazyset_offline.proofs.Listed.{spelled_by, spelled_not, spelled_other}
-use Rattle.lazyset_offline.proofs.OneList.{no_bad_line, no_key_again, not_empty}
 
 -- Keys of two spellings, and a carriage return; no line is a list of no keys.
 two_keys : Lists Two (codes "0:7" ++ 10 ∷ codes "3:8" ++ 13 ∷ 10 ∷ []) (7 ∷ 3000000000000000008 ∷ [])

@@ -1,17 +1,9 @@
 -- A list of keys that is read a line at a time.
 use Rattle.std.proofs.Common.{◌≡◌, ℕ, zero, suc, ◌<◌, ◌≤◌, List, [], ◌∷◌, ◌++◌, length, get_or, false, Ok, Err, sym, subst, ⊎_elim, arith, append_assoc}
-use Rattle.std.specs.Prelude.{nat_eq}
-use Rattle.std.specs.Cmp.{nat_eq_equiv}
-use Rattle.std.specs.List.{IsDistinct}
-use Rattle.std.proofs.lemmas.Bool.{cases_lt}
-use Rattle.std.proofs.lemmas.Bool.Decides.{nat_tests}
-use Rattle.std.proofs.lemmas.Map.Keys.{IsDistinct-push, apart_from_distinct}
-use Rattle.lz_slot.specs.Rooms.{largest_of}
-use Rattle.lz_slot.specs.Texts.{key_read}
-use Rattle.lz_slot.specs.declared.format.Format.{Format}
-use Rattle.lz_slot.specs.declared.spelling.KeyFault.{KeyFault}
-use Rattle.lz_slot.proofs.Files.ExactBytes.{key_of_format}
-use Rattle.lz_slot.proofs.Texts.Spellings.{read_spelled, spelled_read}
+use Rattle.std.{proofs.lemmas.{Bool.{cases_lt, Decides.{nat_tests}}, Map.Keys.{IsDistinct-push, apart_from_distinct}}, specs.Prelude.{nat_eq}}
+use Rattle.std.specs.{Cmp.{nat_eq_equiv}, List.{IsDistinct}}
+use Rattle.lz_slot.specs.{Rooms.{largest_of}, Texts.{key_read}, declared.{format.Format.{Format}, spelling.KeyFault.{KeyFault}}}
+use Rattle.lz_slot.proofs.{Files.ExactBytes.{key_of_format}, Texts.Spellings.{read_spelled, spelled_read}}
 use Rattle.lz_scan.proofs.OneEach.{unlike}
 use Rattle.lz_proto.specs.Lines.{has_line_feed, line_feed, without_return}
 use Rattle.lz_vault.specs.Makes.{MayBeMembers}

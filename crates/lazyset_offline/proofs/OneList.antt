@@ -1,19 +1,11 @@
 -- A text lists keys in one way at most, and none where a line of it is at fault.
 use Rattle.std.proofs.Common.{◌≡◌, ◌≢◌, ℕ, ◌<◌, List, [], ◌∷◌, ◌++◌, length, get_or, true, false, refl, sym, ap, subst, ◌∙◌, arith, append_assoc, length-append}
-use Rattle.std.specs.Prelude.{◌==◌}
-use Rattle.std.proofs.lemmas.Bool.{eqb-true}
-use Rattle.std.proofs.Math.ListN.{get_or-append}
-use Rattle.std.proofs.Math.Seq.{get_or-append_seam}
-use Rattle.std.proofs.lemmas.List.{append_cancel_left, get_or_default}
-use Rattle.std.proofs.lemmas.List.Folds.{Any-from_list_any}
-use Rattle.std.proofs.lemmas.Bool.Decides.{nat_tests}
-use Rattle.lz_slot.specs.Sets.{members}
-use Rattle.lz_slot.specs.declared.format.Format.{Format}
-use Rattle.lz_slot.proofs.Texts.Cuts.{first_cut}
+use Rattle.std.proofs.lemmas.{Bool.{eqb-true, Decides.{nat_tests}}, List.{append_cancel_left, get_or_default, Folds.{Any-from_list_any}}}
+use Rattle.std.{proofs.Math.{ListN.{get_or-append}, Seq.{get_or-append_seam}}, specs.Prelude.{◌==◌}}
+use Rattle.lz_slot.{specs.{Sets.{members}, declared.format.Format.{Format}}, proofs.Texts.Cuts.{first_cut}}
 use Rattle.lz_proto.specs.Lines.{has_line_feed, line_feed}
 use Rattle.lazyset_offline.specs.Lists.{HasKeyOf, HasNoKey, IsListFaultOf, Lists, Spelled, nothing, more, SpellsKey}
-use Rattle.lazyset_offline.specs.declared.list.ListFault.TheVariants.{Line, Twice}
-use Rattle.lazyset_offline.proofs.Listed.{read_of, same_place}
+use Rattle.lazyset_offline.{specs.declared.list.ListFault.TheVariants.{Line, Twice}, proofs.Listed.{read_of, same_place}}
 
 -- a line spells one key
 one_key : (format : Format) (line : List ℕ) (j k : ℕ) → SpellsKey format line j → SpellsKey format line k → j ≡ k

@@ -1,24 +1,13 @@
 -- A text that is sent page by page.
-use Rattle.std.proofs.Common.{◌≡◌, ℕ, ◌+◌, ◌<◌, ◌≤◌, Bool, List, [], ◌∷◌, ◌++◌, length, take, drop, get_or, Option, Result, Err, refl, sym, ap, subst, ◌∙◌, append_assoc, append-nil, Vec, Global, arith}
-use Rattle.std.specs.List.{flat_map}
-use Rattle.std.proofs.KnownBytes.{Appends-trans}
-use Rattle.std.proofs.lemmas.Grind.{flat_map-append}
-use Rattle.std.proofs.lemmas.List.{take-append-drop, take_all, take_more}
-use Rattle.std.proofs.lemmas.Bool.Decides.{nat_tests}
+use Rattle.std.proofs.Common.{◌≡◌, ℕ, ◌+◌, ◌<◌, ◌≤◌, Bool, List, [], ◌∷◌, ◌++◌, length, take, drop, get_or, Option, Result, Err, refl, sym, ap, subst, ◌∙◌}
+use Rattle.std.proofs.{Common.{append_assoc, append-nil, Vec, Global, arith}, KnownBytes.{Appends-trans}, lemmas.Grind.{flat_map-append}}
+use Rattle.std.{proofs.lemmas.{List.{take-append-drop, take_all, take_more}, Bool.Decides.{nat_tests}}, specs.List.{flat_map}}
 use Rattle.lz_slot.specs.declared.header.Header.{Header}
-use Rattle.lz_judge.specs.declared.finding.Finding.{Finding}
-use Rattle.lz_judge.specs.Surveys.{is_good}
-use Rattle.lz_judge.specs.declared.finding.Survey.{Survey}
-use Rattle.lz_judge.specs.declared.finding.Survey.TheVariants.{Found}
-use Rattle.lz_proto.specs.Steps.{IsCutShort, SendTells}
-use Rattle.lz_proto.specs.declared.fault.SessionFault.{SessionFault}
-use Rattle.lz_proto.specs.declared.fault.SessionFault.TheVariants.{Write}
+use Rattle.lz_judge.specs.{declared.finding.{Finding.{Finding}, Survey.{Survey, TheVariants.{Found}}}, Surveys.{is_good}}
+use Rattle.lz_proto.specs.{Steps.{IsCutShort, SendTells}, declared.fault.SessionFault.{SessionFault, TheVariants.{Write}}}
 use Rattle.lazyset_offline.specs.Checks.{end_text, found_status, found_text, head_text, line_of, shown_text, survey_status}
-use Rattle.lazyset_offline.specs.Tellings.{IsSentTo, SentOrCut, Tells, status_sent}
-use Rattle.lazyset_offline.specs.declared.shown.Shown.{Shown}
-use Rattle.lazyset_offline.specs.declared.shown.Shown.TheVariants.{Counts}
-use Rattle.lazyset_offline.specs.declared.status.Status.{Status}
-use Rattle.lazyset_offline.proofs.SentTexts.{sent_less, sent_more}
+use Rattle.lazyset_offline.specs.{Tellings.{IsSentTo, SentOrCut, Tells, status_sent}, declared.shown.Shown.{Shown, TheVariants.{Counts}}}
+use Rattle.lazyset_offline.{specs.declared.status.Status.{Status}, proofs.SentTexts.{sent_less, sent_more}}
 
 -- what was sent is cut short where the text goes on
 pub cut_within : (before after : Option (List ℕ)) (text more : List ℕ) → IsCutShort before after text → IsCutShort before after (text ++ more)

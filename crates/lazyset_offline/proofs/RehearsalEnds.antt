@@ -1,17 +1,11 @@
 -- How a rehearsal's end is told.
-use Rattle.std.proofs.Common.{◌≡◌, inl, inr, ℕ, Option, List, refl, arith, append-nil}
-use Rattle.std.proofs.lemmas.Bool.Decides.{nat_tests}
+use Rattle.lz_rehearsal.specs.declared.rehearsal.RehearsalFault.TheVariants as at
+use Rattle.std.proofs.{Common.{◌≡◌, inl, inr, ℕ, Option, List, refl, arith, append-nil}, lemmas.Bool.Decides.{nat_tests}}
 use Rattle.lz_slot.specs.declared.format.Format.{Format}
 use Rattle.lz_machine.specs.Yards.{Shape}
 use Rattle.lz_core.specs.Worlds.{IsNew, WorldOver}
-use Rattle.lz_rehearsal.specs.declared.line.Line.{Line}
-use Rattle.lz_rehearsal.specs.declared.rehearsal.RehearsalFault.{RehearsalFault}
-use Rattle.lz_rehearsal.specs.declared.rehearsal.RehearsalFault.TheVariants as at
-use Rattle.lz_rehearsal.specs.Rehearsals.{EndsAt, EndsCutShort, EndsWithin}
-use Rattle.lazyset_offline.specs.Ends.{rehearsal_status}
-use Rattle.lazyset_offline.specs.Rehearsals.{IsRehearsal, fault_text}
-use Rattle.lazyset_offline.specs.Tellings.{Tells}
-use Rattle.lazyset_offline.specs.declared.status.Status.{Status}
+use Rattle.lz_rehearsal.specs.{declared.{line.Line.{Line}, rehearsal.RehearsalFault.{RehearsalFault}}, Rehearsals.{EndsAt, EndsCutShort, EndsWithin}}
+use Rattle.lazyset_offline.specs.{Ends.{rehearsal_status}, Rehearsals.{IsRehearsal, fault_text}, Tellings.{Tells}, declared.status.Status.{Status}}
 
 abbrev Text : Type 0
 Text = Option (List ℕ)

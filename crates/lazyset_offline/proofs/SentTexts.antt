@@ -1,19 +1,11 @@
 -- What was sent of texts, one after the other.
-use Rattle.std.proofs.Common.{◌≡◌, is_ok, true, false, ◌⊎◌, inl, inr, ⊎_elim, ℕ, ◌+◌, List, [], ◌∷◌, ◌++◌, codes, decimal, length, take, Option, Result, Ok, Err, sym, ◌∙◌, subst, arith, length-append}
-use Rattle.std.proofs.Math.Seq.{take-append-add}
-use Rattle.std.proofs.lemmas.List.{take-append-le}
-use Rattle.std.specs.Io.KnownBytes.{Appends, Keeps}
-use Rattle.std.proofs.KnownBytes.{Appends-trans}
-use Rattle.std.proofs.lemmas.Bool.Decides.{nat_tests}
-use Rattle.lz_proto.specs.Steps.{SendTells}
-use Rattle.lz_proto.specs.declared.fault.SessionFault.{SessionFault}
-use Rattle.lz_proto.specs.declared.fault.SessionFault.TheVariants.{Read, Write, Memory}
-use Rattle.lazyset_offline.specs.Tellings.{Tells, status_sent}
-use Rattle.lz_vault.specs.declared.opening.OpenFault.{OpenFault}
-use Rattle.lazyset_offline.specs.Ends.{open_status}
-use Rattle.lazyset_offline.specs.Makings.{refused_text}
-use Rattle.lazyset_offline.specs.declared.status.Status.{Status}
 use Rattle.lazyset_offline.specs.declared.status.Status.TheVariants as status
+use Rattle.std.proofs.Common.{◌≡◌, is_ok, true, false, ◌⊎◌, inl, inr, ⊎_elim, ℕ, ◌+◌, List, [], ◌∷◌, ◌++◌, codes, decimal, length, take, Option, Result, Ok}
+use Rattle.std.proofs.{Common.{Err, sym, ◌∙◌, subst, arith, length-append}, Math.Seq.{take-append-add}, lemmas.List.{take-append-le}}
+use Rattle.std.{proofs.{lemmas.Bool.Decides.{nat_tests}, KnownBytes.{Appends-trans}}, specs.Io.KnownBytes.{Appends, Keeps}}
+use Rattle.lz_proto.specs.{Steps.{SendTells}, declared.fault.SessionFault.{SessionFault, TheVariants.{Read, Write, Memory}}}
+use Rattle.lazyset_offline.specs.{Tellings.{Tells, status_sent}, Ends.{open_status}, Makings.{refused_text}, declared.status.Status.{Status}}
+use Rattle.lz_vault.specs.declared.opening.OpenFault.{OpenFault}
 
 -- a text was sent whole, and then another one, or a part of it
 pub sent_more : (old mid new : Option (List ℕ)) (first second : List ℕ) (r : Result (Unit {0}) SessionFault) → Appends old mid first → SendTells mid new second r → SendTells old new (first ++ second) r

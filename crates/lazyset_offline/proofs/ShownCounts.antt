@@ -1,22 +1,12 @@
 -- The counts that are shown of a file are those of the set that it holds.
-use Rattle.std.proofs.Common.{◌≡◌, ℕ, ◌-◌, true, false, cond, List, [], ◌∷◌, ◌++◌, length, IsTrue, refl, sym, ap, subst, ◌∙◌, arith}
-use Rattle.std.specs.Prelude.{All, count_by}
-use Rattle.std.proofs.lemmas.List.{length-map}
-use Rattle.std.proofs.lemmas.List.Elements.{All-head, All-tail}
-use Rattle.std.proofs.lemmas.List.Sums.{sum_by-cons}
-use Rattle.lz_slot.specs.Bytes.{Holds, held, slot_at}
-use Rattle.lz_slot.specs.Sets.{HasMembers, Keys}
-use Rattle.lz_judge.specs.Surveys.{AreFindings, is_good, is_sound, slot_of}
-use Rattle.lz_judge.specs.declared.finding.Finding.{Finding}
-use Rattle.lz_judge.specs.declared.finding.Finding.TheVariants.{Key, BadKey, Twice}
 use Rattle.lz_judge.specs.declared.finding.Survey.TheVariants as survey
+use Rattle.std.proofs.{Common.{◌≡◌, ℕ, ◌-◌, true, false, cond, List, [], ◌∷◌, ◌++◌, length, IsTrue, refl, sym, ap, subst, ◌∙◌, arith}, lemmas.List.{length-map}}
+use Rattle.std.{proofs.lemmas.List.{Elements.{All-head, All-tail}, Sums.{sum_by-cons}}, specs.Prelude.{All, count_by}}
+use Rattle.lz_slot.specs.{Bytes.{Holds, held, slot_at}, Sets.{HasMembers, Keys}}
+use Rattle.lz_judge.specs.{Surveys.{AreFindings, is_good, is_sound, slot_of}, declared.finding.Finding.{Finding, TheVariants.{Key, BadKey, Twice}}}
 use Rattle.lz_judge.proofs.Surveys.SlotFinding.{sound_where}
-use Rattle.lazyset_offline.specs.Checks.{end_text}
-use Rattle.lazyset_offline.specs.Counts.{lines_of_counts}
-use Rattle.lazyset_offline.specs.ShownCounts.{CountsAreOfSet}
-use Rattle.lazyset_offline.specs.declared.shown.Shown.TheVariants.{Counts}
-use Rattle.lazyset_offline.proofs.HeldKeys.{keys, once, same_set, slots}
-use Rattle.lazyset_offline.proofs.ShownLists.{same_slots}
+use Rattle.lazyset_offline.specs.{Checks.{end_text}, Counts.{lines_of_counts}, ShownCounts.{CountsAreOfSet}, declared.shown.Shown.TheVariants.{Counts}}
+use Rattle.lazyset_offline.proofs.{HeldKeys.{keys, once, same_set, slots}, ShownLists.{same_slots}}
 
 -- findings without damage are all counted
 count_all : (found : List Finding) → All (λ f. IsTrue (is_sound f)) found → count_by is_sound found ≡ length found

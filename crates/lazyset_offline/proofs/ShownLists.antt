@@ -1,43 +1,23 @@
 -- The keys that are shown of a file are a list just where the file holds a set.
-use Rattle.std.proofs.Common.{◌≡◌, ℕ, ◌≤◌, Bool, true, false, List, [], ◌∷◌, ◌++◌, length, codes, nat_eq, IsTrue, Ok, Err, refl, sym, ap, subst, ◌∙◌, arith, append_assoc}
-use Rattle.std.specs.Prelude.{All, map}
-use Rattle.std.specs.Fmt.{digits}
-use Rattle.std.specs.List.{flat_map}
-use Rattle.std.proofs.lemmas.Bool.{and_parts, cond_both, eq-eqb}
-use Rattle.std.proofs.lemmas.Bool.Decides.{nat_tests}
-use Rattle.std.proofs.lemmas.List.{append-nil}
-use Rattle.std.proofs.lemmas.List.Elements.{All-head, All-tail, All-weaker}
-use Rattle.std.proofs.lemmas.List.Folds.{list_any_at}
-use Rattle.lz_slot.specs.Rooms.{largest_of, last_room_of}
-use Rattle.lz_slot.specs.Sets.{Keys as SetOf, members}
-use Rattle.lz_slot.specs.Bytes.{Holds, format_of, header_fault_number, header_read, held, slot_at, slot_bytes}
-use Rattle.lz_slot.specs.Texts.{key_read, key_text}
-use Rattle.lz_slot.specs.declared.format.Format.{Format}
-use Rattle.lz_slot.specs.declared.header.HeaderFault.{HeaderFault}
 use Rattle.lz_slot.specs.declared.header.HeaderFault.TheVariants as head
 use Rattle.lz_slot.specs.declared.slot.SlotRead.TheVariants as read
-use Rattle.lz_slot.specs.declared.spelling.KeyFault.TheVariants.{NoNumber}
-use Rattle.lz_slot.proofs.Files.ExactBytes.{key_of_format, read_fits}
-use Rattle.lz_slot.proofs.Files.HeldSets.{same_key}
-use Rattle.lz_slot.proofs.Texts.Cuts.{Lacks}
+use Rattle.lz_judge.specs.declared.finding.Survey.TheVariants as survey
+use Rattle.std.proofs.Common.{◌≡◌, ℕ, ◌≤◌, Bool, true, false, List, [], ◌∷◌, ◌++◌, length, codes, nat_eq, IsTrue, Ok, Err, refl, sym, ap, subst, ◌∙◌, arith}
+use Rattle.std.proofs.{Common.{append_assoc}, lemmas.{Bool.{and_parts, cond_both, eq-eqb, Decides.{nat_tests}}, List.{append-nil}}}
+use Rattle.std.{proofs.lemmas.List.{Elements.{All-head, All-tail, All-weaker}, Folds.{list_any_at}}, specs.{Prelude.{All, map}, Fmt.{digits}, List.{flat_map}}}
+use Rattle.lz_slot.specs.{Rooms.{largest_of, last_room_of}, Sets.{Keys as SetOf, members}}
+use Rattle.lz_slot.specs.{Bytes.{Holds, format_of, header_fault_number, header_read, held, slot_at, slot_bytes}, Texts.{key_read, key_text}}
+use Rattle.lz_slot.specs.declared.{format.Format.{Format}, header.HeaderFault.{HeaderFault}, spelling.KeyFault.TheVariants.{NoNumber}}
+use Rattle.lz_slot.proofs.{Files.{ExactBytes.{key_of_format, read_fits}, HeldSets.{same_key}}, Texts.Cuts.{Lacks}}
 use Rattle.lz_slot.proofs.Texts.Spellings.{key_text_lacks, written_keys_are_spelled}
 use Rattle.lz_proto.specs.Lines.{has_line_feed, line_feed, without_return}
-use Rattle.lz_judge.specs.Surveys.{AreFindings, IsFinding, IsSurveyed, is_good, is_sound, slot_of}
-use Rattle.lz_judge.specs.declared.finding.Finding.{Finding}
-use Rattle.lz_judge.specs.declared.finding.Finding.TheVariants.{Key, BadKey, Twice}
-use Rattle.lz_judge.specs.declared.finding.Survey.{Survey}
-use Rattle.lz_judge.specs.declared.finding.Survey.TheVariants as survey
-use Rattle.lz_judge.proofs.Surveys.SlotFinding.{sound_where}
+use Rattle.lz_judge.specs.{Surveys.{AreFindings, IsFinding, IsSurveyed, is_good, is_sound, slot_of}, declared.finding.Finding.{Finding}}
+use Rattle.lz_judge.{specs.declared.finding.{Finding.TheVariants.{Key, BadKey, Twice}, Survey.{Survey}}, proofs.Surveys.SlotFinding.{sound_where}}
 use Rattle.lz_judge.proofs.Surveys.SoundFile.{held_head}
 use Rattle.lz_vault.specs.Renewals.{AreHeldBy}
-use Rattle.lazyset_offline.specs.Checks.{end_text, line_of, shown_text}
-use Rattle.lazyset_offline.specs.Lists.{Lists, Spelled, nothing, more, SpellsKey}
-use Rattle.lazyset_offline.specs.Makings.{refused_text}
-use Rattle.lazyset_offline.specs.ShownLists.{ShownKeysAreListed}
-use Rattle.lazyset_offline.specs.declared.shown.Shown.TheVariants.{Keys}
-use Rattle.lazyset_offline.proofs.HeldKeys.{IsNodeBelow, are_held, fit, keys, nodes, once, slots}
-use Rattle.lazyset_offline.proofs.Listed.{spelled_not}
-use Rattle.lazyset_offline.proofs.OneList.{begun, one_list}
+use Rattle.lazyset_offline.specs.{Checks.{end_text, line_of, shown_text}, Lists.{Lists, Spelled, nothing, more, SpellsKey}, Makings.{refused_text}}
+use Rattle.lazyset_offline.specs.{ShownLists.{ShownKeysAreListed}, declared.shown.Shown.TheVariants.{Keys}}
+use Rattle.lazyset_offline.proofs.{HeldKeys.{IsNodeBelow, are_held, fit, keys, nodes, once, slots}, Listed.{spelled_not}, OneList.{begun, one_list}}
 
 -- a key on a line of its own
 abbrev key_line : ℕ → List ℕ

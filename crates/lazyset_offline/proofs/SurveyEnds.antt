@@ -1,12 +1,7 @@
 -- How a command ends that tells a survey.
-use Rattle.std.proofs.Common.{◌≡◌, ◌⊎◌, ℕ, List, [], Option, Some, None, refl, sym, ◌∙◌, arith}
-use Rattle.std.proofs.lemmas.Bool.Decides.{nat_tests}
-use Rattle.lz_judge.specs.Surveys.{HoldsASet, IsSurveyed, OfText}
-use Rattle.lz_judge.specs.declared.finding.Survey.{Survey}
-use Rattle.lz_judge.specs.declared.surveying.SurveyFault.{SurveyFault}
-use Rattle.lazyset_offline.specs.Checks.{LacksSurvey, no_survey_text, survey_status}
-use Rattle.lazyset_offline.specs.Tellings.{LacksMemory, Tells}
-use Rattle.lazyset_offline.specs.declared.status.Status.{Status}
+use Rattle.std.proofs.{Common.{◌≡◌, ◌⊎◌, ℕ, List, [], Option, Some, None, refl, sym, ◌∙◌, arith}, lemmas.Bool.Decides.{nat_tests}}
+use Rattle.lz_judge.specs.{Surveys.{HoldsASet, IsSurveyed, OfText}, declared.{finding.Survey.{Survey}, surveying.SurveyFault.{SurveyFault}}}
+use Rattle.lazyset_offline.specs.{Checks.{LacksSurvey, no_survey_text, survey_status}, Tellings.{LacksMemory, Tells}, declared.status.Status.{Status}}
 use Rattle.lazyset_offline.specs.declared.status.Status.TheVariants.{Done, Failed, Refused, Damaged}
 
 module _ (t : List ℕ) (survey : Survey) (surveyed : IsSurveyed t survey) (status : Status) (ends : (status ≡ Failed) ⊎ (status ≡ survey_status survey)) where

@@ -1,12 +1,10 @@
 -- The torn slots of a file are free.
-use Rattle.std.proofs.Common.{◌≡◌, ℕ, zero, suc, ◌+◌, ◌≤◌, length, ap, sym, ◌∙◌, arith, length-append}
-use Rattle.std.specs.Prelude.{if◌then◌else◌}
-use Rattle.std.proofs.lemmas.List.{length-map}
-use Rattle.lz_slot.specs.Bytes.{slot_at}
-use Rattle.lz_slot.specs.declared.slot.SlotRead.{SlotRead}
 use Rattle.lz_slot.specs.declared.slot.SlotRead.TheVariants as read
-use Rattle.lz_judge.specs.Surveys.{open_slot, open_slots, slot_of}
 use Rattle.lz_judge.specs.declared.finding.Survey.TheVariants as survey
+use Rattle.std.proofs.{Common.{◌≡◌, ℕ, zero, suc, ◌+◌, ◌≤◌, length, ap, sym, ◌∙◌, arith, length-append}, lemmas.List.{length-map}}
+use Rattle.std.specs.Prelude.{if◌then◌else◌}
+use Rattle.lz_slot.specs.{Bytes.{slot_at}, declared.slot.SlotRead.{SlotRead}}
+use Rattle.lz_judge.specs.Surveys.{open_slot, open_slots, slot_of}
 use Rattle.lazyset_offline.specs.Torn.{TornAreFree, is_torn, torn_below}
 
 -- a slot is torn, or open, or neither

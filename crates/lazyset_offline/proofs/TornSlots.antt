@@ -1,18 +1,11 @@
 -- The torn slots of a file, piece by piece.
-use Rattle.std.proofs.Common.{◌≡◌, ◌⊎◌, ℕ, zero, suc, ◌+◌, ◌*◌, ◌/◌, ◌≤◌, true, false, List, ◌++◌, length, take, refl, sym, ◌∙◌, ap, subst, arith, append_assoc, length-append, take_all, Option, Ok, Err, slice_range}
-use Rattle.std.proofs.lemmas.List.{take-append-le}
-use Rattle.std.specs.Io.KnownBytes.{Consumes}
-use Rattle.std.proofs.KnownBytes.{Consumes-trans}
-use Rattle.std.proofs.lemmas.Bool.Decides.{nat_tests}
-use Rattle.lz_slot.specs.Bytes.{format_of, gated_read, header_read, of_size, slot_at, slot_bytes, slot_read}
-use Rattle.lz_slot.specs.declared.format.Format.{Format}
-use Rattle.lz_slot.specs.declared.format.Format.TheVariants.{One, Two, Three, Four}
-use Rattle.lz_slot.specs.declared.header.HeaderFault.{HeaderFault}
-use Rattle.lz_slot.specs.declared.slot.SlotRead.{SlotRead}
+use Rattle.std.proofs.Common.{◌≡◌, ◌⊎◌, ℕ, zero, suc, ◌+◌, ◌*◌, ◌/◌, ◌≤◌, true, false, List, ◌++◌, length, take, refl, sym, ◌∙◌, ap, subst, arith, append_assoc}
+use Rattle.std.proofs.{Common.{length-append, take_all, Option, Ok, Err, slice_range}, lemmas.{List.{take-append-le}, Bool.Decides.{nat_tests}}}
+use Rattle.std.{proofs.KnownBytes.{Consumes-trans}, specs.Io.KnownBytes.{Consumes}}
+use Rattle.lz_slot.specs.{Bytes.{format_of, gated_read, header_read, of_size, slot_at, slot_bytes, slot_read}, declared.format.Format.{Format}}
+use Rattle.lz_slot.specs.declared.{format.Format.TheVariants.{One, Two, Three, Four}, header.HeaderFault.{HeaderFault}, slot.SlotRead.{SlotRead}}
 use Rattle.lz_slot.proofs.Files.HeadBytes.{format_alone, head_alone}
-use Rattle.lz_judge.specs.Scans.{IsPieceAt}
-use Rattle.lz_judge.specs.Surveys.{OfText}
-use Rattle.lz_judge.proofs.Surveys.PieceReads.{of_text, slot_in_piece}
+use Rattle.lz_judge.{specs.{Scans.{IsPieceAt}, Surveys.{OfText}}, proofs.Surveys.PieceReads.{of_text, slot_in_piece}}
 use Rattle.lazyset_offline.specs.Torn.{CountsTorn, HasTorn, is_torn, torn_below}
 
 -- one slot more

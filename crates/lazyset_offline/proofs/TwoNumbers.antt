@@ -1,9 +1,7 @@
 -- What was sent of a line of two numbers.
-use Rattle.std.proofs.Common.{◌≡◌, ℕ, List, [], ◌∷◌, ◌++◌, codes, decimal, Option, Result, Err, subst, append_assoc, arith}
+use Rattle.std.proofs.{Common.{◌≡◌, ℕ, List, [], ◌∷◌, ◌++◌, codes, decimal, Option, Result, Err, subst, append_assoc, arith}, lemmas.Bool.Decides.{nat_tests}}
 use Rattle.std.specs.Io.KnownBytes.{Appends}
-use Rattle.std.proofs.lemmas.Bool.Decides.{nat_tests}
-use Rattle.lz_proto.specs.Steps.{SendTells}
-use Rattle.lz_proto.specs.declared.fault.SessionFault.{SessionFault}
+use Rattle.lz_proto.specs.{Steps.{SendTells}, declared.fault.SessionFault.{SessionFault}}
 use Rattle.lazyset_offline.proofs.SentTexts.{sent_less, sent_more}
 
 module _ (words : List ℕ) (n m : ℕ) where

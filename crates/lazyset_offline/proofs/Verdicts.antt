@@ -1,12 +1,7 @@
 -- What a comparison of two files came to, by its verdict.
-use Rattle.std.proofs.Common.{◌≡◌, ◌⊎◌, ◌↔◌, List, ℕ, Result, arith}
-use Rattle.std.specs.Prelude.{IsOk, IfErr}
-use Rattle.std.proofs.lemmas.Bool.Decides.{nat_tests}
-use Rattle.lz_judge.specs.Renewals.{HoldOneSet, IsRenewFlaw, IsVerdictOn}
-use Rattle.lz_judge.specs.declared.renewing.RenewFlaw.{RenewFlaw}
-use Rattle.lazyset_offline.specs.Comparisons.{verdict_status}
-use Rattle.lazyset_offline.specs.declared.status.Status.{Status}
-use Rattle.lazyset_offline.specs.declared.status.Status.TheVariants.{Done, Failed, Refused, Damaged}
+use Rattle.std.{proofs.{Common.{◌≡◌, ◌⊎◌, ◌↔◌, List, ℕ, Result, arith}, lemmas.Bool.Decides.{nat_tests}}, specs.Prelude.{IsOk, IfErr}}
+use Rattle.lz_judge.specs.{Renewals.{HoldOneSet, IsRenewFlaw, IsVerdictOn}, declared.renewing.RenewFlaw.{RenewFlaw}}
+use Rattle.lazyset_offline.specs.{Comparisons.{verdict_status}, declared.status.Status.{Status, TheVariants.{Done, Failed, Refused, Damaged}}}
 
 module _ (old new : List ℕ) where
   pub verdict_true : (verdict : Result (Unit {0}) RenewFlaw) → (IsOk verdict ↔ HoldOneSet old new) → IfErr verdict (IsRenewFlaw old new) → IsVerdictOn old new verdict

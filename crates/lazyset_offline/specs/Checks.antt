@@ -1,22 +1,11 @@
 -- What is told of a file that was surveyed.
-use Rattle.std.specs.Prelude.{◌⊎◌, ℕ, Bool, true, Option, List, [], ◌∷◌, ◌++◌, codes, decimal, if◌then◌else◌}
-use Rattle.std.specs.List.{flat_map}
-use Rattle.lz_slot.specs.Bytes.{header_fault_number}
-use Rattle.lz_slot.specs.Texts.{key_text}
-use Rattle.lz_slot.specs.declared.header.Header.{Header}
-use Rattle.lz_judge.specs.Surveys.{IsSurveyOf, is_good}
-use Rattle.lz_judge.specs.declared.finding.Finding.{Finding}
-use Rattle.lz_judge.specs.declared.finding.Finding.TheVariants.{Key, BadKey, Twice}
-use Rattle.lz_judge.specs.declared.finding.Survey.{Survey}
 use Rattle.lz_judge.specs.declared.finding.Survey.TheVariants as survey
-use Rattle.lz_judge.specs.declared.surveying.SurveyFault.{SurveyFault}
-use Rattle.lz_judge.specs.declared.surveying.SurveyFault.TheVariants.{Read, Memory}
-use Rattle.lazyset_offline.specs.Counts.{counts_text}
-use Rattle.lazyset_offline.specs.Makings.{refused_text}
-use Rattle.lazyset_offline.specs.Tellings.{LacksInput, LacksMemory, Tells, memory_text, unread_text}
-use Rattle.lazyset_offline.specs.declared.shown.Shown.{Shown}
-use Rattle.lazyset_offline.specs.declared.shown.Shown.TheVariants.{Findings, Keys, Counts}
-use Rattle.lazyset_offline.specs.declared.status.Status.{Status}
+use Rattle.std.specs.{Prelude.{◌⊎◌, ℕ, Bool, true, Option, List, [], ◌∷◌, ◌++◌, codes, decimal, if◌then◌else◌}, List.{flat_map}}
+use Rattle.lz_slot.specs.{Bytes.{header_fault_number}, Texts.{key_text}, declared.header.Header.{Header}}
+use Rattle.lz_judge.specs.{Surveys.{IsSurveyOf, is_good}, declared.finding.{Finding.{Finding, TheVariants.{Key, BadKey, Twice}}, Survey.{Survey}}}
+use Rattle.lz_judge.specs.declared.surveying.SurveyFault.{SurveyFault, TheVariants.{Read, Memory}}
+use Rattle.lazyset_offline.specs.{Counts.{counts_text}, Makings.{refused_text}, Tellings.{LacksInput, LacksMemory, Tells, memory_text, unread_text}}
+use Rattle.lazyset_offline.specs.declared.{shown.Shown.{Shown, TheVariants.{Findings, Keys, Counts}}, status.Status.{Status}}
 use Rattle.lazyset_offline.specs.declared.status.Status.TheVariants.{Done, Refused, Damaged}
 
 -- the line of a finding

@@ -1,15 +1,8 @@
 -- What a check of a file against another tells.
 use Rattle.std.specs.Prelude.{◌≢◌, ◌⊎◌, ℕ, Option, List, [], ◌∷◌, ◌++◌, codes, decimal, Result, Ok, Err}
-use Rattle.lz_judge.specs.Renewals.{IsVerdictOn}
-use Rattle.lz_judge.specs.Surveys.{OfText}
-use Rattle.lz_judge.specs.declared.renewing.RenewFlaw.{RenewFlaw}
-use Rattle.lz_judge.specs.declared.renewing.RenewFlaw.TheVariants.{NotHeld, Missing, Extra}
-use Rattle.lazyset_offline.specs.Checks.{IsShown, LacksSurvey}
-use Rattle.lazyset_offline.specs.Judgements.{numbers_text}
-use Rattle.lazyset_offline.specs.Tellings.{Tells}
-use Rattle.lazyset_offline.specs.declared.shown.Shown.TheVariants.{Findings}
-use Rattle.lazyset_offline.specs.declared.status.Status.{Status}
-use Rattle.lazyset_offline.specs.declared.status.Status.TheVariants.{Done, Damaged}
+use Rattle.lz_judge.specs.{Renewals.{IsVerdictOn}, Surveys.{OfText}, declared.renewing.RenewFlaw.{RenewFlaw, TheVariants.{NotHeld, Missing, Extra}}}
+use Rattle.lazyset_offline.specs.{Checks.{IsShown, LacksSurvey}, Judgements.{numbers_text}, Tellings.{Tells}, declared.shown.Shown.TheVariants.{Findings}}
+use Rattle.lazyset_offline.specs.declared.status.Status.{Status, TheVariants.{Done, Damaged}}
 
 -- the line of a flaw that names no slot
 abbrev pub alone_text : ℕ → List ℕ

@@ -1,20 +1,13 @@
 -- What a copy of a running set leaves and tells.
-use Rattle.std.specs.Prelude.{◌≡◌, ◌≢◌, ◌⊎◌, ◌↔◌, ◌≤◌, ◌<◌, ◌++◌, ◌∷◌, [], ℕ, IfErr, IfOk, IsErrOf, IsTrue, List, Option, Result, Ok, Err, codes, decimal, length}
-use Rattle.lz_slot.specs.Sets.{members}
-use Rattle.lz_slot.specs.declared.format.Format.{Format}
-use Rattle.lz_disk.specs.Images.{IsImage}
-use Rattle.lz_disk.specs.Devices.{Device, LeavesOnly}
-use Rattle.lz_scan.specs.Scanning.{IsScan}
-use Rattle.lz_scan.specs.declared.fault.ScanFault.{ScanFault}
-use Rattle.lz_scan.specs.declared.fault.ScanFault.TheVariants.{Connection, Reply, Memory}
+use Rattle.std.specs.Prelude.{◌≡◌, ◌≢◌, ◌⊎◌, ◌↔◌, ◌≤◌, ◌<◌, ◌++◌, ◌∷◌, [], ℕ, IfErr, IfOk, IsErrOf, IsTrue, List, Option, Result, Ok, Err, codes, decimal}
+use Rattle.std.specs.Prelude.{length}
+use Rattle.lz_slot.specs.{Sets.{members}, declared.format.Format.{Format}}
+use Rattle.lz_disk.specs.{Images.{IsImage}, Devices.{Device, LeavesOnly}}
+use Rattle.lz_scan.specs.{Scanning.{IsScan}, declared.fault.ScanFault.{ScanFault, TheVariants.{Connection, Reply, Memory}}}
 use Rattle.lz_vault.specs.Makes.{IsBadCount, IsMakeFaultOf, IsRenewed, IsUnmadeOrHolds, MayBeMade, make_fault_number}
 use Rattle.lz_vault.specs.declared.making.MakeFault.TheVariants.{BadCount}
-use Rattle.lazyset_offline.specs.Ends.{make_status}
-use Rattle.lazyset_offline.specs.Makings.{refused_text, room_text}
-use Rattle.lazyset_offline.specs.Tellings.{memory_text, unread_text}
-use Rattle.lazyset_offline.specs.declared.copying.CopyFault.{CopyFault}
-use Rattle.lazyset_offline.specs.declared.copying.CopyFault.TheVariants.{OfScan, TooMany, OfMaking}
-use Rattle.lazyset_offline.specs.declared.status.Status.{Status}
+use Rattle.lazyset_offline.specs.{Ends.{make_status}, Makings.{refused_text, room_text}, Tellings.{memory_text, unread_text}}
+use Rattle.lazyset_offline.specs.declared.{copying.CopyFault.{CopyFault, TheVariants.{OfScan, TooMany, OfMaking}}, status.Status.{Status}}
 use Rattle.lazyset_offline.specs.declared.status.Status.TheVariants.{Done, Failed, Refused}
 
 -- What passed over a connection: what the service told, where it is known, and what was sent before and after.

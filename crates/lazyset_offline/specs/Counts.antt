@@ -1,9 +1,7 @@
 -- The counts of what a file holds.
 use Rattle.std.specs.Prelude.{ℕ, ◌-◌, List, [], ◌∷◌, ◌++◌, codes, count_by, decimal, length}
-use Rattle.lz_slot.specs.declared.format.Format.{Format}
-use Rattle.lz_slot.specs.declared.format.Format.TheVariants.{One, Two, Three, Four}
-use Rattle.lz_judge.specs.Surveys.{is_sound}
-use Rattle.lz_judge.specs.declared.finding.Finding.{Finding}
+use Rattle.lz_slot.specs.declared.format.Format.{Format, TheVariants.{One, Two, Three, Four}}
+use Rattle.lz_judge.specs.{Surveys.{is_sound}, declared.finding.Finding.{Finding}}
 
 -- the number that a format is asked for by
 abbrev pub format_number : Format → ℕ

@@ -1,16 +1,13 @@
 -- How a command of the program ends: the status of each end and of each fault.
-use Rattle.std.specs.Prelude.{ℕ, Result, Ok, Err}
-use Rattle.lz_proto.specs.declared.end.End.{End}
 use Rattle.lz_proto.specs.declared.end.End.TheVariants as ends
-use Rattle.lz_proto.specs.declared.fault.SessionFault.{SessionFault}
-use Rattle.lz_rehearsal.specs.declared.rehearsal.RehearsalFault.{RehearsalFault}
 use Rattle.lz_rehearsal.specs.declared.rehearsal.RehearsalFault.TheVariants as rehearsal
-use Rattle.lz_vault.specs.declared.making.MakeFault.{MakeFault}
 use Rattle.lz_vault.specs.declared.making.MakeFault.TheVariants as making
-use Rattle.lz_vault.specs.declared.opening.OpenFault.{OpenFault}
 use Rattle.lz_vault.specs.declared.opening.OpenFault.TheVariants as opening
-use Rattle.lazyset_offline.specs.declared.status.Status.{Status}
-use Rattle.lazyset_offline.specs.declared.status.Status.TheVariants.{Done, Failed, CommandLine, Refused, Damaged}
+use Rattle.std.specs.Prelude.{ℕ, Result, Ok, Err}
+use Rattle.lz_proto.specs.declared.{end.End.{End}, fault.SessionFault.{SessionFault}}
+use Rattle.lz_rehearsal.specs.declared.rehearsal.RehearsalFault.{RehearsalFault}
+use Rattle.lz_vault.specs.declared.{making.MakeFault.{MakeFault}, opening.OpenFault.{OpenFault}}
+use Rattle.lazyset_offline.specs.declared.status.Status.{Status, TheVariants.{Done, Failed, CommandLine, Refused, Damaged}}
 
 -- the exit status of the process
 abbrev pub status_code : Status → ℕ

@@ -1,22 +1,14 @@
 -- What a growth of a file leaves and tells.
-use Rattle.std.specs.Prelude.{◌≡◌, ◌≢◌, ◌⊎◌, ◌↔◌, ◌+◌, ◌*◌, ◌<◌, ◌++◌, ◌∷◌, [], ℕ, IfErr, IfOk, IsErrOf, IsTrue, OnOk, List, Result, Ok, Err, codes, decimal}
-use Rattle.lz_slot.specs.Bytes.{Holds, format_of}
-use Rattle.lz_slot.specs.Sets.{Keys}
-use Rattle.lz_slot.specs.declared.format.Format.{Format}
-use Rattle.lz_disk.specs.Images.{IsImage, at_rest}
-use Rattle.lz_disk.specs.Devices.{Device}
-use Rattle.lz_judge.specs.Renewals.{HoldOneSet}
-use Rattle.lz_vault.specs.Makes.{IsBadCount, calls_of_making}
-use Rattle.lz_vault.specs.Renewals.{IsRenewFaultOf, IsToldFirst, Renews}
-use Rattle.lz_vault.specs.Scans.{calls_of_reading}
 use Rattle.lz_vault.specs.declared.making.MakeFault.TheVariants as making
-use Rattle.lz_vault.specs.declared.opening.OpenFault.{OpenFault}
 use Rattle.lz_vault.specs.declared.opening.OpenFault.TheVariants as opening
-use Rattle.lz_vault.specs.declared.renewing.RenewFault.{RenewFault}
-use Rattle.lz_vault.specs.declared.renewing.RenewFault.TheVariants.{Old, New}
-use Rattle.lazyset_offline.specs.Renewals.{renewal_text}
-use Rattle.lazyset_offline.specs.declared.growing.Standing.{Standing}
 use Rattle.lazyset_offline.specs.declared.growing.Standing.TheVariants as stands
+use Rattle.std.specs.Prelude.{◌≡◌, ◌≢◌, ◌⊎◌, ◌↔◌, ◌+◌, ◌*◌, ◌<◌, ◌++◌, ◌∷◌, [], ℕ, IfErr, IfOk, IsErrOf, IsTrue, OnOk, List, Result, Ok, Err, codes, decimal}
+use Rattle.lz_slot.specs.{Bytes.{Holds, format_of}, Sets.{Keys}, declared.format.Format.{Format}}
+use Rattle.lz_disk.specs.{Images.{IsImage, at_rest}, Devices.{Device}}
+use Rattle.lz_judge.specs.Renewals.{HoldOneSet}
+use Rattle.lz_vault.specs.{Makes.{IsBadCount, calls_of_making}, Renewals.{IsRenewFaultOf, IsToldFirst, Renews}, Scans.{calls_of_reading}}
+use Rattle.lz_vault.specs.declared.{opening.OpenFault.{OpenFault}, renewing.RenewFault.{RenewFault, TheVariants.{Old, New}}}
+use Rattle.lazyset_offline.specs.{Renewals.{renewal_text}, declared.growing.Standing.{Standing}}
 
 -- nothing of either file is loose, and both hold one set: so does what a crash leaves under a name, whichever of them has it
 abbrev pub HoldOneSetAtRest : Device → Device → Type 0

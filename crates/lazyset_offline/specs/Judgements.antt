@@ -1,14 +1,9 @@
 -- What a judgement of a history tells.
 use Rattle.std.specs.Prelude.{◌⊎◌, ℕ, Option, List, [], ◌∷◌, ◌++◌, codes, decimal}
-use Rattle.lz_slot.specs.Sets.{Keys, members}
-use Rattle.lz_slot.specs.Histories.{AreChain, lives}
-use Rattle.lz_judge.specs.Records.{IsPoint, Record}
-use Rattle.lz_judge.specs.TextsRead.{IsFirstUnread, Reads}
-use Rattle.lz_judge.specs.Flaws.{IsFirstKind, IsFlaw, OrderedChain, flaw_number, flaw_subject}
+use Rattle.lz_slot.specs.{Sets.{Keys, members}, Histories.{AreChain, lives}}
+use Rattle.lz_judge.specs.{Records.{IsPoint, Record}, TextsRead.{IsFirstUnread, Reads}, Flaws.{IsFirstKind, IsFlaw, OrderedChain, flaw_number, flaw_subject}}
 use Rattle.lz_judge.specs.declared.flaw.Flaw.{Flaw}
-use Rattle.lazyset_offline.specs.Tellings.{Tells, line_text}
-use Rattle.lazyset_offline.specs.declared.status.Status.{Status}
-use Rattle.lazyset_offline.specs.declared.status.Status.TheVariants.{Done, Refused, Damaged}
+use Rattle.lazyset_offline.specs.{Tellings.{Tells, line_text}, declared.status.Status.{Status, TheVariants.{Done, Refused, Damaged}}}
 
 -- the line of a history without a flaw
 abbrev pub good_text : List ℕ

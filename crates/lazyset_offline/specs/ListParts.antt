@@ -3,9 +3,7 @@ use Rattle.std.specs.Prelude.{◌≡◌, ℕ, false, List, [], ◌++◌, Some, m
 use Rattle.lz_slot.specs.declared.format.Format.{Format}
 use Rattle.lz_judge.specs.Places.{IsTable}
 use Rattle.lz_proto.specs.Lines.{has_line_feed}
-use Rattle.lazyset_offline.specs.Lists.{IsListFaultOf, Lists}
-use Rattle.lazyset_offline.specs.declared.list.KeyList.{KeyList}
-use Rattle.lazyset_offline.specs.declared.list.ListFault.{ListFault}
+use Rattle.lazyset_offline.specs.{Lists.{IsListFaultOf, Lists}, declared.list.{KeyList.{KeyList}, ListFault.{ListFault}}}
 
 -- Of the text this much is left, and the part before it lists these keys.
 pub record Leaves (format : Format) (text rest ks : List ℕ) : Type 0 where

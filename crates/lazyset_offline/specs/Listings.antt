@@ -1,20 +1,13 @@
 -- What a making from a list of keys leaves and tells.
-use Rattle.std.specs.Prelude.{◌≡◌, ◌≢◌, ◌⊎◌, ◌↔◌, ◌≤◌, ◌<◌, ◌++◌, ◌∷◌, [], ℕ, IfErr, IfSome, IsErrOf, IsTrue, OnOk, List, Option, Result, Ok, Err, codes, decimal, length}
-use Rattle.lz_slot.specs.Sets.{members}
-use Rattle.lz_slot.specs.declared.format.Format.{Format}
-use Rattle.lz_disk.specs.Images.{IsImage}
-use Rattle.lz_disk.specs.Devices.{Device, LeavesOnly}
+use Rattle.std.specs.Prelude.{◌≡◌, ◌≢◌, ◌⊎◌, ◌↔◌, ◌≤◌, ◌<◌, ◌++◌, ◌∷◌, [], ℕ, IfErr, IfSome, IsErrOf, IsTrue, OnOk, List, Option, Result, Ok, Err, codes}
+use Rattle.std.specs.Prelude.{decimal, length}
+use Rattle.lz_slot.specs.{Sets.{members}, declared.format.Format.{Format}}
+use Rattle.lz_disk.specs.{Images.{IsImage}, Devices.{Device, LeavesOnly}}
 use Rattle.lz_vault.specs.Makes.{IsBadCount, IsMakeFaultOf, IsRenewed, IsUnmadeOrHolds, MayBeMade, make_fault_number}
 use Rattle.lz_vault.specs.declared.making.MakeFault.TheVariants.{BadCount}
-use Rattle.lazyset_offline.specs.Ends.{make_status}
-use Rattle.lazyset_offline.specs.Lists.{IsListFaultOf, Lists}
-use Rattle.lazyset_offline.specs.Makings.{made_text, refused_text, room_text}
-use Rattle.lazyset_offline.specs.Tellings.{line_text, memory_text, unread_text}
-use Rattle.lazyset_offline.specs.declared.list.ListFault.{ListFault}
-use Rattle.lazyset_offline.specs.declared.list.ListFault.TheVariants.{Line, Twice, Read, Memory}
-use Rattle.lazyset_offline.specs.declared.listing.ListingFault.{ListingFault}
-use Rattle.lazyset_offline.specs.declared.listing.ListingFault.TheVariants.{OfList, TooMany, OfMaking}
-use Rattle.lazyset_offline.specs.declared.status.Status.{Status}
+use Rattle.lazyset_offline.specs.{Ends.{make_status}, Lists.{IsListFaultOf, Lists}, Makings.{made_text, refused_text, room_text}}
+use Rattle.lazyset_offline.specs.{Tellings.{line_text, memory_text, unread_text}, declared.list.ListFault.{ListFault, TheVariants.{Line, Twice, Read, Memory}}}
+use Rattle.lazyset_offline.specs.declared.{listing.ListingFault.{ListingFault, TheVariants.{OfList, TooMany, OfMaking}}, status.Status.{Status}}
 use Rattle.lazyset_offline.specs.declared.status.Status.TheVariants.{Done, Failed, Refused}
 
 -- the disk is at rest with a file of this format and so many slots, of which the first hold the keys that the input lists

@@ -1,13 +1,8 @@
 -- What a list of keys is: lines that end, each of which spells a key, and no key twice. A text is a list of bytes.
-use Rattle.std.specs.Prelude.{◌≡◌, ◌≢◌, ℕ, ◌+◌, ◌≤◌, false, nat_eq, List, [], ◌∷◌, ◌++◌, length, IsTrue}
-use Rattle.std.specs.List.{IsDistinct}
-use Rattle.lz_slot.specs.Rooms.{largest_of}
-use Rattle.lz_slot.specs.Sets.{members}
-use Rattle.lz_slot.specs.Texts.{Spells}
-use Rattle.lz_slot.specs.declared.format.Format.{Format}
+use Rattle.std.specs.{Prelude.{◌≡◌, ◌≢◌, ℕ, ◌+◌, ◌≤◌, false, nat_eq, List, [], ◌∷◌, ◌++◌, length, IsTrue}, List.{IsDistinct}}
+use Rattle.lz_slot.specs.{Rooms.{largest_of}, Sets.{members}, Texts.{Spells}, declared.format.Format.{Format}}
 use Rattle.lz_proto.specs.Lines.{has_line_feed, line_feed, without_return}
-use Rattle.lazyset_offline.specs.declared.list.ListFault.{ListFault}
-use Rattle.lazyset_offline.specs.declared.list.ListFault.TheVariants.{Line, Twice, Read, Memory}
+use Rattle.lazyset_offline.specs.declared.list.ListFault.{ListFault, TheVariants.{Line, Twice, Read, Memory}}
 
 -- the line, less one carriage return at its end, spells this key, which a file of this format can hold
 abbrev pub SpellsKey : Format → List ℕ → ℕ → Type 0

@@ -2,12 +2,8 @@
 use Rattle.std.specs.Prelude.{ℕ, IsTrue, List, Option, codes, decimal, ◌++◌, ◌∷◌, []}
 use Rattle.lz_slot.specs.declared.format.Format.{Format}
 use Rattle.lz_disk.specs.Devices.{Device as Disk}
-use Rattle.lz_vault.specs.Makes.{IsMakeFaultOf, IsRenewed, MayBeMade, make_fault_number}
-use Rattle.lz_vault.specs.declared.making.MakeFault.{MakeFault}
-use Rattle.lazyset_offline.specs.Ends.{make_status}
-use Rattle.lazyset_offline.specs.Tellings.{Tells}
-use Rattle.lazyset_offline.specs.declared.status.Status.{Status}
-use Rattle.lazyset_offline.specs.declared.status.Status.TheVariants.{Done}
+use Rattle.lz_vault.specs.{Makes.{IsMakeFaultOf, IsRenewed, MayBeMade, make_fault_number}, declared.making.MakeFault.{MakeFault}}
+use Rattle.lazyset_offline.specs.{Ends.{make_status}, Tellings.{Tells}, declared.status.Status.{Status, TheVariants.{Done}}}
 
 -- the line of a making that was done
 abbrev pub made_text : ℕ → List ℕ

@@ -1,15 +1,9 @@
 -- What a refused open tells.
 use Rattle.std.specs.Prelude.{◌≡◌, ◌⊎◌, ℕ, Option, List, [], ◌∷◌, ◌++◌, codes, decimal}
-use Rattle.lz_disk.specs.Images.{IsImage, synced}
-use Rattle.lz_disk.specs.Devices.{Device, LeavesOnly}
-use Rattle.lz_vault.specs.Opens.{IsRefusedFor, open_fault_number}
-use Rattle.lz_vault.specs.declared.opening.OpenFault.{OpenFault}
+use Rattle.lz_disk.specs.{Images.{IsImage, synced}, Devices.{Device, LeavesOnly}}
+use Rattle.lz_vault.specs.{Opens.{IsRefusedFor, open_fault_number}, declared.opening.OpenFault.{OpenFault}}
 use Rattle.lz_vault.specs.declared.opening.OpenFault.TheVariants.{BadKey, Memory, Twice, Device as DeviceFailed}
-use Rattle.lazyset_offline.specs.Ends.{open_status}
-use Rattle.lazyset_offline.specs.Makings.{refused_text}
-use Rattle.lazyset_offline.specs.Tellings.{Tells}
-use Rattle.lazyset_offline.specs.declared.status.Status.{Status}
-use Rattle.lazyset_offline.specs.declared.status.Status.TheVariants.{Failed}
+use Rattle.lazyset_offline.specs.{Ends.{open_status}, Makings.{refused_text}, Tellings.{Tells}, declared.status.Status.{Status, TheVariants.{Failed}}}
 
 -- the line of a refused open
 abbrev pub refusal_text : OpenFault → List ℕ

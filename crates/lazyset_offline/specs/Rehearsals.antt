@@ -1,15 +1,12 @@
 -- What the rehearsal of a script tells.
+use Rattle.lz_rehearsal.specs.declared.rehearsal.RehearsalFault.TheVariants as rehearsal
 use Rattle.std.specs.Prelude.{◌≡◌, ◌⊎◌, ℕ, IfSome, Option, List, []}
 use Rattle.lz_slot.specs.declared.format.Format.{Format}
 use Rattle.lz_machine.specs.Yards.{Shape}
 use Rattle.lz_core.specs.Worlds.{IsNew, WorldOver}
-use Rattle.lz_rehearsal.specs.declared.line.Line.{Line}
-use Rattle.lz_rehearsal.specs.declared.rehearsal.RehearsalFault.{RehearsalFault}
-use Rattle.lz_rehearsal.specs.declared.rehearsal.RehearsalFault.TheVariants as rehearsal
-use Rattle.lz_rehearsal.specs.Rehearsals.{EndsAt, EndsCutShort, EndsWithin, Rehearses}
+use Rattle.lz_rehearsal.specs.{declared.{line.Line.{Line}, rehearsal.RehearsalFault.{RehearsalFault}}, Rehearsals.{EndsAt, EndsCutShort, EndsWithin, Rehearses}}
 use Rattle.lz_rehearsal.specs.Scripts.{FailsAt, IsScript}
-use Rattle.lazyset_offline.specs.Tellings.{LacksInput, LacksMemory, Tells, line_text, memory_text}
-use Rattle.lazyset_offline.specs.declared.status.Status.{Status}
+use Rattle.lazyset_offline.specs.{Tellings.{LacksInput, LacksMemory, Tells, line_text, memory_text}, declared.status.Status.{Status}}
 use Rattle.lazyset_offline.specs.declared.status.Status.TheVariants.{Done, Failed, Refused}
 
 -- all the lines were rehearsed on a new world, and their text written

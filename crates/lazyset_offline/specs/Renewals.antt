@@ -1,20 +1,12 @@
 -- What a renewal tells.
+use Rattle.lz_vault.specs.declared.making.MakeFault.TheVariants as making
 use Rattle.std.specs.Prelude.{◌≡◌, ◌↔◌, ◌+◌, ◌++◌, ◌∷◌, [], ℕ, IfErr, IfOk, IsErrOf, IsTrue, OnOk, List, Result, Ok, Err, codes, decimal}
 use Rattle.lz_slot.specs.declared.format.Format.{Format}
 use Rattle.lz_disk.specs.Devices.{Device}
-use Rattle.lz_vault.specs.Makes.{IsBadCount, make_fault_number}
-use Rattle.lz_vault.specs.Opens.{open_fault_number}
-use Rattle.lz_vault.specs.Scans.{calls_of_reading}
-use Rattle.lz_vault.specs.Renewals.{IsRenewFaultOf, Renews}
-use Rattle.lz_vault.specs.declared.making.MakeFault.TheVariants as making
-use Rattle.lz_vault.specs.declared.opening.OpenFault.{OpenFault}
-use Rattle.lz_vault.specs.declared.opening.OpenFault.TheVariants.{BadKey, Twice}
-use Rattle.lz_vault.specs.declared.renewing.RenewFault.{RenewFault}
+use Rattle.lz_vault.specs.{Makes.{IsBadCount, make_fault_number}, Opens.{open_fault_number}, Scans.{calls_of_reading}, Renewals.{IsRenewFaultOf, Renews}}
+use Rattle.lz_vault.specs.declared.{opening.OpenFault.{OpenFault, TheVariants.{BadKey, Twice}}, renewing.RenewFault.{RenewFault}}
 use Rattle.lz_vault.specs.declared.renewing.RenewFault.TheVariants.{Old, New, TooSmall}
-use Rattle.lazyset_offline.specs.Ends.{make_status, open_status}
-use Rattle.lazyset_offline.specs.Makings.{room_text}
-use Rattle.lazyset_offline.specs.declared.status.Status.{Status}
-use Rattle.lazyset_offline.specs.declared.status.Status.TheVariants.{Done, Refused}
+use Rattle.lazyset_offline.specs.{Ends.{make_status, open_status}, Makings.{room_text}, declared.status.Status.{Status, TheVariants.{Done, Refused}}}
 
 -- the line of a renewal whose old file was refused, or whose new one was, with this number
 abbrev pub old_number_text : ℕ → List ℕ

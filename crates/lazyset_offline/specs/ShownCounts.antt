@@ -1,12 +1,8 @@
 -- What the counts that are shown of a file have to do with the set that it holds.
 use Rattle.std.specs.Prelude.{◌≡◌, ℕ, ◌-◌, List, [], ◌∷◌, ◌++◌, codes}
-use Rattle.lz_slot.specs.Bytes.{Holds, format_of}
-use Rattle.lz_slot.specs.Sets.{HasMembers, Keys}
-use Rattle.lz_judge.specs.Surveys.{IsSurveyed}
-use Rattle.lz_judge.specs.declared.finding.Survey.{Survey}
-use Rattle.lazyset_offline.specs.Checks.{shown_text}
-use Rattle.lazyset_offline.specs.Counts.{lines_of_counts}
-use Rattle.lazyset_offline.specs.declared.shown.Shown.TheVariants.{Counts}
+use Rattle.lz_slot.specs.{Bytes.{Holds, format_of}, Sets.{HasMembers, Keys}}
+use Rattle.lz_judge.specs.{Surveys.{IsSurveyed}, declared.finding.Survey.{Survey}}
+use Rattle.lazyset_offline.specs.{Checks.{shown_text}, Counts.{lines_of_counts}, declared.shown.Shown.TheVariants.{Counts}}
 
 -- Of a file that holds a set the counts are its format, its slots, how many members the set has, and all other slots as free ones.
 abbrev pub CountsAreOfSet : Type 0

@@ -1,14 +1,9 @@
 -- What the keys that are shown of a file have to do with a list of keys.
 use Rattle.std.specs.Prelude.{◌↔◌, ℕ, ◌≤◌, List}
-use Rattle.lz_slot.specs.Bytes.{format_of}
-use Rattle.lz_slot.specs.Rooms.{last_room_of}
-use Rattle.lz_slot.specs.declared.format.Format.{Format}
-use Rattle.lz_judge.specs.Surveys.{IsSurveyed}
-use Rattle.lz_judge.specs.declared.finding.Survey.{Survey}
+use Rattle.lz_slot.specs.{Bytes.{format_of}, Rooms.{last_room_of}, declared.format.Format.{Format}}
+use Rattle.lz_judge.specs.{Surveys.{IsSurveyed}, declared.finding.Survey.{Survey}}
 use Rattle.lz_vault.specs.Renewals.{AreHeldBy}
-use Rattle.lazyset_offline.specs.Checks.{shown_text}
-use Rattle.lazyset_offline.specs.Lists.{Lists}
-use Rattle.lazyset_offline.specs.declared.shown.Shown.TheVariants.{Keys}
+use Rattle.lazyset_offline.specs.{Checks.{shown_text}, Lists.{Lists}, declared.shown.Shown.TheVariants.{Keys}}
 
 -- What is shown of a file where its keys are asked for is a list just where the file holds a set, and then of the keys of its slots, in their order:
 -- a list for each format that has the file's rooms.

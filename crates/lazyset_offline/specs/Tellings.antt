@@ -1,10 +1,7 @@
 -- What is written with which a command ends.
-use Rattle.std.specs.Prelude.{◌≡◌, ◌⊎◌, ℕ, List, [], ◌∷◌, ◌++◌, codes, decimal, Option, Result, Ok, Err}
-use Rattle.std.specs.Io.KnownBytes.{Appends}
-use Rattle.lz_proto.specs.Steps.{IsCutShort}
-use Rattle.lz_proto.specs.declared.fault.SessionFault.{SessionFault}
-use Rattle.lazyset_offline.specs.declared.status.Status.{Status}
-use Rattle.lazyset_offline.specs.declared.status.Status.TheVariants.{Failed}
+use Rattle.std.specs.{Prelude.{◌≡◌, ◌⊎◌, ℕ, List, [], ◌∷◌, ◌++◌, codes, decimal, Option, Result, Ok, Err}, Io.KnownBytes.{Appends}}
+use Rattle.lz_proto.specs.{Steps.{IsCutShort}, declared.fault.SessionFault.{SessionFault}}
+use Rattle.lazyset_offline.specs.declared.status.Status.{Status, TheVariants.{Failed}}
 
 -- the line that names a line of the input, from 1
 abbrev pub line_text : ℕ → List ℕ

@@ -1,11 +1,9 @@
 -- How many slots of a file a crash has torn.
-use Rattle.std.specs.Prelude.{◌≡◌, ℕ, zero, suc, ◌+◌, ◌-◌, ◌≤◌, Bool, true, false, List, length, take, Ok, if◌then◌else◌}
-use Rattle.lz_slot.specs.Bytes.{header_read, slot_at}
-use Rattle.lz_slot.specs.declared.slot.SlotRead.{SlotRead}
 use Rattle.lz_slot.specs.declared.slot.SlotRead.TheVariants as read
-use Rattle.lz_judge.specs.Surveys.{IsSurveyOf}
-use Rattle.lz_judge.specs.declared.finding.Survey.{Survey}
 use Rattle.lz_judge.specs.declared.finding.Survey.TheVariants as survey
+use Rattle.std.specs.Prelude.{◌≡◌, ℕ, zero, suc, ◌+◌, ◌-◌, ◌≤◌, Bool, true, false, List, length, take, Ok, if◌then◌else◌}
+use Rattle.lz_slot.specs.{Bytes.{header_read, slot_at}, declared.slot.SlotRead.{SlotRead}}
+use Rattle.lz_judge.specs.{Surveys.{IsSurveyOf}, declared.finding.Survey.{Survey}}
 
 -- the slot was being written at a crash
 abbrev pub is_torn : SlotRead → Bool

@@ -1,26 +1,21 @@
 -- What the calls make of what is kept.
-use Rattle.std.proofs.Common.{◌≡◌, ◌≢◌, ◌↔◌, IsTrue, ◌⊎◌, inl, inr, ⊎_elim, ℕ, zero, suc, ◌+◌, ◌-◌, ◌<◌, ◌≤◌, Bool, true, false, Some, List, [], ◌∷◌, ◌++◌, length, get_or, set, map, take, drop, replicate, refl, sym, ◌∙◌, ap, subst, arith, length-set, length-append, ◌==◌, if◌then◌else◌}
-use Rattle.std.specs.List.{position, list_any, count_by}
-use Rattle.std.proofs.lemmas.List.{map-set, length-map, length-replicate, get_or-replicate, get_or-map, set-get_or, length-drop, get_or_read}
-use Rattle.std.proofs.lemmas.List.FromFn.{length-map-range_with_len, get_or-map-range_with_len}
-use Rattle.std.proofs.lemmas.List.Quantifiers.{position-Some}
-use Rattle.std.proofs.lemmas.Bool.{cases_Bool, eqb-true, eqb-false, or_left, or_right, or_from}
-use Rattle.lz_slot.specs.Limits.{most_passes, most_slots}
-use Rattle.lz_slot.specs.Counted.{of_pass}
-use Rattle.lz_slot.proofs.Counted.{length-set_of_pass}
-use Rattle.lz_allot.specs.declared.kind.Kind.{Kind}
 use Rattle.lz_allot.specs.declared.kind.Kind.TheVariants as kind
-use Rattle.lz_allot.specs.declared.row.Row.{Row}
-use Rattle.lz_allot.specs.declared.sight.Sight.TheVariants.{Unseen}
-use Rattle.lz_allot.specs.declared.counts.Counts.{Counts}
+use Rattle.std.proofs.Common.{◌≡◌, ◌≢◌, ◌↔◌, IsTrue, ◌⊎◌, inl, inr, ⊎_elim, ℕ, zero, suc, ◌+◌, ◌-◌, ◌<◌, ◌≤◌, Bool, true, false, Some, List, [], ◌∷◌, ◌++◌}
+use Rattle.std.proofs.Common.{length, get_or, set, map, take, drop, replicate, refl, sym, ◌∙◌, ap, subst, arith, length-set, length-append, ◌==◌, if◌then◌else◌}
+use Rattle.std.proofs.lemmas.List.{map-set, length-map, length-replicate, get_or-replicate, get_or-map, set-get_or, length-drop, get_or_read}
+use Rattle.std.proofs.lemmas.List.{FromFn.{length-map-range_with_len, get_or-map-range_with_len}, Quantifiers.{position-Some}}
+use Rattle.std.{proofs.lemmas.Bool.{cases_Bool, eqb-true, eqb-false, or_left, or_right, or_from}, specs.List.{position, list_any, count_by}}
+use Rattle.lz_slot.{specs.{Limits.{most_passes, most_slots}, Counted.{of_pass}}, proofs.Counted.{length-set_of_pass}}
+use Rattle.lz_allot.specs.declared.{kind.Kind.{Kind}, row.Row.{Row}, sight.Sight.TheVariants.{Unseen}, counts.Counts.{Counts}}
 use Rattle.lz_allot.specs.Rows.{first_row, row_seen, rows_seen, row_freed, rows_freed, least_left}
 use Rattle.lz_allot.specs.Uses.{Use, Free, Taken, use_of, is_free, counts, lowest_free, take_slot, give_back, retire, see_pin, collect}
 use Rattle.lz_allot.specs.Allots.{IsAllot, IsQueue, IsTakenAt, first_uses, is_free_kind, kind_at, set_each, use_told, uses_told}
 use Rattle.lz_allot.proofs.FilledPlaces.{length-set_each, map-set_each, set_each_same, set_each_other}
 use Rattle.lz_allot.proofs.ToldUses.{IsPlain, Shows, length_told, use_told_at, shows_told, told_is, queue_set, told_set, queue_pushed, told_pushed}
 use Rattle.lz_allot.proofs.SightChanges.{rows_are_seen, told_seen, sights_fresh, rows_longer}
-use Rattle.lz_allot.proofs.LeftSlots.{IsLeast, least_is, few, queue_dropped, rows_are_freed, told_collected}
-use Rattle.lz_allot.proofs.UseCounts.{position_map, counts_sum, counts_reserved, counts_given_back, counts_retired, limbo_queued, free_told, free_counted, counts_collected, counts_seen, same_counts}
+use Rattle.lz_allot.proofs.{LeftSlots.{IsLeast, least_is, few, queue_dropped, rows_are_freed, told_collected}, UseCounts.{position_map, counts_sum}}
+use Rattle.lz_allot.proofs.UseCounts.{counts_reserved, counts_given_back, counts_retired, limbo_queued, free_told, free_counted, counts_collected, counts_seen}
+use Rattle.lz_allot.proofs.UseCounts.{same_counts}
 
 module _ (kinds : List Kind) (free : List Bool) (queue : List ℕ) (capacity : ℕ) (rows : List Row) (counted : Counts)
     (old : IsAllot kinds free queue capacity rows counted) where

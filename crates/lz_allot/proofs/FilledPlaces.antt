@@ -1,7 +1,6 @@
 -- Several places of a list that get one value.
-use Rattle.std.proofs.Common.{◌≡◌, ◌≢◌, ℕ, zero, suc, ◌+◌, ◌<◌, List, [], ◌∷◌, ◌++◌, length, get_or, set, take, drop, map, refl, sym, ◌∙◌, ap, arith, get_or-set_same, get_or-set_other, length-set}
-use Rattle.std.proofs.lemmas.List.{take_more, map-set, set_past, take_at}
-use Rattle.std.proofs.lemmas.List.Sums.{fold_push}
+use Rattle.std.proofs.Common.{◌≡◌, ◌≢◌, ℕ, zero, suc, ◌+◌, ◌<◌, List, [], ◌∷◌, ◌++◌, length, get_or, set, take, drop, map, refl, sym, ◌∙◌, ap, arith}
+use Rattle.std.proofs.{Common.{get_or-set_same, get_or-set_other, length-set}, lemmas.List.{take_more, map-set, set_past, take_at, Sums.{fold_push}}}
 use Rattle.lz_allot.specs.Allots.{set_each}
 
 module _ {X : Type 0} where

@@ -1,15 +1,10 @@
 -- A tree of free slots that is filled from below: the words of the slots, and then what is told of each node in the word above it.
-use Rattle.std.proofs.Common.{◌≡◌, ◌≢◌, ⊎_elim, ℕ, zero, suc, ◌+◌, ◌*◌, ◌/◌, ◌%◌, ◌-◌, ◌<◌, ◌≤◌, ◌==◌, false, if◌then◌else◌, List, length, set, map, sym, ◌∙◌, ap, arith, get_or-set_other, get_or-set_same}
-use Rattle.std.specs.Prelude.{nat_lt, length}
-use Rattle.std.specs.Int.{bit_at}
-use Rattle.std.proofs.Math.ListN.{get_or-eq_default}
-use Rattle.std.proofs.lemmas.List.{ext_get_or, get_or-map, length-map, length-set}
-use Rattle.std.proofs.lemmas.Bool.{cases_lt}
-use Rattle.lz_slot.specs.Limits.{most_slots}
-use Rattle.lz_allot.specs.declared.kind.Kind.{Kind}
 use Rattle.lz_allot.specs.declared.kind.Kind.TheVariants as kind
-use Rattle.lz_allot.specs.Allots.{is_free_kind, kind_at}
-use Rattle.lz_allot.specs.Trees.{word_at, is_told, shown, start_of, IsStart, IsTree}
+use Rattle.std.proofs.Common.{◌≡◌, ◌≢◌, ⊎_elim, ℕ, zero, suc, ◌+◌, ◌*◌, ◌/◌, ◌%◌, ◌-◌, ◌<◌, ◌≤◌, ◌==◌, false, if◌then◌else◌, List, length, set, map, sym, ◌∙◌}
+use Rattle.std.proofs.{Common.{ap, arith, get_or-set_other, get_or-set_same}, Math.ListN.{get_or-eq_default}}
+use Rattle.std.{proofs.lemmas.{List.{ext_get_or, get_or-map, length-map, length-set}, Bool.{cases_lt}}, specs.{Prelude.{nat_lt, length}, Int.{bit_at}}}
+use Rattle.lz_slot.specs.Limits.{most_slots}
+use Rattle.lz_allot.specs.{declared.kind.Kind.{Kind}, Allots.{is_free_kind, kind_at}, Trees.{word_at, is_told, shown, start_of, IsStart, IsTree}}
 use Rattle.lz_allot.proofs.Trees.{nothing_told, told_by, shown_length, shown_at}
 
 -- a slot that isn't there is not free

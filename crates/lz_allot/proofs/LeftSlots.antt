@@ -1,19 +1,13 @@
 -- The slots that every pass has left are the first of the queue.
-use Rattle.std.proofs.Common.{◌≡◌, ◌≢◌, ◌⊎◌, inl, inr, ⊎_elim, ℕ, zero, suc, ◌+◌, ◌-◌, ◌<◌, ◌≤◌, min, true, List, [], ◌∷◌, length, get_or, take, drop, refl, sym, ◌∙◌, ap, subst, arith}
-use Rattle.std.specs.List.{fold, list_all}
-use Rattle.std.proofs.lemmas.List.{same_lists, get_or-map, length-map, get_or-drop, get_or-take, length-drop, length-take-le}
-use Rattle.std.proofs.lemmas.List.Folds.{list_all-map, list_all_at}
-use Rattle.std.proofs.lemmas.Bool.{cases_lt, and_from}
-use Rattle.std.proofs.lemmas.Bool.Decides.{nat_tests}
-use Rattle.lz_allot.specs.declared.kind.Kind.{Kind}
 use Rattle.lz_allot.specs.declared.kind.Kind.TheVariants as kind
-use Rattle.lz_allot.specs.declared.row.Row.{Row}
-use Rattle.lz_allot.specs.declared.sight.Sight.{Sight}
-use Rattle.lz_allot.specs.Rows.{first_row, row_freed, rows_freed, least_left}
+use Rattle.std.proofs.Common.{◌≡◌, ◌≢◌, ◌⊎◌, inl, inr, ⊎_elim, ℕ, zero, suc, ◌+◌, ◌-◌, ◌<◌, ◌≤◌, min, true, List, [], ◌∷◌, length, get_or, take, drop, refl}
+use Rattle.std.proofs.Common.{sym, ◌∙◌, ap, subst, arith}
+use Rattle.std.proofs.lemmas.List.{same_lists, get_or-map, length-map, get_or-drop, get_or-take, length-drop, length-take-le, Folds.{list_all-map, list_all_at}}
+use Rattle.std.{proofs.lemmas.Bool.{cases_lt, and_from, Decides.{nat_tests}}, specs.List.{fold, list_all}}
+use Rattle.lz_allot.specs.{declared.{kind.Kind.{Kind}, row.Row.{Row}, sight.Sight.{Sight}}, Rows.{first_row, row_freed, rows_freed, least_left}}
 use Rattle.lz_allot.specs.Uses.{Use, Free, Taken, Limbo, use_of, has_left, collect_at, collect}
 use Rattle.lz_allot.specs.Allots.{IsQueue, IsRow, kind_at, set_each, sight_at, sights_at, uses_told}
-use Rattle.lz_allot.proofs.FilledPlaces.{length-set_each, set_each_same, set_each_other}
-use Rattle.lz_allot.proofs.ToldUses.{IsPlain, Shows, told_is, not_queued}
+use Rattle.lz_allot.proofs.{FilledPlaces.{length-set_each, set_each_same, set_each_other}, ToldUses.{IsPlain, Shows, told_is, not_queued}}
 use Rattle.lz_allot.proofs.SightChanges.{at_left}
 
 -- The least of the numbers that the passes have left.

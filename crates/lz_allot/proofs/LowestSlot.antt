@@ -1,15 +1,9 @@
 -- The walk down a tree of free slots, which ends at the lowest free one.
-use Rattle.std.proofs.Common.{◌≡◌, ◌≢◌, ⊎_elim, ℕ, zero, suc, ◌+◌, ◌*◌, ◌^◌, ◌/◌, ◌-◌, ◌<◌, ◌≤◌, ◌==◌, Bool, true, false, if◌then◌else◌, List, length, get_or, sym, ◌∙◌, ap, arith, Some, None}
-use Rattle.std.specs.Prelude.{nat_lt, length}
-use Rattle.std.specs.Int.{bit_at, trailing_zeros, w64}
-use Rattle.std.specs.List.{position, position_or_len}
-use Rattle.std.proofs.Math.ListN.{get_or-eq_default}
-use Rattle.std.proofs.lemmas.List.Sums.{position_or_len_is}
-use Rattle.std.proofs.lemmas.Nat.Bits.{bit_at-trailing_zeros}
-use Rattle.std.proofs.lemmas.Bool.{cases_lt, lt-ltb, le-ltb, ltb-true, ltb-false, cond-true, cond-false}
-use Rattle.std.proofs.lemmas.Bool.Decides.{nat_tests}
-use Rattle.lz_allot.specs.Trees.{word_at, is_told, shown, start_of, IsTree}
-use Rattle.lz_allot.proofs.Trees.{nothing_told, shown_length, shown_at}
+use Rattle.std.proofs.Common.{◌≡◌, ◌≢◌, ⊎_elim, ℕ, zero, suc, ◌+◌, ◌*◌, ◌^◌, ◌/◌, ◌-◌, ◌<◌, ◌≤◌, ◌==◌, Bool, true, false, if◌then◌else◌, List, length, get_or}
+use Rattle.std.proofs.{Common.{sym, ◌∙◌, ap, arith, Some, None}, Math.ListN.{get_or-eq_default}, lemmas.List.Sums.{position_or_len_is}}
+use Rattle.std.proofs.lemmas.{Nat.Bits.{bit_at-trailing_zeros}, Bool.{cases_lt, lt-ltb, le-ltb, ltb-true, ltb-false, cond-true, cond-false}}
+use Rattle.std.{proofs.lemmas.Bool.Decides.{nat_tests}, specs.{Prelude.{nat_lt, length}, Int.{bit_at, trailing_zeros, w64}, List.{position, position_or_len}}}
+use Rattle.lz_allot.{specs.Trees.{word_at, is_told, shown, start_of, IsTree}, proofs.Trees.{nothing_told, shown_length, shown_at}}
 
 -- whether a slot is free at this node or below
 abbrev pub is_open : List ℕ → ℕ → ℕ → Bool

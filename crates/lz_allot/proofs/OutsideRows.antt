@@ -1,6 +1,5 @@
 -- Worked rows: whether a pass was outside since a slot was last unlinked. Pin words that are even are outside.
-use Rattle.std.proofs.Common.{◌≡◌, true, false, [], ◌∷◌, refl, arith}
-use Rattle.std.proofs.lemmas.Bool.{false≢true}
+use Rattle.std.proofs.{Common.{◌≡◌, true, false, [], ◌∷◌, refl, arith}, lemmas.Bool.{false≢true}}
 use Rattle.lz_allot.specs.Uses.{AllFree, Pins, Unlinking, was_outside}
 
 -- pass 1 was seen outside after slot 0 was unlinked

@@ -1,15 +1,9 @@
 -- A slot that is set in the tree of free slots: what holds on the way up, and what the tree shows at its end.
-use Rattle.std.proofs.Common.{◌≡◌, ◌≢◌, ⊎_elim, ℕ, ◌+◌, ◌^◌, ◌/◌, ◌%◌, ◌-◌, ◌<◌, ◌≤◌, Bool, true, false, if◌then◌else◌, List, length, get_or, set, refl, sym, ◌∙◌, ap, arith, get_or-set_other, get_or-set_same}
-use Rattle.std.specs.Prelude.{nat_lt, length}
-use Rattle.std.specs.Int.{bit_at}
-use Rattle.std.proofs.lemmas.List.{ext_get_or, length-set}
-use Rattle.std.proofs.Math.Bool.{beq, not}
-use Rattle.std.proofs.Math.Dec.{eqb}
-use Rattle.std.proofs.lemmas.Nat.Bits.{bit_at-zero, same_from_bits_below}
-use Rattle.std.proofs.lemmas.Bool.{cases_eq, cases_lt, lt-ltb, le-ltb}
-use Rattle.std.proofs.lemmas.Bool.Decides.{nat_tests}
-use Rattle.lz_allot.specs.Trees.{word_at, is_told, shown, IsTree}
-use Rattle.lz_allot.proofs.Trees.{told_same, told_other, shown_length, shown_at}
+use Rattle.std.proofs.Common.{◌≡◌, ◌≢◌, ⊎_elim, ℕ, ◌+◌, ◌^◌, ◌/◌, ◌%◌, ◌-◌, ◌<◌, ◌≤◌, Bool, true, false, if◌then◌else◌, List, length, get_or, set, refl, sym}
+use Rattle.std.proofs.{Common.{◌∙◌, ap, arith, get_or-set_other, get_or-set_same}, lemmas.List.{ext_get_or, length-set}}
+use Rattle.std.proofs.lemmas.{Nat.Bits.{bit_at-zero, same_from_bits_below}, Bool.{cases_eq, cases_lt, lt-ltb, le-ltb, Decides.{nat_tests}}}
+use Rattle.std.{proofs.Math.{Bool.{beq, not}, Dec.{eqb}}, specs.{Prelude.{nat_lt, length}, Int.{bit_at}}}
+use Rattle.lz_allot.{specs.Trees.{word_at, is_told, shown, IsTree}, proofs.Trees.{told_same, told_other, shown_length, shown_at}}
 
 -- A tree in which a slot is being set: what is told of the node has to be changed, and all else is as it has to be.
 pub record IsHalfSet (old words : List ℕ) (first slots s : ℕ) (b : Bool) (node : ℕ) : Type 0 where

@@ -1,15 +1,9 @@
 -- What the sights of the slots in limbo become when a pin is seen, and when the first slots leave the queue.
 use Rattle.std.proofs.Common.{◌≡◌, ℕ, ◌-◌, ◌<◌, ◌≤◌, List, length, get_or, set, replicate, refl, sym, ◌∙◌, arith, length-set, get_or-set_same, get_or-set_other}
-use Rattle.std.proofs.lemmas.List.{ext_get_or, get_or-map, get_or-replicate, length-map, length-replicate, map-set}
-use Rattle.std.proofs.lemmas.Bool.{lt-ltb, le-ltb}
+use Rattle.std.proofs.lemmas.{List.{ext_get_or, get_or-map, get_or-replicate, length-map, length-replicate, map-set}, Bool.{lt-ltb, le-ltb}}
 use Rattle.lz_slot.specs.Counted.{of_pass, set_of_pass}
-use Rattle.lz_allot.specs.declared.kind.Kind.{Kind}
-use Rattle.lz_allot.specs.declared.row.Row.{Row}
-use Rattle.lz_allot.specs.declared.sight.Sight.TheVariants.{Unseen, Left}
-use Rattle.lz_allot.specs.Rows.{first_row, row_seen, rows_seen}
-use Rattle.lz_allot.specs.Uses.{Use, sight_after, see_pin}
-use Rattle.lz_allot.specs.Allots.{IsQueue, IsRow, sight_at, sights_at, uses_told}
-use Rattle.lz_allot.proofs.ToldUses.{Shows, told_is}
+use Rattle.lz_allot.specs.{declared.{kind.Kind.{Kind}, row.Row.{Row}, sight.Sight.TheVariants.{Unseen, Left}}, Rows.{first_row, row_seen, rows_seen}}
+use Rattle.lz_allot.{specs.{Uses.{Use, sight_after, see_pin}, Allots.{IsQueue, IsRow, sight_at, sights_at, uses_told}}, proofs.ToldUses.{Shows, told_is}}
 
 -- The three sights of a row.
 pub at_left : (i : ℕ) (row : Row) → i < row.left → sight_at i row ≡ Left

@@ -1,14 +1,10 @@
 -- The uses that the kinds, the queue and the rows tell.
-use Rattle.std.proofs.Common.{◌≡◌, ◌≢◌, ◌⊎◌, ℕ, ◌<◌, ◌==◌, List, [], ◌∷◌, ◌++◌, length, get_or, set, refl, sym, ◌∙◌, ap, subst, arith, get_or-set_same, get_or-set_other, length-set, length-append}
-use Rattle.std.proofs.lemmas.List.{ext_get_or, get_or_append_left, get_or_push}
-use Rattle.std.proofs.lemmas.List.FromFn.{length-map-range_with_len, get_or-map-range_with_len}
-use Rattle.std.proofs.lemmas.List.Sums.{position_or_len_is}
-use Rattle.std.proofs.lemmas.Bool.{eq-eqb, ne_eqb}
-use Rattle.std.proofs.lemmas.Bool.Decides.{nat_tests}
-use Rattle.lz_allot.specs.declared.kind.Kind.{Kind}
 use Rattle.lz_allot.specs.declared.kind.Kind.TheVariants as kind
-use Rattle.lz_allot.specs.declared.row.Row.{Row}
-use Rattle.lz_allot.specs.Uses.{Use, Free, Taken, Limbo, use_of}
+use Rattle.std.proofs.Common.{◌≡◌, ◌≢◌, ◌⊎◌, ℕ, ◌<◌, ◌==◌, List, [], ◌∷◌, ◌++◌, length, get_or, set, refl, sym, ◌∙◌, ap, subst, arith, get_or-set_same}
+use Rattle.std.proofs.{Common.{get_or-set_other, length-set, length-append}, lemmas.List.{ext_get_or, get_or_append_left, get_or_push}}
+use Rattle.std.proofs.lemmas.{List.{FromFn.{length-map-range_with_len, get_or-map-range_with_len}, Sums.{position_or_len_is}}, Bool.{eq-eqb, ne_eqb}}
+use Rattle.std.proofs.lemmas.Bool.Decides.{nat_tests}
+use Rattle.lz_allot.specs.{declared.{kind.Kind.{Kind}, row.Row.{Row}}, Uses.{Use, Free, Taken, Limbo, use_of}}
 use Rattle.lz_allot.specs.Allots.{IsQueue, kind_at, place_of, sights_at, use_told, uses_told}
 
 -- a slot of this kind that isn't in limbo has this use

@@ -1,10 +1,7 @@
 -- What a tree of free slots tells of its nodes, and a new tree.
-use Rattle.std.proofs.Common.{◌≡◌, ◌≢◌, ℕ, suc, ◌+◌, ◌*◌, ◌/◌, ◌%◌, ◌-◌, ◌<◌, ◌≤◌, ◌==◌, Bool, true, false, if◌then◌else◌, List, length, get_or, set, ap, arith, get_or-set_other, get_or-set_same}
-use Rattle.std.specs.Prelude.{length}
-use Rattle.std.specs.Int.{bit_at}
-use Rattle.std.proofs.lemmas.List.FromFn.{get_or-map-range_with_len, length-map-range_with_len}
-use Rattle.std.proofs.lemmas.Nat.Bits.{bit_at-zero}
-use Rattle.std.proofs.lemmas.Bool.{cases_eq}
+use Rattle.std.proofs.Common.{◌≡◌, ◌≢◌, ℕ, suc, ◌+◌, ◌*◌, ◌/◌, ◌%◌, ◌-◌, ◌<◌, ◌≤◌, ◌==◌, Bool, true, false, if◌then◌else◌, List, length, get_or, set, ap, arith}
+use Rattle.std.proofs.{Common.{get_or-set_other, get_or-set_same}, lemmas.List.FromFn.{get_or-map-range_with_len, length-map-range_with_len}}
+use Rattle.std.{proofs.lemmas.{Nat.Bits.{bit_at-zero}, Bool.{cases_eq}}, specs.{Prelude.{length}, Int.{bit_at}}}
 use Rattle.lz_slot.specs.Limits.{most_slots}
 use Rattle.lz_allot.specs.Trees.{word_at, is_told, shown, IsStart}
 

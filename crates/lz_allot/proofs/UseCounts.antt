@@ -1,18 +1,12 @@
 -- How many slots are free, taken and in limbo.
-use Rattle.std.proofs.Common.{◌≡◌, ◌≢◌, ⊎_elim, ℕ, zero, suc, ◌+◌, ◌-◌, ◌<◌, ◌≤◌, Bool, true, false, not, cond, List, [], ◌∷◌, length, get_or, set, map, refl, sym, ◌∙◌, ap, arith, get_or-set_same, get_or-set_other, length-set}
-use Rattle.std.specs.List.{count_by, position, prefix_len}
-use Rattle.std.proofs.lemmas.List.{ext_get_or, get_or-map, length-map}
-use Rattle.std.proofs.lemmas.List.Sums.{sum_by-cons, sum_by-set}
-use Rattle.std.proofs.lemmas.Bool.{cases_eq, cases_Bool}
-use Rattle.std.proofs.lemmas.Grind.{common_steps, elements}
-use Rattle.lz_allot.specs.declared.kind.Kind.{Kind}
 use Rattle.lz_allot.specs.declared.kind.Kind.TheVariants as kind
-use Rattle.lz_allot.specs.declared.row.Row.{Row}
-use Rattle.lz_allot.specs.declared.sight.Sight.{Sight}
-use Rattle.lz_allot.specs.declared.counts.Counts.{Counts}
+use Rattle.std.proofs.Common.{◌≡◌, ◌≢◌, ⊎_elim, ℕ, zero, suc, ◌+◌, ◌-◌, ◌<◌, ◌≤◌, Bool, true, false, not, cond, List, [], ◌∷◌, length, get_or, set, map, refl}
+use Rattle.std.proofs.{Common.{sym, ◌∙◌, ap, arith, get_or-set_same, get_or-set_other, length-set}, lemmas.List.{ext_get_or, get_or-map, length-map}}
+use Rattle.std.proofs.lemmas.{List.Sums.{sum_by-cons, sum_by-set}, Bool.{cases_eq, cases_Bool}, Grind.{common_steps, elements}}
+use Rattle.std.specs.List.{count_by, position, prefix_len}
+use Rattle.lz_allot.specs.declared.{kind.Kind.{Kind}, row.Row.{Row}, sight.Sight.{Sight}, counts.Counts.{Counts}}
 use Rattle.lz_allot.specs.Uses.{Use, Free, Taken, Limbo, use_of, is_free, is_taken, is_limbo, collect, see_pin, counts}
-use Rattle.lz_allot.specs.Allots.{IsQueue, kind_at, is_free_kind}
-use Rattle.lz_allot.proofs.ToldUses.{IsPlain, Shows}
+use Rattle.lz_allot.{specs.Allots.{IsQueue, kind_at, is_free_kind}, proofs.ToldUses.{IsPlain, Shows}}
 
 module _ {X : Type 0} (p : X → Bool) where
   -- one element more

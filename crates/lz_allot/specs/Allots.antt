@@ -1,15 +1,10 @@
 -- What is kept of the slots: the kind of each, the queue of those in limbo, and a row for each pass.
-use Rattle.std.specs.Prelude.{◌≡◌, ◌<◌, ◌≤◌, ◌%◌, ◌==◌, ℕ, nat_lt, Bool, true, false, if◌then◌else◌, List, length, map, fold, slice_index, slice_index_or, slice_set}
-use Rattle.std.specs.List.{list_any, position_or_len, range_with_len}
-use Rattle.lz_slot.specs.Limits.{most_passes, most_slots}
-use Rattle.lz_allot.specs.declared.kind.Kind.{Kind}
 use Rattle.lz_allot.specs.declared.kind.Kind.TheVariants as kind
-use Rattle.lz_allot.specs.declared.row.Row.{Row}
-use Rattle.lz_allot.specs.declared.sight.Sight.{Sight}
-use Rattle.lz_allot.specs.declared.sight.Sight.TheVariants.{Unseen, Inside, Left}
-use Rattle.lz_allot.specs.declared.counts.Counts.{Counts}
-use Rattle.lz_allot.specs.Rows.{first_row}
-use Rattle.lz_allot.specs.Uses.{Use, Free, Taken, Limbo, counts, use_of}
+use Rattle.std.specs.Prelude.{◌≡◌, ◌<◌, ◌≤◌, ◌%◌, ◌==◌, ℕ, nat_lt, Bool, true, false, if◌then◌else◌, List, length, map, fold, slice_index, slice_index_or}
+use Rattle.std.specs.{Prelude.{slice_set}, List.{list_any, position_or_len, range_with_len}}
+use Rattle.lz_slot.specs.Limits.{most_passes, most_slots}
+use Rattle.lz_allot.specs.declared.{kind.Kind.{Kind}, row.Row.{Row}, sight.Sight.{Sight, TheVariants.{Unseen, Inside, Left}}, counts.Counts.{Counts}}
+use Rattle.lz_allot.specs.{Rows.{first_row}, Uses.{Use, Free, Taken, Limbo, counts, use_of}}
 
 -- The uses of the slots, and what is known of each pass.
 pub record Allotted : Type 0 where

@@ -1,8 +1,7 @@
 -- What is known of each pass by the queue of the slots in limbo, which stand in the order of their retirement.
 use Rattle.std.specs.Prelude.{ℕ, ◌-◌, ◌==◌, if◌then◌else◌, min, List, [], ◌∷◌, map, fold}
 use Rattle.lz_slot.specs.Counted.{of_pass, set_of_pass}
-use Rattle.lz_allot.specs.declared.row.Row.{Row}
-use Rattle.lz_allot.specs.Uses.{is_outside}
+use Rattle.lz_allot.specs.{declared.row.Row.{Row}, Uses.{is_outside}}
 
 -- the row of a pass of which nothing was seen
 abbrev pub first_row : Row

@@ -1,7 +1,6 @@
 -- A tree of words in one list: the root is node 0, node k has the children 64k + 1 to 64k + 64, and the leaves come last.
 use Rattle.std.specs.Prelude.{◌≡◌, ℕ, zero, suc, ◌+◌, ◌*◌, ◌-◌, ◌/◌, ◌%◌, ◌<◌, ◌≤◌, ◌==◌, nat_lt, Bool, false, List, length, map, slice_index_or}
-use Rattle.std.specs.Int.{bit_at}
-use Rattle.std.specs.List.{range_with_len}
+use Rattle.std.specs.{Int.{bit_at}, List.{range_with_len}}
 use Rattle.lz_slot.specs.Limits.{most_slots}
 
 -- the word of node k

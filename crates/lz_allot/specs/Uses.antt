@@ -1,10 +1,8 @@
 -- What each slot is used for: it is free, taken or in limbo.
-use Rattle.std.specs.Prelude.{◌≤◌, ℕ, ◌%◌, Bool, true, false, ◌||◌, ◌==◌, if◌then◌else◌, List, [], ◌∷◌, map, replicate, slice_set, slice_index_or, position, count_by, Option, IsTrue}
-use Rattle.std.specs.List.{list_all}
+use Rattle.std.specs.Prelude.{◌≤◌, ℕ, ◌%◌, Bool, true, false, ◌||◌, ◌==◌, if◌then◌else◌, List, [], ◌∷◌, map, replicate, slice_set, slice_index_or, position}
+use Rattle.std.specs.{Prelude.{count_by, Option, IsTrue}, List.{list_all}}
 use Rattle.lz_slot.specs.Counted.{of_pass, set_of_pass}
-use Rattle.lz_allot.specs.declared.sight.Sight.{Sight}
-use Rattle.lz_allot.specs.declared.sight.Sight.TheVariants.{Unseen, Inside, Left}
-use Rattle.lz_allot.specs.declared.counts.Counts.{Counts}
+use Rattle.lz_allot.specs.declared.{sight.Sight.{Sight, TheVariants.{Unseen, Inside, Left}}, counts.Counts.{Counts}}
 
 -- A slot in limbo has a sight of each pass.
 pub data Use : Type 0 where

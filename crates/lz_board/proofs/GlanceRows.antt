@@ -1,17 +1,11 @@
 -- Worked rows of glances that must not hold, for each part of what a glance promises.
-use Rattle.std.proofs.Common.{◌≡◌, ⊎_elim, [], ◌∷◌, Ok, Err, sym, ap, ◌∙◌, arith}
+use Rattle.std.proofs.{Common.{◌≡◌, ⊎_elim, [], ◌∷◌, Ok, Err, sym, ap, ◌∙◌, arith}, lemmas.List.{append-nil}}
 use mathlib.Core.Bool.{false≢true}
-use Rattle.std.proofs.lemmas.List.{append-nil}
 use Rattle.lz_list.specs.declared.publishing.Change.TheVariants.{Added as as_added}
-use Rattle.lz_list.specs.declared.publishing.Publishing.TheVariants.{Linked as linked, Settled as settled, Halted as halted}
+use Rattle.lz_list.specs.declared.{publishing.Publishing.TheVariants.{Linked as linked, Settled as settled, Halted as halted}, layout.Sizes.{Sizes}}
 use Rattle.lz_list.specs.Traces.{Trace, Begins, linking, linking_in, member}
-use Rattle.lz_board.specs.declared.answer.Glance.{Glance}
-use Rattle.lz_board.specs.declared.answer.Glance.TheVariants.{Yes, No, Unsettled}
-use Rattle.lz_board.specs.declared.answer.GlanceFault.TheVariants.{Halted, Worn, BusyPass}
-use Rattle.lz_board.specs.declared.view.Part.{Part}
-use Rattle.lz_list.specs.declared.layout.Sizes.{Sizes}
-use Rattle.lz_board.specs.Glances.{Glances, Turns}
-use Rattle.lz_board.specs.Plays.{fresh}
+use Rattle.lz_board.specs.declared.answer.{Glance.{Glance, TheVariants.{Yes, No, Unsettled}}, GlanceFault.TheVariants.{Halted, Worn, BusyPass}}
+use Rattle.lz_board.specs.{declared.view.Part.{Part}, Glances.{Glances, Turns}, Plays.{fresh}}
 
 abbrev pub sizes : Sizes
 sizes = record { slots = 2; buckets = 1; passes = 2 }

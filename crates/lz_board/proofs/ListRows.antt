@@ -1,20 +1,12 @@
 -- Worked rows of lists: one that holds, and for each part of what a list promises one that must not.
 use Rattle.std.proofs.Common.{◌≡◌, inl, inr, ⊎_elim, ℕ, zero, suc, ◌<◌, true, None, Some, All, [], ◌∷◌, ◌++◌, length, Ok, Err, refl, sym, ap, subst, ◌∙◌, arith}
+use Rattle.std.proofs.lemmas.{Bool.{cases_eq, Decides.{nat_tests}}, List.{length-append}}
 use mathlib.Core.Bool.{false≢true}
-use Rattle.std.proofs.lemmas.Bool.{cases_eq}
-use Rattle.std.proofs.lemmas.Bool.Decides.{nat_tests}
-use Rattle.std.proofs.lemmas.List.{length-append}
 use Rattle.lz_list.specs.declared.publishing.Change.TheVariants.{Removed as as_removed}
-use Rattle.lz_list.specs.declared.publishing.Publishing.TheVariants.{Marked as marked, Settled as settled, Halted as halted}
-use Rattle.lz_list.specs.Traces.{Trace, Begins, member}
-use Rattle.lz_board.specs.declared.answer.GlanceFault.TheVariants.{Halted, Worn, BusyPass}
-use Rattle.lz_board.specs.declared.page.Page.{Page}
-use Rattle.lz_board.specs.declared.page.ListFault.TheVariants.{Memory, Glance}
-use Rattle.lz_board.specs.declared.view.Part.{Part}
-use Rattle.lz_board.specs.Glances.{Between, Glanced}
-use Rattle.lz_board.specs.Listings.{IsDurableIn, Listed, IsPage, Lists}
-use Rattle.lz_board.proofs.Upkeep.Growth.{extends_of}
-use Rattle.lz_board.proofs.GlanceRows.{E1, E2, only_E2, seeing}
+use Rattle.lz_list.specs.{declared.publishing.Publishing.TheVariants.{Marked as marked, Settled as settled, Halted as halted}, Traces.{Trace, Begins, member}}
+use Rattle.lz_board.specs.declared.{answer.GlanceFault.TheVariants.{Halted, Worn, BusyPass}, page.{Page.{Page}, ListFault.TheVariants.{Memory, Glance}}}
+use Rattle.lz_board.specs.{declared.view.Part.{Part}, Glances.{Between, Glanced}, Listings.{IsDurableIn, Listed, IsPage, Lists}}
+use Rattle.lz_board.proofs.{Upkeep.Growth.{extends_of}, GlanceRows.{E1, E2, only_E2, seeing}}
 
 -- after E2 pass 2 marked 12, and that was settled
 abbrev E4 : Trace

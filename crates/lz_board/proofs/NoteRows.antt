@@ -1,10 +1,7 @@
 -- Worked rows: whose a change is that was published, and the numbers of a glance's faults.
 use Rattle.std.proofs.Common.{◌≡◌, [], ◌∷◌, refl}
-use Rattle.lz_list.specs.declared.publishing.Publishing.TheVariants.{Linked as linked, Marked as marked, Unlinked as unlinked}
-use Rattle.lz_list.specs.Traces.{Trace}
-use Rattle.lz_board.specs.declared.answer.GlanceFault.TheVariants.{Halted, Worn, BusyPass}
-use Rattle.lz_board.specs.Glances.{glance_fault_number}
-use Rattle.lz_board.specs.Notes.{own}
+use Rattle.lz_list.specs.{declared.publishing.Publishing.TheVariants.{Linked as linked, Marked as marked, Unlinked as unlinked}, Traces.{Trace}}
+use Rattle.lz_board.specs.{declared.answer.GlanceFault.TheVariants.{Halted, Worn, BusyPass}, Glances.{glance_fault_number}, Notes.{own}}
 
 -- pass 1 linked key 12 in slot 0, and pass 2 took it out
 abbrev published : Trace

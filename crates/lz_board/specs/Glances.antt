@@ -1,16 +1,10 @@
 -- What a glance promises: P is what the pass had seen before, Q what it has seen after. Traces stand newest first.
 use Rattle.std.specs.Prelude.{◌≡◌, ℕ, suc, ◌<◌, Bool, true, false, [], ◌++◌, Result, Ok, Err}
 use Rattle.lz_list.specs.Traces.{Trace, Begins, linking, linking_in, flags_after, halt_word, IsSettled}
-use Rattle.lz_flush.specs.declared.need.Need.TheVariants.{Sync as asks_sync}
-use Rattle.lz_flush.specs.Settling.{may_answer}
-use Rattle.lz_machine.specs.Table.{last_pin}
-use Rattle.lz_board.specs.declared.answer.Glance.{Glance}
-use Rattle.lz_board.specs.declared.answer.Glance.TheVariants.{Yes, No, Unsettled}
-use Rattle.lz_board.specs.declared.answer.GlanceFault.{GlanceFault}
-use Rattle.lz_board.specs.declared.answer.GlanceFault.TheVariants.{Halted, Worn, BusyPass}
-use Rattle.lz_board.specs.declared.view.Part.{Part}
-use Rattle.lz_board.specs.Notes.{own}
-use Rattle.lz_machine.specs.Yards.{IsInside}
+use Rattle.lz_flush.specs.{declared.need.Need.TheVariants.{Sync as asks_sync}, Settling.{may_answer}}
+use Rattle.lz_machine.specs.{Table.{last_pin}, Yards.{IsInside}}
+use Rattle.lz_board.specs.declared.answer.{Glance.{Glance, TheVariants.{Yes, No, Unsettled}}, GlanceFault.{GlanceFault, TheVariants.{Halted, Worn, BusyPass}}}
+use Rattle.lz_board.specs.{declared.view.Part.{Part}, Notes.{own}}
 
 -- the number by which a program tells a fault
 abbrev pub glance_fault_number : GlanceFault → ℕ

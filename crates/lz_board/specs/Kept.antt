@@ -3,24 +3,12 @@ use Rattle.std.specs.Prelude.{◌≡◌, ◌⊎◌, ℕ, ◌≤◌, ◌==◌, Bo
 use mathlib.Core.Option.{some}
 use lib.ListN.{get_elem?}
 use Rattle.atomic_table.specs.Table.{State}
-use Rattle.lz_list.specs.declared.word.Word.{Word}
-use Rattle.lz_list.specs.declared.word.Word.TheVariants.{Pin as PinOf}
-use Rattle.lz_list.specs.Traces.{Trace, Lawful, word_after}
-use Rattle.lz_list.specs.Pinned.{IsQuiet}
-use Rattle.lz_machine.specs.declared.event.Event.{Event}
-use Rattle.lz_machine.specs.declared.event.Event.TheVariants.{Pin, Answer}
-use Rattle.lz_machine.specs.declared.event.Outcome.{Outcome}
-use Rattle.lz_machine.specs.declared.event.Outcome.TheVariants.{Done}
-use Rattle.lz_machine.specs.Table.{last_pin}
-use Rattle.lz_machine.specs.Yards.{IsInside}
-use Rattle.lz_list.specs.declared.layout.Sizes.{Sizes}
-use Rattle.lz_board.specs.declared.view.What.{What}
-use Rattle.lz_board.specs.declared.view.What.TheVariants.{Called, Played, Found}
-use Rattle.lz_board.specs.declared.view.Note.{Note}
-use Rattle.lz_board.specs.declared.view.Part.{Part}
-use Rattle.lz_board.specs.declared.view.View.{View}
-use Rattle.lz_board.specs.Notes.{trace_of, steps_of, Extends, Since, Quiet, InOrder, IsShared, AllShown, place, shape_of_sizes, pin_after, turned_at}
+use Rattle.lz_list.specs.{declared.{word.Word.{Word, TheVariants.{Pin as PinOf}}, layout.Sizes.{Sizes}}, Traces.{Trace, Lawful, word_after}, Pinned.{IsQuiet}}
 use Rattle.lz_list.specs.Addresses.{index, words_count}
+use Rattle.lz_machine.specs.{declared.event.{Event.{Event, TheVariants.{Pin, Answer}}, Outcome.{Outcome, TheVariants.{Done}}}, Table.{last_pin}}
+use Rattle.lz_machine.specs.Yards.{IsInside}
+use Rattle.lz_board.specs.declared.view.{What.{What, TheVariants.{Called, Played, Found}}, Note.{Note}, Part.{Part}, View.{View}}
+use Rattle.lz_board.specs.Notes.{trace_of, steps_of, Extends, Since, Quiet, InOrder, IsShared, AllShown, place, shape_of_sizes, pin_after, turned_at}
 
 -- by these steps of a pass it has a call open: they lead to a place of one
 abbrev pub is_calling : Sizes → List Note → Bool

@@ -3,22 +3,12 @@ use Rattle.std.specs.Prelude.{◌≡◌, ℕ, ◌∷◌, List, true, slice_index
 use mathlib.Core.Option.{some}
 use lib.ListN.{get_elem?}
 use Rattle.atomic_table.specs.Table.{State}
-use Rattle.lz_list.specs.declared.word.Word.{Word}
-use Rattle.lz_list.specs.declared.word.Word.TheVariants.{Pin as PinOf}
-use Rattle.lz_list.specs.declared.publishing.Publishing.{Publishing}
+use Rattle.lz_list.specs.declared.{word.Word.{Word, TheVariants.{Pin as PinOf}}, publishing.Publishing.{Publishing}}
 use Rattle.lz_list.specs.declared.publishing.Publishing.TheVariants.{Unlinked as unlinked, KeyPrepared as key_prepared, LinkPrepared as link_prepared}
-use Rattle.lz_list.specs.Traces.{Trace, Begins, Lawful, word_after}
-use Rattle.lz_list.specs.declared.layout.Sizes.{Sizes}
-use Rattle.lz_board.specs.declared.view.Note.{Note}
-use Rattle.lz_board.specs.declared.view.Part.{Part}
-use Rattle.lz_board.specs.declared.view.View.{View}
-use Rattle.lz_board.specs.declared.view.Opening.{Opening}
-use Rattle.lz_board.specs.Notes.{trace_of, steps_of, Since, IsShared}
-use Rattle.lz_list.specs.Addresses.{index}
+use Rattle.lz_list.specs.{declared.layout.Sizes.{Sizes}, Traces.{Trace, Begins, Lawful, word_after}, Addresses.{index}}
+use Rattle.lz_board.specs.{declared.view.{Note.{Note}, Part.{Part}, View.{View}, Opening.{Opening}}, Notes.{trace_of, steps_of, Since, IsShared}, Kept.{IsPart}}
+use Rattle.lz_board.specs.{Opened.{opened_by}, Handles.{holds_of}}
 use Rattle.lz_machine.specs.Yards.{IsInside}
-use Rattle.lz_board.specs.Kept.{IsPart}
-use Rattle.lz_board.specs.Opened.{opened_by}
-use Rattle.lz_board.specs.Handles.{holds_of}
 
 -- a seat has this view, where the board is in state s
 abbrev pub IsView : State Note View → View → Type 0

@@ -2,14 +2,9 @@
 use Rattle.std.specs.Prelude.{◌≡◌, ◌⊎◌, ℕ, suc, ◌+◌, ◌-◌, ◌<◌, ◌≤◌, true, Option, Some, None, IfSome, Result, Ok, Err, List, [], All, Contains, length}
 use Rattle.lz_slot.specs.Limits.{largest_key}
 use Rattle.lz_list.specs.Traces.{Trace, halt_word, linking, linking_in, SettledYes}
-use Rattle.lz_machine.specs.Table.{last_pin}
-use Rattle.lz_machine.specs.Yards.{IsInside}
-use Rattle.lz_board.specs.declared.answer.GlanceFault.TheVariants.{Halted, Worn, BusyPass}
-use Rattle.lz_board.specs.declared.page.Page.{Page}
-use Rattle.lz_board.specs.declared.page.ListFault.{ListFault}
-use Rattle.lz_board.specs.declared.page.ListFault.TheVariants.{Memory, Glance}
-use Rattle.lz_board.specs.declared.view.Part.{Part}
-use Rattle.lz_board.specs.Glances.{Between, Changes, Glanced, IsUnhalted}
+use Rattle.lz_machine.specs.{Table.{last_pin}, Yards.{IsInside}}
+use Rattle.lz_board.specs.declared.{answer.GlanceFault.TheVariants.{Halted, Worn, BusyPass}, page.{Page.{Page}, ListFault.{ListFault}}}
+use Rattle.lz_board.specs.{declared.{page.ListFault.TheVariants.{Memory, Glance}, view.Part.{Part}}, Glances.{Between, Changes, Glanced, IsUnhalted}}
 
 -- k is settled as a member at R, by its node in slot s
 pub record IsDurableIn (s k : ℕ) (R : Trace) : Type 0 where

@@ -2,26 +2,12 @@
 -- where Q is some publishings and then P.
 use Rattle.std.specs.Prelude.{◌≡◌, ℕ, suc, ◌%◌, ◌<◌, ◌≤◌, ◌==◌, Bool, false, nat_lt, if◌then◌else◌, List, [], ◌∷◌, ◌++◌, filter, length, Option, Some, None}
 use Rattle.lz_slot.specs.declared.command.Command.{Command}
-use Rattle.lz_list.specs.declared.word.Word.{Word}
-use Rattle.lz_list.specs.declared.word.Word.TheVariants.{Head, Link, Key, Pin as PinOf, Halt}
-use Rattle.lz_list.specs.declared.publishing.Publishing.{Publishing}
-use Rattle.lz_list.specs.declared.publishing.Publishing.TheVariants.{Linked as linked, Marked as marked, Unlinked as unlinked}
+use Rattle.lz_list.specs.declared.{word.Word.{Word, TheVariants.{Head, Link, Key, Pin as PinOf, Halt}}, publishing.Publishing.{Publishing}}
+use Rattle.lz_list.specs.declared.{publishing.Publishing.TheVariants.{Linked as linked, Marked as marked, Unlinked as unlinked}, layout.Sizes.{Sizes}}
 use Rattle.lz_list.specs.Traces.{Trace, word_after}
-use Rattle.lz_machine.specs.declared.event.Event.{Event}
-use Rattle.lz_machine.specs.declared.event.Event.TheVariants.{Pin, Hop, Answer}
-use Rattle.lz_machine.specs.declared.event.Outcome.{Outcome}
-use Rattle.lz_machine.specs.declared.event.Outcome.TheVariants.{Done, Value}
-use Rattle.lz_machine.specs.declared.event.Reply.{Reply}
-use Rattle.lz_machine.specs.declared.caller.Progress.{Progress}
-use Rattle.lz_machine.specs.Yards.{Shape}
-use Rattle.lz_machine.specs.Calls.{begun, progress_after}
-use Rattle.lz_machine.specs.Runs.{reply_at}
-use Rattle.lz_board.specs.declared.moment.Moment.{Moment}
-use Rattle.lz_list.specs.declared.layout.Sizes.{Sizes}
-use Rattle.lz_board.specs.declared.view.What.{What}
-use Rattle.lz_board.specs.declared.view.What.TheVariants.{Called, Played, Found}
-use Rattle.lz_board.specs.declared.view.Note.{Note}
-use Rattle.lz_board.specs.declared.view.Load.{Load}
+use Rattle.lz_machine.specs.declared.event.{Event.{Event, TheVariants.{Pin, Hop, Answer}}, Outcome.{Outcome, TheVariants.{Done, Value}}, Reply.{Reply}}
+use Rattle.lz_machine.specs.{declared.caller.Progress.{Progress}, Yards.{Shape}, Calls.{begun, progress_after}, Runs.{reply_at}}
+use Rattle.lz_board.specs.declared.{moment.Moment.{Moment}, view.{What.{What, TheVariants.{Called, Played, Found}}, Note.{Note}, Load.{Load}}}
 
 abbrev pub moment_at : ℕ → Moment
 moment_at m = record { marker = record {}; at = m }

@@ -1,19 +1,11 @@
 -- What the pen may note and store: the conditions of its calls.
 use Rattle.std.specs.Prelude.{◌≡◌, ◌≢◌, ◌⊎◌, ℕ, suc, ◌%◌, ◌<◌, ◌≤◌, ◌==◌, true, if◌then◌else◌, List, [], ◌∷◌, ◌++◌, length, Option, Some, None}
-use Rattle.lz_list.specs.declared.word.Word.{Word}
-use Rattle.lz_list.specs.declared.publishing.Publishing.{Publishing}
-use Rattle.lz_list.specs.declared.publishing.Publishing.TheVariants.{KeyPrepared as key_prepared, LinkPrepared as link_prepared}
+use Rattle.lz_list.specs.declared.{word.Word.{Word}, publishing.Publishing.{Publishing}}
+use Rattle.lz_list.specs.declared.{publishing.Publishing.TheVariants.{KeyPrepared as key_prepared, LinkPrepared as link_prepared}, layout.Sizes.{Sizes}}
 use Rattle.lz_list.specs.Traces.{Trace, Lawful, word_after}
-use Rattle.lz_machine.specs.Table.{last_pin}
-use Rattle.lz_machine.specs.Limbo.{IsAway}
-use Rattle.lz_list.specs.declared.layout.Sizes.{Sizes}
-use Rattle.lz_board.specs.declared.view.What.{What}
-use Rattle.lz_board.specs.declared.view.What.TheVariants.{Called, Played, Found}
-use Rattle.lz_board.specs.declared.view.Note.{Note}
-use Rattle.lz_board.specs.declared.view.Part.{Part}
-use Rattle.lz_board.specs.Notes.{as_list, trace_of, own, IsShared, pin_after, pin_after_what}
-use Rattle.lz_board.specs.Kept.{is_calling, shows}
-use Rattle.lz_machine.specs.Yards.{IsInside}
+use Rattle.lz_machine.specs.{Table.{last_pin}, Limbo.{IsAway}, Yards.{IsInside}}
+use Rattle.lz_board.specs.declared.view.{What.{What, TheVariants.{Called, Played, Found}}, Note.{Note}, Part.{Part}}
+use Rattle.lz_board.specs.{Notes.{as_list, trace_of, own, IsShared, pin_after, pin_after_what}, Kept.{is_calling, shows}}
 
 -- a note that shows the pin word of pass q, and the notes before it
 pub record Sighting (opened : Trace) (ns : List Note) (q : ℕ) : Type 0 where

@@ -1,16 +1,9 @@
 -- What a clause reads of a board, of its pen and of a pass.
 use Rattle.std.specs.Prelude.{◌≡◌, ◌-◌, ◌≤◌, ℕ, suc, List, [], ◌∷◌}
 use Rattle.atomic_table.specs.Seated.{TableId}
-use Rattle.lz_list.specs.Traces.{Trace}
+use Rattle.lz_list.specs.{Traces.{Trace}, declared.layout.Sizes.{Sizes}}
 use Rattle.lz_machine.specs.Table.{last_pin}
-use Rattle.lz_list.specs.declared.layout.Sizes.{Sizes}
-use Rattle.lz_board.specs.declared.view.Note.{Note}
-use Rattle.lz_board.specs.declared.view.Part.{Part}
-use Rattle.lz_board.specs.declared.view.View.{View}
-use Rattle.lz_board.specs.declared.board.Board.{Board}
-use Rattle.lz_board.specs.declared.board.Pen.{Pen}
-use Rattle.lz_board.specs.declared.pass.Pass.{Pass}
-use Rattle.lz_board.specs.Opened.{opened_by}
+use Rattle.lz_board.specs.{declared.{view.{Note.{Note}, Part.{Part}, View.{View}}, board.{Board.{Board}, Pen.{Pen}}, pass.Pass.{Pass}}, Opened.{opened_by}}
 use Rattle.lz_board.specs.Plays.{no_sizes, alone, pen_view, fresh, parts_from}
 
 -- which board it is: its table, how large it is, and the trace with which its life began

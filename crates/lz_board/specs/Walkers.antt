@@ -1,31 +1,14 @@
 -- What a walker knows that holds no lock: P0 is the trace at its pin, P what it has seen, k its key.
 use Rattle.std.specs.Prelude.{◌≡◌, ℕ, suc, ◌+◌, ◌-◌, ◌*◌, ◌<◌, ◌≤◌, Bool, true, false, Option, Some, None}
 use Rattle.lz_slot.specs.Limits.{most_slots}
-use Rattle.lz_list.specs.declared.flags.Flags.{Flags}
-use Rattle.lz_list.specs.declared.place.Place.{Place}
-use Rattle.lz_list.specs.declared.place.Place.TheVariants.{Node}
-use Rattle.lz_list.specs.declared.walk.Look.{Look}
-use Rattle.lz_list.specs.declared.walk.Look.TheVariants.{AtHead, AtKey, AtMet, AtBelow}
-use Rattle.lz_list.specs.declared.walk.Met.{Met}
-use Rattle.lz_list.specs.declared.walk.Met.TheVariants.{Absent, Unmarked, Marked}
-use Rattle.lz_list.specs.Words.{link_to, place_number}
-use Rattle.lz_list.specs.Walks.{Hopped, More, End, wants, hopped}
-use Rattle.lz_list.specs.Hops.{LeadsOn}
-use Rattle.lz_list.specs.Traces.{Trace, bucket_of, key_word, rank_at, flags_after}
-use Rattle.lz_list.specs.Pinned.{Stood}
+use Rattle.lz_list.specs.declared.{flags.Flags.{Flags}, place.Place.{Place, TheVariants.{Node}}, walk.Look.{Look, TheVariants.{AtHead, AtKey, AtMet, AtBelow}}}
+use Rattle.lz_list.specs.{declared.{walk.Met.{Met, TheVariants.{Absent, Unmarked, Marked}}, layout.Sizes.{Sizes}}, Words.{link_to, place_number}}
+use Rattle.lz_list.specs.{Walks.{Hopped, More, End, wants, hopped}, Hops.{LeadsOn}, Traces.{Trace, bucket_of, key_word, rank_at, flags_after}, Pinned.{Stood}}
 use Rattle.lz_list.specs.Laws.{IsHigh}
-use Rattle.lz_machine.specs.Stands.{WasBetween}
-use Rattle.lz_machine.specs.CallersSound.{IsLooking}
-use Rattle.lz_flush.specs.declared.need.Need.{Need}
-use Rattle.lz_flush.specs.declared.need.Need.TheVariants.{Now, Sync as asks_sync}
-use Rattle.lz_flush.specs.Settling.{may_answer}
-use Rattle.lz_list.specs.declared.layout.Sizes.{Sizes}
-use Rattle.lz_board.specs.declared.view.Part.{Part}
-use Rattle.lz_board.specs.declared.answer.Glance.{Glance}
-use Rattle.lz_board.specs.declared.answer.Glance.TheVariants.{Yes, No, Unsettled}
-use Rattle.lz_board.specs.Notes.{IsShared, Since}
-use Rattle.lz_board.specs.Plays.{knowing, IsShownTo}
-use Rattle.lz_board.specs.Glances.{Glanced, GlancedUnsettled}
+use Rattle.lz_machine.specs.{Stands.{WasBetween}, CallersSound.{IsLooking}}
+use Rattle.lz_flush.specs.{declared.need.Need.{Need, TheVariants.{Now, Sync as asks_sync}}, Settling.{may_answer}}
+use Rattle.lz_board.specs.{declared.{view.Part.{Part}, answer.Glance.{Glance, TheVariants.{Yes, No, Unsettled}}}, Notes.{IsShared, Since}}
+use Rattle.lz_board.specs.{Plays.{knowing, IsShownTo}, Glances.{Glanced, GlancedUnsettled}}
 
 -- a walk finds a bucket, and a slot after each link
 pub record IsWalkable (z : Sizes) : Type 0 where

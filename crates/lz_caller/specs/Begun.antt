@@ -1,10 +1,6 @@
 -- A call that was just made.
-use Rattle.lz_machine.specs.declared.event.Outcome.{Outcome}
-use Rattle.lz_machine.specs.declared.event.Outcome.TheVariants.{OldFile}
-use Rattle.lz_machine.specs.declared.event.Reply.TheVariants.{OldFile as SaysOldFile}
-use Rattle.lz_machine.specs.declared.caller.Progress.{Progress}
-use Rattle.lz_machine.specs.declared.caller.Progress.TheVariants.{Answering}
-use Rattle.lz_machine.specs.Calls.{first_progress}
+use Rattle.lz_machine.specs.declared.{event.{Outcome.{Outcome, TheVariants.{OldFile}}, Reply.TheVariants.{OldFile as SaysOldFile}}, caller.Progress.{Progress}}
+use Rattle.lz_machine.specs.{declared.caller.Progress.TheVariants.{Answering}, Calls.{first_progress}}
 
 -- where a call begins, whose Invoke answered so
 abbrev pub begun_after : Outcome → Progress

@@ -1,11 +1,8 @@
 -- A call that walks, and how far its walk has come.
 use Rattle.std.specs.Prelude.{Option, Some, None}
 use Rattle.lz_slot.specs.Sets.{key_of}
-use Rattle.lz_list.specs.declared.walk.Look.{Look}
-use Rattle.lz_list.specs.declared.walk.Walk.{Walk}
-use Rattle.lz_machine.specs.declared.caller.Progress.{Progress}
-use Rattle.lz_machine.specs.declared.caller.Progress.TheVariants.{Walking}
-use Rattle.lz_machine.specs.Orders.{Calling}
+use Rattle.lz_list.specs.declared.walk.{Look.{Look}, Walk.{Walk}}
+use Rattle.lz_machine.specs.{declared.caller.Progress.{Progress, TheVariants.{Walking}}, Orders.{Calling}}
 
 abbrev pub look_at : Progress → Option Look
 look_at (Walking aim look) = Some look

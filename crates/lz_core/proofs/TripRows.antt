@@ -1,12 +1,10 @@
 -- Worked rows: a device that is tripped fails once, and a device that isn't never fails. And the numbers of a play's faults.
-use Rattle.std.proofs.Common.{◌≡◌, ℕ, true, false, [], ◌∷◌, refl, arith}
-use Rattle.std.proofs.lemmas.Bool.{false≢true}
+use Rattle.lz_core.specs.declared.world.PlayFault.TheVariants as play_fault
+use Rattle.std.proofs.{Common.{◌≡◌, ℕ, true, false, [], ◌∷◌, refl, arith}, lemmas.Bool.{false≢true}}
 use Rattle.lz_slot.specs.declared.command.Command.{Command}
 use Rattle.lz_disk.specs.Images.{Medium}
 use Rattle.lz_machine.specs.Runs.{Point, Calls, Turn, Fails, Looks, Trips, Stops, Opens, OpenFails, run}
-use Rattle.lz_core.specs.declared.world.PlayFault.TheVariants as play_fault
-use Rattle.lz_core.specs.Trips.{CallsDevice, GoAsTripped}
-use Rattle.lz_core.specs.Worlds.{play_fault_number}
+use Rattle.lz_core.specs.{Trips.{CallsDevice, GoAsTripped}, Worlds.{play_fault_number}}
 
 module _ (p : Point) (a b : ℕ) (c : Command) (new later : Medium) where
   -- the first call after a trip fails, also where other calls have begun between

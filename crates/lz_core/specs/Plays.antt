@@ -1,10 +1,8 @@
 -- What a world plays: its steps one for one, as steps of a run.
 use Rattle.std.specs.Prelude.{◌≡◌, ◌⊎◌, ℕ, Bool, List, [], ◌∷◌, ◌++◌, reverse}
 use Rattle.lz_slot.specs.declared.history.Mark.{Mark}
-use Rattle.lz_disk.specs.Images.{Medium}
-use Rattle.lz_disk.specs.Picks.{left_by}
-use Rattle.lz_core.specs.declared.play.Step.{Step as PlayStep}
-use Rattle.lz_core.specs.declared.play.Step.TheVariants.{Call, Turn as TurnOf, Trip, Stop, Crash, Open}
+use Rattle.lz_disk.specs.{Images.{Medium}, Picks.{left_by}}
+use Rattle.lz_core.specs.declared.play.Step.{Step as PlayStep, TheVariants.{Call, Turn as TurnOf, Trip, Stop, Crash, Open}}
 use Rattle.lz_machine.specs.Runs.{State, disk_of, Transition, Calls, Turn, Fails, Trips, Stops, Crashes, Opens, OpenFails, Point, run, IsRun}
 
 -- in this state a step of a play is this step of a run; what the device does is the run's

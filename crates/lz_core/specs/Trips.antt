@@ -1,8 +1,6 @@
 -- Where a device fails that may be tripped.
 use Rattle.std.specs.Prelude.{◌≡◌, ◌↔◌, ℕ, Bool, true, false, IsTrue, IsSomeAnd, List, [], ◌∷◌}
-use Rattle.lz_vault.specs.Vaults.{IsDeviceCalled}
-use Rattle.lz_vault.specs.Opens.{open_fault_number}
-use Rattle.lz_vault.specs.declared.opening.OpenFault.TheVariants.{Device}
+use Rattle.lz_vault.specs.{Vaults.{IsDeviceCalled}, Opens.{open_fault_number}, declared.opening.OpenFault.TheVariants.{Device}}
 use Rattle.lz_machine.specs.Table.{line_call}
 use Rattle.lz_machine.specs.Runs.{State, Up, Down, Transition, Calls, Turn, Fails, Looks, Trips, Opens, OpenFails, Point, caller_at, next_event, run}
 

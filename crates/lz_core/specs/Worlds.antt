@@ -1,44 +1,21 @@
 -- What contracts see of a world, and what a play does to it.
-use Rattle.std.specs.Prelude.{◌≡◌, ◌≢◌, ◌⊎◌, ◌↔◌, ℕ, suc, Bool, true, false, if◌then◌else◌, ◌-◌, ◌<◌, ◌≤◌, IsTrue, IsNone, IsSome, IsSomeAnd, List, [], ◌∷◌, ◌++◌, length, map, reverse, take, slice_get, slice_index_or, Option, Some, None}
-use Rattle.lz_slot.specs.Limits.{most_actors}
-use Rattle.lz_slot.specs.declared.history.Mark.{Mark}
-use Rattle.lz_slot.specs.Sets.{Keys, Same, members}
-use Rattle.lz_slot.specs.Histories.{ChainTo, lives}
-use Rattle.lz_slot.specs.Bytes.{Holds, format_of}
-use Rattle.lz_slot.specs.declared.format.Format.{Format}
-use Rattle.lz_disk.specs.Images.{Medium, at_rest}
-use Rattle.lz_disk.specs.Records.{Past, after, device_of}
-use Rattle.lz_machine.specs.declared.event.Event.{Event}
-use Rattle.lz_machine.specs.declared.event.Outcome.{Outcome}
-use Rattle.lz_machine.specs.declared.event.Outcome.TheVariants.{Fault}
-use Rattle.lz_machine.specs.declared.kind.Kind.{Kind}
-use Rattle.lz_machine.specs.Kinds.{kind_of}
-use Rattle.lz_core.specs.declared.play.Step.{Step as PlayStep}
-use Rattle.lz_core.specs.declared.play.Step.TheVariants.{Call, Turn as TurnOf, Open}
-use Rattle.lz_core.specs.declared.open_calls.OpenCall.{OpenCall}
-use Rattle.lz_core.specs.declared.world.PlayFault.{PlayFault}
 use Rattle.lz_core.specs.declared.world.PlayFault.TheVariants as play_fault
-use Rattle.lz_vault.specs.Opens.{open_fault_number}
-use Rattle.lz_vault.specs.declared.opening.OpenFault.{OpenFault}
-use Rattle.lz_vault.specs.declared.opening.OpenFault.TheVariants.{Device, Memory}
-use Rattle.lz_machine.specs.Yards.{Shape}
-use Rattle.lz_yard.specs.declared.told.Told.{Told}
-use Rattle.lz_yard.specs.Parts.{YardOver}
-use Rattle.lz_machine.specs.Table.{line, line_failed, needs}
-use Rattle.lz_machine.specs.Orders.{shape_with}
-use Rattle.lz_machine.specs.Calls.{event_at, loaded, progress_after}
-use Rattle.lz_machine.specs.Ready.{IsEventOf}
-use Rattle.lz_yard.specs.Steps.{Played}
-use Rattle.lz_machine.specs.Runs.{Start, IsStart, start_keys, first_point, Service, Caller, State, Up, Down, Transition, Turn, Fails, MayStep, state_after, calls_made_after, marks_of, caller_at, next_event, reply_at, moved_on, MayPlay, IsActor, MayLeave, Point, run}
-use Rattle.std.specs.List.{All}
-use Rattle.lz_list.specs.declared.word.Word.TheVariants.{Key}
-use Rattle.lz_list.specs.Words.{Words, get}
-use Rattle.lz_list.specs.Lists.{IsMember}
-use Rattle.lz_slot.specs.Limits.{largest_key}
+use Rattle.std.specs.Prelude.{◌≡◌, ◌≢◌, ◌⊎◌, ◌↔◌, ℕ, suc, Bool, true, false, if◌then◌else◌, ◌-◌, ◌<◌, ◌≤◌, IsTrue, IsNone, IsSome, IsSomeAnd, List, [], ◌∷◌}
+use Rattle.std.specs.{Prelude.{◌++◌, length, map, reverse, take, slice_get, slice_index_or, Option, Some, None}, List.{All}}
+use Rattle.lz_slot.specs.{Limits.{most_actors, largest_key}, declared.{history.Mark.{Mark}, format.Format.{Format}}, Sets.{Keys, Same, members}}
+use Rattle.lz_slot.specs.{Histories.{ChainTo, lives}, Bytes.{Holds, format_of}}
+use Rattle.lz_disk.specs.{Images.{Medium, at_rest}, Records.{Past, after, device_of}}
+use Rattle.lz_machine.specs.{declared.{event.{Event.{Event}, Outcome.{Outcome, TheVariants.{Fault}}}, kind.Kind.{Kind}}, Kinds.{kind_of}, Yards.{Shape}}
+use Rattle.lz_machine.specs.{Table.{line, line_failed, needs}, Orders.{shape_with}, Calls.{event_at, loaded, progress_after}, Ready.{IsEventOf}, Runs.{Start}}
+use Rattle.lz_machine.specs.Runs.{IsStart, start_keys, first_point, Service, Caller, State, Up, Down, Transition, Turn, Fails, MayStep, state_after}
+use Rattle.lz_machine.specs.Runs.{calls_made_after, marks_of, caller_at, next_event, reply_at, moved_on, MayPlay, IsActor, MayLeave, Point, run}
 use Rattle.lz_machine.specs.Points.{IsBetweenLooks, IsReached}
+use Rattle.lz_core.specs.declared.{play.Step.{Step as PlayStep, TheVariants.{Call, Turn as TurnOf, Open}}, open_calls.OpenCall.{OpenCall}}
+use Rattle.lz_core.specs.{declared.world.PlayFault.{PlayFault}, Plays.{IsPlayOf, PlaysTo}, Trips.{CallsDevice, GoAsTripped, IsFailure, tripped_by}}
+use Rattle.lz_vault.specs.{Opens.{open_fault_number}, declared.opening.OpenFault.{OpenFault, TheVariants.{Device, Memory}}}
+use Rattle.lz_yard.specs.{declared.told.Told.{Told}, Parts.{YardOver}, Steps.{Played}}
+use Rattle.lz_list.specs.{declared.word.Word.TheVariants.{Key}, Words.{Words, get}, Lists.{IsMember}}
 use Rattle.lz_judge.specs.MarkLines.{AreMarksOfRun, IsCallNumber}
-use Rattle.lz_core.specs.Plays.{IsPlayOf, PlaysTo}
-use Rattle.lz_core.specs.Trips.{CallsDevice, GoAsTripped, IsFailure, tripped_by}
 
 -- A world as contracts see it: its state in a run, how many calls were made, and whether its device's next call fails.
 pub record WorldOver : Type 0 where

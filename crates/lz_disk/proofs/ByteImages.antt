@@ -1,19 +1,12 @@
 -- What a crash leaves that puts one byte at each loose position.
-use Rattle.std.proofs.Common.{◌≡◌, ◌⊎◌, inl, inr, ⊎_elim, ℕ, zero, suc, ◌+◌, ◌-◌, ◌≤◌, ◌<◌, min, Bool, true, false, List, [], ◌∷◌, ◌++◌, length, get_or, take, drop, replicate, if◌then◌else◌, sym, refl, ◌∙◌, ap, subst, arith}
-use Rattle.std.proofs.lemmas.Bool.{cases_Bool, cases_lt}
-use Rattle.std.proofs.lemmas.List.{get_or-replicate, length-replicate, take_more, drop-drop}
-use borrow.Rule.Slice.PartMut.{put_mid}
-use Rattle.std.proofs.lemmas.Grind.{same_number_lists}
-use Rattle.lz_disk.specs.Images.{Medium, IsImage, IsConsistent, AreBytes, is_loose, overwritten}
-use Rattle.lz_disk.specs.Picks.{with_loose, with_first, left_by}
-use Rattle.lz_disk.specs.Records.{after, after_record}
-use Rattle.lz_disk.specs.declared.memory.Pick.{Pick}
-use Rattle.lz_disk.specs.declared.memory.Pick.TheVariants.{Old, New, Byte, Part, Mask, Nth}
-use Rattle.lz_disk.specs.declared.memory.Record.{Record}
-use Rattle.lz_disk.specs.declared.memory.Record.TheVariants.{Synced}
 use Rattle.lz_disk.proofs.Overwrites as over
-use Rattle.lz_disk.proofs.Writes.{loose_outside, loose_inside}
-use Rattle.lz_disk.proofs.GrownRecords.{after_push}
+use Rattle.std.proofs.Common.{◌≡◌, ◌⊎◌, inl, inr, ⊎_elim, ℕ, zero, suc, ◌+◌, ◌-◌, ◌≤◌, ◌<◌, min, Bool, true, false, List, [], ◌∷◌, ◌++◌, length, get_or, take}
+use Rattle.std.proofs.{Common.{drop, replicate, if◌then◌else◌, sym, refl, ◌∙◌, ap, subst, arith}, lemmas.Bool.{cases_Bool, cases_lt}}
+use Rattle.std.proofs.lemmas.{List.{get_or-replicate, length-replicate, take_more, drop-drop}, Grind.{same_number_lists}}
+use borrow.Rule.Slice.PartMut.{put_mid}
+use Rattle.lz_disk.specs.{Images.{Medium, IsImage, IsConsistent, AreBytes, is_loose, overwritten}, Picks.{with_loose, with_first, left_by}}
+use Rattle.lz_disk.specs.{Records.{after, after_record}, declared.memory.{Pick.{Pick, TheVariants.{Old, New, Byte, Part, Mask, Nth}}, Record.{Record}}}
+use Rattle.lz_disk.{specs.declared.memory.Record.TheVariants.{Synced}, proofs.{Writes.{loose_outside, loose_inside}, GrownRecords.{after_push}}}
 use Rattle.lz_disk.proofs.PickImages.{mask_not_shorter, mask_not_longer, mask_either, length-with_nth, nth_at, nth_either, nth_sure}
 
 abbrev chosen : List (ℕ × List ℕ) → ℕ → ℕ → ℕ → ℕ

@@ -1,6 +1,5 @@
 -- Worked rows: the images of a bytewise medium, byte by byte.
-use Rattle.std.proofs.Common.{◌≡◌, ◌⊎◌, inl, inr, ℕ, zero, suc, ◌+◌, ◌<◌, true, false, List, [], ◌∷◌, get_or, refl, arith}
-use Rattle.std.proofs.lemmas.Bool.{true≢false}
+use Rattle.std.proofs.{Common.{◌≡◌, ◌⊎◌, inl, inr, ℕ, zero, suc, ◌+◌, ◌<◌, true, false, List, [], ◌∷◌, get_or, refl, arith}, lemmas.Bool.{true≢false}}
 use Rattle.lz_disk.specs.Images.{Medium, AreBytes, IsImage, WasWritten, is_loose, at_rest, written}
 
 -- two bytes at rest, of which both are written, and the first again

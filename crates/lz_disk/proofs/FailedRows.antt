@@ -1,6 +1,5 @@
 -- Worked rows: what a write that failed may leave.
-use Rattle.std.proofs.Common.{◌≡◌, ℕ, zero, suc, ◌≤◌, true, false, List, [], ◌∷◌, slice_index, refl, ap, arith}
-use Rattle.std.proofs.lemmas.Bool.{false≢true}
+use Rattle.std.proofs.{Common.{◌≡◌, ℕ, zero, suc, ◌≤◌, true, false, List, [], ◌∷◌, slice_index, refl, ap, arith}, lemmas.Bool.{false≢true}}
 use Rattle.lz_disk.specs.Images.{Medium, AreBytes, WriteFailed, at_rest}
 
 -- a text of two bytes at rest, and a medium that is read so after three bytes were to be written from offset 1 on

@@ -1,9 +1,6 @@
 -- Worked rows: a disk over a file, and the writes that wait.
-use Rattle.std.proofs.Common.{◌≡◌, ◌≤◌, inr, ℕ, zero, suc, false, List, [], ◌∷◌, length, slice_index, refl, sym, ap, arith}
-use Rattle.std.proofs.lemmas.Bool.{false≢true}
-use Rattle.lz_disk.specs.Images.{Medium, AreBytes, IsImage, at_rest}
-use Rattle.lz_disk.specs.Gathers.{Waiting, Joined}
-use Rattle.lz_disk.specs.FileDisks.{IsOver, medium_over}
+use Rattle.std.proofs.{Common.{◌≡◌, ◌≤◌, inr, ℕ, zero, suc, false, List, [], ◌∷◌, length, slice_index, refl, sym, ap, arith}, lemmas.Bool.{false≢true}}
+use Rattle.lz_disk.specs.{Images.{Medium, AreBytes, IsImage, at_rest}, Gathers.{Waiting, Joined}, FileDisks.{IsOver, medium_over}}
 
 -- a file of two bytes at rest, over which a write of one byte waits
 abbrev two : Medium

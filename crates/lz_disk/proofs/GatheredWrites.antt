@@ -1,7 +1,6 @@
 -- Writes side by side leave in a text what one write of all their bytes leaves.
 use Rattle.std.proofs.Common.{◌≡◌, ℕ, ◌+◌, ◌≤◌, List, ◌++◌, length, take, drop, sym, ◌∙◌, ap, arith, length-append, append_assoc}
-use Rattle.std.proofs.Math.Seq.{take-append_seam, drop-append-add}
-use Rattle.std.proofs.lemmas.List.{drop-drop, length-take-le}
+use Rattle.std.proofs.{Math.Seq.{take-append_seam, drop-append-add}, lemmas.List.{drop-drop, length-take-le}}
 use Rattle.lz_disk.specs.Images.{overwritten}
 
 -- a write goes on where those that waited end

@@ -1,8 +1,7 @@
 -- How the bytes that a mask takes are put into the durable text, one position after another.
-use Rattle.std.proofs.Common.{◌≡◌, ℕ, zero, suc, ◌+◌, ◌≤◌, ◌<◌, Bool, true, false, List, [], ◌∷◌, ◌++◌, length, get_or, drop, set, if◌then◌else◌, sym, refl, ◌∙◌, ap, arith, length-append, drop-cons}
-use Rattle.std.proofs.lemmas.List.{drop_all}
-use Rattle.lz_disk.specs.Picks.{is_taken, with_mask}
-use Rattle.lz_disk.proofs.PartImages.{append-assoc, append-nil, set_there, first_of, none_of}
+use Rattle.std.proofs.Common.{◌≡◌, ℕ, zero, suc, ◌+◌, ◌≤◌, ◌<◌, Bool, true, false, List, [], ◌∷◌, ◌++◌, length, get_or, drop, set, if◌then◌else◌, sym, refl}
+use Rattle.std.proofs.{Common.{◌∙◌, ap, arith, length-append, drop-cons}, lemmas.List.{drop_all}}
+use Rattle.lz_disk.{specs.Picks.{is_taken, with_mask}, proofs.PartImages.{append-assoc, append-nil, set_there, first_of, none_of}}
 
 read_past : (xs : List ℕ) (a : ℕ) (ys : List ℕ) (i : ℕ) → length xs ≡ i → get_or (xs ++ a ∷ ys) i 0 ≡ a
 read_past [] a ys zero is = refl

@@ -1,12 +1,8 @@
 -- How the writes of one place are counted, one change after another, and the picked byte is found.
-use Rattle.std.proofs.Common.{◌≡◌, ℕ, suc, ◌+◌, ◌-◌, ◌≤◌, ◌<◌, nat_le, Bool, true, false, ◌&&◌, List, [], ◌∷◌, length, get_or, take, if◌then◌else◌, sym, refl, ◌∙◌, ap, arith}
-use Rattle.std.proofs.lemmas.Bool.{cases_Bool}
-use Rattle.lz_disk.specs.Images.{Medium}
-use Rattle.lz_disk.specs.Picks.{covers, nth_written, times_written}
-use Rattle.lz_disk.specs.Records.{after, after_record}
-use Rattle.lz_disk.specs.declared.memory.Record.{Record}
-use Rattle.lz_disk.specs.declared.memory.Record.TheVariants.{Synced}
-use Rattle.lz_disk.proofs.ByteImages.{last_change}
+use Rattle.std.proofs.Common.{◌≡◌, ℕ, suc, ◌+◌, ◌-◌, ◌≤◌, ◌<◌, nat_le, Bool, true, false, ◌&&◌, List, [], ◌∷◌, length, get_or, take, if◌then◌else◌, sym, refl}
+use Rattle.std.proofs.{Common.{◌∙◌, ap, arith}, lemmas.Bool.{cases_Bool}}
+use Rattle.lz_disk.specs.{Images.{Medium}, Picks.{covers, nth_written, times_written}, Records.{after, after_record}, declared.memory.Record.{Record}}
+use Rattle.lz_disk.{specs.declared.memory.Record.TheVariants.{Synced}, proofs.ByteImages.{last_change}}
 
 module _ (w : ℕ × List ℕ) (writes : List (ℕ × List ℕ)) (n i b : ℕ) where
   there : covers w i ≡ true → nth_written (w ∷ writes) n i b ≡ (if nat_le (times_written writes i) n then get_or w.1 (i - w.0) 0 else nth_written writes n i b)

@@ -1,17 +1,11 @@
 -- How a disk over a file goes on where the file is called or a write waits.
-use Rattle.std.proofs.Common.{◌≡◌, ◌⊎◌, inl, inr, ⊎_elim, IsTrue, ℕ, ◌+◌, ◌-◌, ◌≤◌, ◌<◌, Bool, true, false, ◌||◌, List, [], ◌∷◌, ◌++◌, length, take, drop, refl, sym, ◌∙◌, ap, subst, arith, length-append}
-use Rattle.std.specs.Prelude.{slice_index, Result, Ok, Err, OnOk, OnErr, IsErr}
-use Rattle.std.proofs.lemmas.List.{take-append-drop, get_or_append_left, get_or-append_right}
-use Rattle.std.proofs.lemmas.Bool.{cases_lt}
-use Rattle.std.proofs.lemmas.Bool.Decides.{nat_tests}
-use Rattle.lz_disk.specs.Images.{Medium, IsImage, WasWritten, WriteFailed, overwritten, written, synced}
-use Rattle.lz_disk.specs.Devices.{Device, Elapses, IsCall, IsTimely}
-use Rattle.lz_disk.specs.declared.DeviceFault.{DeviceFault}
-use Rattle.lz_disk.specs.Gathers.{Waiting, Joined}
-use Rattle.lz_disk.specs.FileDisks.{IsOver, IsPart, KeepsFile, device_over, medium_over, was_written}
-use Rattle.lz_disk.specs.Timely.{longer}
-use Rattle.lz_disk.specs.TimelyOver.{file_image, is_loose_below, timely as timely_over, wider}
-use Rattle.lz_disk.proofs.GatheredWrites.{joined}
+use Rattle.std.proofs.Common.{◌≡◌, ◌⊎◌, inl, inr, ⊎_elim, IsTrue, ℕ, ◌+◌, ◌-◌, ◌≤◌, ◌<◌, Bool, true, false, ◌||◌, List, [], ◌∷◌, ◌++◌, length, take, drop, refl}
+use Rattle.std.proofs.{Common.{sym, ◌∙◌, ap, subst, arith, length-append}, lemmas.List.{take-append-drop, get_or_append_left, get_or-append_right}}
+use Rattle.std.{proofs.lemmas.Bool.{cases_lt, Decides.{nat_tests}}, specs.Prelude.{slice_index, Result, Ok, Err, OnOk, OnErr, IsErr}}
+use Rattle.lz_disk.specs.{Images.{Medium, IsImage, WasWritten, WriteFailed, overwritten, written, synced}, Devices.{Device, Elapses, IsCall, IsTimely}}
+use Rattle.lz_disk.specs.{declared.DeviceFault.{DeviceFault}, Gathers.{Waiting, Joined}}
+use Rattle.lz_disk.specs.{FileDisks.{IsOver, IsPart, KeepsFile, device_over, medium_over, was_written}, Timely.{longer}}
+use Rattle.lz_disk.{specs.TimelyOver.{file_image, is_loose_below, timely as timely_over, wider}, proofs.GatheredWrites.{joined}}
 
 -- a write of no bytes
 nothing : (t : List ℕ) (at : ℕ) → overwritten t at [] ≡ t

@@ -1,9 +1,8 @@
 -- How the first loose bytes are put into the durable text, one position after another.
-use Rattle.std.proofs.Common.{◌≡◌, ◌⊎◌, inl, inr, ℕ, zero, suc, ◌+◌, ◌≤◌, ◌<◌, Bool, true, false, List, [], ◌∷◌, ◌++◌, length, get_or, drop, set, replicate, if◌then◌else◌, sym, refl, ◌∙◌, ap, arith, length-append, drop-cons}
+use Rattle.std.proofs.Common.{◌≡◌, ◌⊎◌, inl, inr, ℕ, zero, suc, ◌+◌, ◌≤◌, ◌<◌, Bool, true, false, List, [], ◌∷◌, ◌++◌, length, get_or, drop, set, replicate}
+use Rattle.std.proofs.Common.{if◌then◌else◌, sym, refl, ◌∙◌, ap, arith, length-append, drop-cons}
 use Rattle.std.proofs.lemmas.List.{get_or-replicate, get_or_default, length-replicate, drop_all}
-use Rattle.lz_disk.specs.Images.{Medium, is_loose}
-use Rattle.lz_disk.specs.Picks.{with_loose, with_first}
-use Rattle.lz_disk.proofs.ByteImages.{read}
+use Rattle.lz_disk.{specs.{Images.{Medium, is_loose}, Picks.{with_loose, with_first}}, proofs.ByteImages.{read}}
 
 -- the marks of a text's positions are 1 where they are loose
 abbrev pub mark : Bool → ℕ

@@ -1,9 +1,7 @@
 -- The texts that a mask and that the writes' numbers pick: how long they are, and which bytes they have.
-use Rattle.std.proofs.Common.{◌≡◌, ◌⊎◌, inl, inr, ⊎_elim, ℕ, zero, suc, ◌+◌, ◌-◌, ◌≤◌, ◌<◌, nat_le, Bool, true, false, ◌&&◌, ◌||◌, List, [], ◌∷◌, length, get_or, if◌then◌else◌, refl, sym, ◌∙◌, ap, subst, arith}
-use Rattle.std.proofs.lemmas.Bool.{cases_Bool, true≢false}
-use Rattle.std.proofs.lemmas.Bool.Decides.{nat_tests}
-use Rattle.lz_disk.specs.Images.{WasWritten, is_loose}
-use Rattle.lz_disk.specs.Picks.{covers, is_taken, nth_written, times_written, with_mask, with_nth}
+use Rattle.std.proofs.Common.{◌≡◌, ◌⊎◌, inl, inr, ⊎_elim, ℕ, zero, suc, ◌+◌, ◌-◌, ◌≤◌, ◌<◌, nat_le, Bool, true, false, ◌&&◌, ◌||◌, List, [], ◌∷◌, length}
+use Rattle.std.proofs.{Common.{get_or, if◌then◌else◌, refl, sym, ◌∙◌, ap, subst, arith}, lemmas.Bool.{cases_Bool, true≢false, Decides.{nat_tests}}}
+use Rattle.lz_disk.specs.{Images.{WasWritten, is_loose}, Picks.{covers, is_taken, nth_written, times_written, with_mask, with_nth}}
 
 module _ (mask : ℕ) where
   pub mask_not_shorter : (i : ℕ) (sure seen : List ℕ) → length sure ≤ length (with_mask mask i sure seen)

@@ -1,8 +1,6 @@
 -- Worked rows: what a crash leaves that a mask or the writes' numbers pick.
 use Rattle.std.proofs.Common.{◌≡◌, ℕ, true, List, [], ◌∷◌, ◌++◌, replicate, slice_index, refl, ap, arith}
-use Rattle.lz_disk.specs.Images.{Medium}
-use Rattle.lz_disk.specs.Picks.{left_by}
-use Rattle.lz_disk.specs.declared.memory.Pick.TheVariants.{Old, New, Mask, Nth}
+use Rattle.lz_disk.specs.{Images.{Medium}, Picks.{left_by}, declared.memory.Pick.TheVariants.{Old, New, Mask, Nth}}
 
 -- three durable bytes, over which five are written
 abbrev grown : Medium

@@ -1,11 +1,8 @@
 -- What is said of a disk over a file.
-use Rattle.std.specs.Prelude.{◌≡◌, ◌⊎◌, ◌↔◌, ℕ, ◌+◌, ◌-◌, ◌≤◌, ◌<◌, IsTrue, Bool, ◌&&◌, nat_le, nat_lt, eqb, List, [], ◌∷◌, length, slice_index, Option, Some, None}
-use Rattle.std.specs.List.{list_any}
-use Rattle.std.specs.Coded.{×_prop, Π_prop, le_prop}
+use Rattle.std.specs.Prelude.{◌≡◌, ◌⊎◌, ◌↔◌, ℕ, ◌+◌, ◌-◌, ◌≤◌, ◌<◌, IsTrue, Bool, ◌&&◌, nat_le, nat_lt, eqb, List, [], ◌∷◌, length, slice_index, Option, Some}
+use Rattle.std.specs.{Prelude.{None}, List.{list_any}, Coded.{×_prop, Π_prop, le_prop}}
 use mathlib.Core.Bool.{Bool-set}
-use Rattle.lz_disk.specs.Images.{Medium, IsImage, overwritten}
-use Rattle.lz_disk.specs.Devices.{Device, Elapses}
-use Rattle.lz_disk.specs.Gathers.{Waiting}
+use Rattle.lz_disk.specs.{Images.{Medium, IsImage, overwritten}, Devices.{Device, Elapses}, Gathers.{Waiting}}
 
 abbrev pub waiting_of : Option Waiting → Waiting
 waiting_of None = record { at = 0; bytes = [] }

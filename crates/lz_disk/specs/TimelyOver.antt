@@ -1,13 +1,8 @@
 -- The law of devices, for a disk over a file: what is read agrees with what is durable, and each image of the file is one of the disk.
 use Rattle.std.specs.Prelude.{◌≡◌, ◌⊎◌, ℕ, ◌+◌, ◌-◌, ◌≤◌, ◌<◌, Bool, true, false, List, [], ◌∷◌, length, slice_index}
-use Rattle.std.proofs.Common.{inl, inr, ⊎_elim, refl, sym, ◌∙◌, arith}
-use Rattle.std.proofs.lemmas.Bool.{false≢true}
-use Rattle.std.proofs.lemmas.Bool.Decides.{nat_tests}
-use Rattle.lz_disk.specs.Images.{Medium, IsImage, IsConsistent, WasWritten, is_loose, overwritten}
-use Rattle.lz_disk.specs.Devices.{Device, IsTimely}
-use Rattle.lz_disk.specs.Gathers.{Waiting}
-use Rattle.lz_disk.specs.FileDisks.{IsOver, device_over, medium_over, was_written}
-use Rattle.lz_disk.specs.Timely.{longer, written_consistent}
+use Rattle.std.proofs.{Common.{inl, inr, ⊎_elim, refl, sym, ◌∙◌, arith}, lemmas.Bool.{false≢true, Decides.{nat_tests}}}
+use Rattle.lz_disk.specs.{Images.{Medium, IsImage, IsConsistent, WasWritten, is_loose, overwritten}, Devices.{Device, IsTimely}, Gathers.{Waiting}}
+use Rattle.lz_disk.specs.{FileDisks.{IsOver, device_over, medium_over, was_written}, Timely.{longer, written_consistent}}
 
 pub tells : (writes : List (ℕ × List ℕ)) (i b : ℕ) → was_written writes i b ≡ true → WasWritten writes i b
 tells [] i b is = absurd (false≢true is)

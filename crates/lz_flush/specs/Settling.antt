@@ -1,11 +1,8 @@
 -- Tickets and flags.
 use Rattle.std.specs.Prelude.{ℕ, Bool, nat_lt, if◌then◌else◌}
-use Rattle.lz_vault.specs.declared.vault.Stage.{Stage}
-use Rattle.lz_vault.specs.declared.vault.Stage.TheVariants.{Closed, Open}
-use Rattle.lz_list.specs.declared.flags.Flags.{Flags}
-use Rattle.lz_list.specs.Words.{added_flags, removed_flags}
-use Rattle.lz_flush.specs.declared.need.Need.{Need}
-use Rattle.lz_flush.specs.declared.need.Need.TheVariants.{Now, Sync}
+use Rattle.lz_vault.specs.declared.vault.Stage.{Stage, TheVariants.{Closed, Open}}
+use Rattle.lz_list.specs.{declared.flags.Flags.{Flags}, Words.{added_flags, removed_flags}}
+use Rattle.lz_flush.specs.declared.need.Need.{Need, TheVariants.{Now, Sync}}
 
 -- more syncs have succeeded than at the ticket
 abbrev pub covered : ℕ → ℕ → Bool

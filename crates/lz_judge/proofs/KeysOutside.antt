@@ -1,17 +1,11 @@
 -- Which slot of a file is the lowest whose key lies outside a set, told from what was found.
-use Rattle.std.proofs.Common.{◌≡◌, ◌≢◌, ⊎_elim, ℕ, zero, suc, ◌+◌, ◌<◌, ◌≤◌, List, [], ◌∷◌, ◌++◌, length, get_or, take, refl, sym, ◌∙◌, ap, subst, arith, true, false, IsTrue, Option, None, Some, All, map, Contains, MatchOption, is_some}
-use Rattle.std.proofs.lemmas.Bool.{cases_lt, eq-eqb}
-use Rattle.std.proofs.lemmas.Bool.Decides.{nat_tests}
-use Rattle.std.proofs.lemmas.List.{append-nil, get_or-map, get_or-take, length-map, length-take, take_all}
-use Rattle.std.proofs.lemmas.List.Elements.{All-contains, All-more, All-same}
-use Rattle.std.proofs.Math.ListN.{get_or-append, length-append}
-use Rattle.std.proofs.Math.Seq.{get_or-append_seam}
-use Rattle.lz_slot.specs.Bytes.{slot_at}
-use Rattle.lz_slot.specs.Sets.{Keys}
-use Rattle.lz_slot.specs.declared.slot.SlotRead.{SlotRead}
 use Rattle.lz_slot.specs.declared.slot.SlotRead.TheVariants as read
-use Rattle.lz_judge.specs.declared.finding.Finding.{Finding}
-use Rattle.lz_judge.specs.declared.finding.Finding.TheVariants.{Key}
+use Rattle.std.proofs.Common.{◌≡◌, ◌≢◌, ⊎_elim, ℕ, zero, suc, ◌+◌, ◌<◌, ◌≤◌, List, [], ◌∷◌, ◌++◌, length, get_or, take, refl, sym, ◌∙◌, ap, subst, arith, true}
+use Rattle.std.proofs.{Common.{false, IsTrue, Option, None, Some, All, map, Contains, MatchOption, is_some}, lemmas.Bool.{cases_lt, eq-eqb}}
+use Rattle.std.proofs.lemmas.{Bool.Decides.{nat_tests}, List.{append-nil, get_or-map, get_or-take, length-map, length-take, take_all}}
+use Rattle.std.proofs.{lemmas.List.Elements.{All-contains, All-more, All-same}, Math.{ListN.{get_or-append, length-append}, Seq.{get_or-append_seam}}}
+use Rattle.lz_slot.specs.{Bytes.{slot_at}, Sets.{Keys}, declared.slot.SlotRead.{SlotRead}}
+use Rattle.lz_judge.specs.declared.finding.Finding.{Finding, TheVariants.{Key}}
 use Rattle.lz_judge.specs.Surveys.{IsFinding, IsFirst, finding_key, found_keys, is_sound, open_slot, open_slots, slot_of}
 use Rattle.lz_judge.specs.Renewals.{AreHeld, IsFirstOutside, IsLowestOutside, IsWithin}
 use Rattle.lz_judge.proofs.Surveys.SlotFinding.{IsOpened, first_of, found_below, same_member, sound_where}

@@ -1,19 +1,12 @@
 -- Two files hold one set exactly where no flaw of a renewal is true of them.
 use Rattle.std.proofs.Common.{◌≡◌, ◌↔◌, ℕ, ◌+◌, ◌*◌, ◌<◌, true, false, List, length, refl, sym, ◌∙◌, ap, subst, arith, IsTrue, Ok, Err, All}
-use Rattle.std.specs.Cmp.{both_ways}
-use Rattle.std.proofs.lemmas.Bool.{cases_lt}
-use Rattle.lz_slot.specs.Bytes.{Holds, header_read, slot_at}
-use Rattle.lz_slot.specs.Sets.{Keys}
-use Rattle.lz_slot.specs.declared.slot.SlotRead.TheVariants.{Member}
+use Rattle.std.{proofs.lemmas.Bool.{cases_lt}, specs.Cmp.{both_ways}}
+use Rattle.lz_slot.specs.{Bytes.{Holds, header_read, slot_at}, Sets.{Keys}, declared.slot.SlotRead.TheVariants.{Member}}
 use Rattle.lz_slot.proofs.Files.HeldSets.{holds_same_set}
-use Rattle.lz_judge.specs.declared.renewing.RenewFlaw.{RenewFlaw}
-use Rattle.lz_judge.specs.declared.renewing.RenewFlaw.TheVariants.{NotHeld, Missing, Extra}
-use Rattle.lz_judge.specs.declared.finding.Finding.{Finding}
+use Rattle.lz_judge.specs.declared.{renewing.RenewFlaw.{RenewFlaw, TheVariants.{NotHeld, Missing, Extra}}, finding.Finding.{Finding}}
 use Rattle.lz_judge.specs.Surveys.{AreFindings, found_keys}
 use Rattle.lz_judge.specs.Renewals.{AreHeld, HoldOneSet, IsFirstOutside, IsLowestOutside, IsRenewFlaw, IsWithin, OneVerdict}
-use Rattle.lz_judge.proofs.Surveys.SoundFile.{held_head}
-use Rattle.lz_judge.proofs.KeysOutside.{all_within, lowest_outside}
-use Rattle.lz_judge.proofs.Surveys.SlotFinding.{set_found, sound_where}
+use Rattle.lz_judge.proofs.{Surveys.{SoundFile.{held_head}, SlotFinding.{set_found, sound_where}}, KeysOutside.{all_within, lowest_outside}}
 
 -- the key of a slot is a member of each set that the file holds
 pub held_member : (t : List ℕ) (N M : ℕ) (S : Keys) (i k : ℕ) → length t ≡ 16 + 16 * N → Holds t M S → i < N → slot_at t i ≡ Member k → IsTrue (S k)

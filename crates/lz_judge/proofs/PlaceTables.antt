@@ -1,11 +1,8 @@
 -- The table of the keys of a list's items.
-use Rattle.std.proofs.Common.{◌≡◌, ◌≢◌, ⊎_elim, ℕ, zero, suc, ◌+◌, ◌-◌, ◌<◌, ◌≤◌, List, [], ◌∷◌, ◌++◌, length, get_or, set, Option, None, Some, sym, ap, subst, ◌∙◌, arith, length-append, length-set, get_or-set_same, get_or-set_other, map}
-use Rattle.std.proofs.Math.ListN.{get_or-append}
-use Rattle.std.proofs.Math.Seq.{get_or-append_seam}
-use Rattle.std.proofs.lemmas.List.{get_or-map, length-map}
-use Rattle.std.proofs.lemmas.Bool.{cases_eq, cases_lt}
-use Rattle.lz_judge.specs.Places.{AreTaken, IsFree, IsPlaced, IsTable, place_of, row_at, row_of}
-use Rattle.lz_judge.specs.declared.places.Places.{Places}
+use Rattle.std.proofs.Common.{◌≡◌, ◌≢◌, ⊎_elim, ℕ, zero, suc, ◌+◌, ◌-◌, ◌<◌, ◌≤◌, List, [], ◌∷◌, ◌++◌, length, get_or, set, Option, None, Some, sym, ap, subst}
+use Rattle.std.proofs.{Common.{◌∙◌, arith, length-append, length-set, get_or-set_same, get_or-set_other, map}, Math.ListN.{get_or-append}}
+use Rattle.std.proofs.{Math.Seq.{get_or-append_seam}, lemmas.{List.{get_or-map, length-map}, Bool.{cases_eq, cases_lt}}}
+use Rattle.lz_judge.specs.{Places.{AreTaken, IsFree, IsPlaced, IsTable, place_of, row_at, row_of}, declared.places.Places.{Places}}
 
 -- an item with a key is one of the list
 inside : (ks : List (Option ℕ)) (i k : ℕ) → get_or ks i None ≡ Some k → i < length ks

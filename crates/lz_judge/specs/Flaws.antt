@@ -1,11 +1,8 @@
 -- What is wrong with a history, and what its judge's yes means. Marks and points stand newest first, the calls of a list oldest first.
 use Rattle.std.specs.Prelude.{◌≡◌, ◌≢◌, ◌⊎◌, ◌↔◌, ℕ, suc, ◌<◌, ◌≤◌, Bool, List, [], ◌∷◌, map}
-use Rattle.lz_slot.specs.declared.command.Command.{Command}
-use Rattle.lz_slot.specs.declared.history.Mark.TheVariants.{Call, Opened}
-use Rattle.lz_slot.specs.Sets.{Keys, Same, members, key_of, after, reply}
+use Rattle.lz_slot.specs.{declared.{command.Command.{Command}, history.Mark.TheVariants.{Call, Opened}}, Sets.{Keys, Same, members, key_of, after, reply}}
 use Rattle.lz_slot.specs.Histories.{History, Fits, IsAnswered, IsBefore, IsCalled, IsEarlier, IsListed, IsRefused, Life, count_of}
-use Rattle.lz_judge.specs.Records.{IsMade, IsPoint, Record}
-use Rattle.lz_judge.specs.declared.flaw.Flaw.{Flaw}
+use Rattle.lz_judge.specs.{Records.{IsMade, IsPoint, Record}, declared.flaw.Flaw.{Flaw}}
 use Rattle.lz_judge.specs.declared.flaw.Flaw.TheVariants.{Unlisted, NeverCalled, Misordered, WrongReply, WrongSet, ListedTwice, RefusedListed}
 
 -- L is the list of the calls of M that have a place, in the order of their places: call i is at place p where `at i p`

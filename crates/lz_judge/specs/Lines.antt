@@ -1,8 +1,6 @@
 -- What a line of a history says.
 use Rattle.std.specs.Prelude.{◌≤◌}
-use Rattle.lz_judge.specs.declared.line.Line.{Line}
-use Rattle.lz_judge.specs.declared.line.Line.TheVariants.{Seen, Placed, Other}
-use Rattle.lz_judge.specs.Limits.{largest_place}
+use Rattle.lz_judge.specs.{declared.line.Line.{Line, TheVariants.{Seen, Placed, Other}}, Limits.{largest_place}}
 
 -- the place of a point is one
 abbrev pub IsLow : Line → Type 0

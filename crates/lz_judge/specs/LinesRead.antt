@@ -1,21 +1,12 @@
 -- What a line of a history says, by its words.
-use Rattle.std.specs.Prelude.{ℕ, ◌+◌, ◌==◌, Bool, true, false, nat_le, nat_eq, if◌then◌else◌, List, [], ◌∷◌, codes, Option, None, Some, option_map, option_and_then, Result, Ok, Err}
-use Rattle.std.specs.List.{slice_split}
-use Rattle.std.specs.Cmp.Lexicographic.{pointwise}
-use denote.Ref.{Bor}
-use Rattle.lz_slot.specs.Limits.{most_actors}
-use Rattle.lz_slot.specs.Numerals.{largest_read, number_in}
-use Rattle.lz_slot.specs.Texts.{key_read}
-use Rattle.lz_slot.specs.declared.spelling.KeyFault.{KeyFault}
-use Rattle.lz_slot.specs.declared.command.Command.{Command}
-use Rattle.lz_slot.specs.declared.command.Command.TheVariants.{Add, Remove, Has}
-use Rattle.lz_slot.specs.declared.history.Cut.TheVariants.{Halted, Device}
-use Rattle.lz_slot.specs.declared.history.Refusal.{Refusal}
-use Rattle.lz_slot.specs.declared.history.Refusal.TheVariants.{Full, Worn, OldFile}
 use Rattle.lz_slot.specs.declared.history.Mark.TheVariants as mark
-use Rattle.lz_judge.specs.declared.line.Line.{Line}
-use Rattle.lz_judge.specs.declared.line.Line.TheVariants.{Seen, Placed, Other}
-use Rattle.lz_judge.specs.Limits.{largest_place, most_faults}
+use Rattle.std.specs.Prelude.{ℕ, ◌+◌, ◌==◌, Bool, true, false, nat_le, nat_eq, if◌then◌else◌, List, [], ◌∷◌, codes, Option, None, Some, option_map}
+use Rattle.std.specs.{Prelude.{option_and_then, Result, Ok, Err}, List.{slice_split}, Cmp.Lexicographic.{pointwise}}
+use denote.Ref.{Bor}
+use Rattle.lz_slot.specs.{Limits.{most_actors}, Numerals.{largest_read, number_in}, Texts.{key_read}, declared.spelling.KeyFault.{KeyFault}}
+use Rattle.lz_slot.specs.declared.{command.Command.{Command, TheVariants.{Add, Remove, Has}}, history.{Cut.TheVariants.{Halted, Device}, Refusal.{Refusal}}}
+use Rattle.lz_slot.specs.declared.history.Refusal.TheVariants.{Full, Worn, OldFile}
+use Rattle.lz_judge.specs.{declared.line.Line.{Line, TheVariants.{Seen, Placed, Other}}, Limits.{largest_place, most_faults}}
 
 -- the words of a text, parted by one space each
 abbrev pub words_of : List ℕ → List (List ℕ)

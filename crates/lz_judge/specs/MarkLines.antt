@@ -1,15 +1,8 @@
 -- What is written of a service's run is a history.
 use Rattle.std.specs.Prelude.{◌≡◌, ℕ, suc, ◌+◌, ◌≤◌, List, [], ◌∷◌, length, reverse, Some}
-use Rattle.lz_slot.specs.Limits.{largest_key, most_actors}
-use Rattle.lz_slot.specs.Sets.{key_of}
-use Rattle.lz_slot.specs.Numerals.{largest_read}
-use Rattle.lz_slot.specs.MarkTexts.{mark_text, marks_text}
-use Rattle.lz_slot.specs.declared.history.Mark.{Mark}
-use Rattle.lz_slot.specs.declared.history.Mark.TheVariants.{Call, Answer, Refused, Cut, Stop, Crash, Opened, OpenFailed}
-use Rattle.lz_judge.specs.declared.line.Line.TheVariants.{Seen}
-use Rattle.lz_judge.specs.LinesRead.{line_read}
-use Rattle.lz_judge.specs.Records.{IsLawful}
-use Rattle.lz_judge.specs.Limits.{most_bytes, most_calls, most_faults}
+use Rattle.lz_slot.specs.{Limits.{largest_key, most_actors}, Sets.{key_of}, Numerals.{largest_read}, MarkTexts.{mark_text, marks_text}}
+use Rattle.lz_slot.specs.declared.history.Mark.{Mark, TheVariants.{Call, Answer, Refused, Cut, Stop, Crash, Opened, OpenFailed}}
+use Rattle.lz_judge.specs.{declared.line.Line.TheVariants.{Seen}, LinesRead.{line_read}, Records.{IsLawful}, Limits.{most_bytes, most_calls, most_faults}}
 use Rattle.lz_judge.specs.TextsRead.{Reads, calls_of}
 
 -- the line says this mark

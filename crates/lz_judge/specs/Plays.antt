@@ -1,19 +1,12 @@
 -- What the run of the calls has come to at the marks M. The answers are those of a map, and so are the places.
-use Rattle.std.specs.Prelude.{◌≡◌, ◌≢◌, ◌⊎◌, ℕ, ◌<◌, Bool, List, [], ◌∷◌, Option, None, Some}
 use Rattle.std.specs.BTreeMap as tree
 use Rattle.std.specs.BTreeSet as set
-use Rattle.std.specs.BTreeMap.{BTreeMap}
-use Rattle.std.specs.BTreeSet.{BTreeSet}
-use Rattle.std.specs.Ordering.{nat_cmp}
-use Rattle.lz_slot.specs.Sets.{Keys, Same, after, key_of, members, reply}
-use Rattle.lz_slot.specs.declared.command.Command.{Command}
-use Rattle.lz_slot.specs.declared.history.Mark.{Mark}
+use Rattle.std.specs.{Prelude.{◌≡◌, ◌≢◌, ◌⊎◌, ℕ, ◌<◌, Bool, List, [], ◌∷◌, Option, None, Some}, BTreeMap.{BTreeMap}, BTreeSet.{BTreeSet}, Ordering.{nat_cmp}}
+use Rattle.lz_slot.specs.{Sets.{Keys, Same, after, key_of, members, reply}, declared.{command.Command.{Command}, history.Mark.{Mark}}}
 use Rattle.lz_slot.specs.declared.history.Mark.TheVariants.{Stop, Crash, Opened, OpenFailed}
 use Rattle.lz_slot.specs.Histories.{IsAnswered, IsBefore, IsCalled, IsRefused, Life, lives}
-use Rattle.lz_judge.specs.Records.{IsLawful, IsMade}
-use Rattle.lz_judge.specs.Flaws.{IsInOrder, IsLifeBefore, IsMadeBefore, IsReached, IsWrongSet, Leads, OrderedChain, opens}
-use Rattle.lz_judge.specs.Readings.{IsAt}
-use Rattle.lz_judge.specs.declared.playing.Listed.{Listed}
+use Rattle.lz_judge.specs.{Records.{IsLawful, IsMade}, Flaws.{IsInOrder, IsLifeBefore, IsMadeBefore, IsReached, IsWrongSet, Leads, OrderedChain, opens}}
+use Rattle.lz_judge.specs.{Readings.{IsAt}, declared.playing.Listed.{Listed}}
 
 -- the set has the keys of S
 abbrev pub IsSet : BTreeSet ℕ → Keys → Type 0

@@ -1,9 +1,6 @@
 -- What is read of a history's text.
 use Rattle.std.specs.Prelude.{◌≡◌, ◌≤◌, reverse}
-use Rattle.lz_judge.specs.Records.{ArePlaces, IsLawful, Record}
-use Rattle.lz_judge.specs.Ledgers.{IsLedger}
-use Rattle.lz_judge.specs.Limits.{most_calls}
-use Rattle.lz_judge.specs.TextsRead.{calls_of}
+use Rattle.lz_judge.specs.{Records.{ArePlaces, IsLawful, Record}, Ledgers.{IsLedger}, Limits.{most_calls}, TextsRead.{calls_of}}
 use Rattle.lz_judge.specs.declared.reading.Reader.{Reader}
 
 -- the history that was read so far

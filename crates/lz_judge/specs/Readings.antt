@@ -1,16 +1,10 @@
 -- What each reading of a history has found when it has come as far as the marks M, or the points.
-use Rattle.std.specs.Prelude.{◌≡◌, ◌≢◌, ◌⊎◌, ◌↔◌, ℕ, ◌<◌, ◌≤◌, ◌==◌, Bool, true, false, if◌then◌else◌, List, [], ◌∷◌, map, Option, None, Some}
 use Rattle.std.specs.BTreeMap as tree
 use Rattle.std.specs.BTreeSet as set
-use Rattle.std.specs.BTreeMap.{BTreeMap}
-use Rattle.std.specs.BTreeSet.{BTreeSet}
-use Rattle.std.specs.Ordering.{nat_cmp}
-use Rattle.lz_slot.specs.declared.history.Mark.{Mark}
-use Rattle.lz_slot.specs.declared.history.Mark.TheVariants.{Call, Answer}
-use Rattle.lz_slot.specs.Histories.{IsAnswered, IsBefore, IsRefused, count_of}
-use Rattle.lz_judge.specs.declared.history.Point.{Point}
-use Rattle.lz_judge.specs.Limits.{largest_place}
-use Rattle.lz_judge.specs.Records.{IsMade, IsPoint}
+use Rattle.std.specs.Prelude.{◌≡◌, ◌≢◌, ◌⊎◌, ◌↔◌, ℕ, ◌<◌, ◌≤◌, ◌==◌, Bool, true, false, if◌then◌else◌, List, [], ◌∷◌, map, Option, None, Some}
+use Rattle.std.specs.{BTreeMap.{BTreeMap}, BTreeSet.{BTreeSet}, Ordering.{nat_cmp}}
+use Rattle.lz_slot.specs.{declared.history.Mark.{Mark, TheVariants.{Call, Answer}}, Histories.{IsAnswered, IsBefore, IsRefused, count_of}}
+use Rattle.lz_judge.specs.{declared.history.Point.{Point}, Limits.{largest_place}, Records.{IsMade, IsPoint}}
 use Rattle.lz_judge.specs.Flaws.{IsLifeBefore, IsMadeBefore, IsMisplaced, IsPast}
 
 -- whether call i was made

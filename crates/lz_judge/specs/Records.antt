@@ -1,11 +1,8 @@
 -- What a history may be: the marks of a service's run, and the points of its calls. Both stand newest first.
-use Rattle.std.specs.Prelude.{◌≡◌, ◌≢◌, ◌⊎◌, ℕ, ◌≤◌, ◌==◌, Bool, true, false, IsTrue, if◌then◌else◌, List, [], ◌∷◌, Option, None, Some}
-use Rattle.lz_slot.specs.declared.command.Command.{Command}
-use Rattle.lz_slot.specs.declared.history.Mark.{Mark}
-use Rattle.lz_slot.specs.declared.history.Mark.TheVariants.{Call, Answer, Refused, Cut, Stop, Crash, Opened, OpenFailed}
 use Rattle.lz_slot.specs.Histories as seen
-use Rattle.lz_judge.specs.Limits.{largest_place}
-use Rattle.lz_judge.specs.declared.history.Point.{Point}
+use Rattle.std.specs.Prelude.{◌≡◌, ◌≢◌, ◌⊎◌, ℕ, ◌≤◌, ◌==◌, Bool, true, false, IsTrue, if◌then◌else◌, List, [], ◌∷◌, Option, None, Some}
+use Rattle.lz_slot.specs.declared.{command.Command.{Command}, history.Mark.{Mark, TheVariants.{Call, Answer, Refused, Cut, Stop, Crash, Opened, OpenFailed}}}
+use Rattle.lz_judge.specs.{Limits.{largest_place}, declared.history.Point.{Point}}
 
 -- a history and the points of its calls
 pub record Record : Type 0 where

@@ -1,13 +1,8 @@
 -- What is told of two files, the second of which is to hold the set of the first.
 use Rattle.std.specs.Prelude.{◌≡◌, ℕ, ◌<◌, List, length, take, slice_index_or, All, IsTrue, false, Result, Ok, Err}
-use Rattle.lz_slot.specs.Bytes.{Holds, slot_at}
-use Rattle.lz_slot.specs.Sets.{Keys}
-use Rattle.lz_slot.specs.declared.slot.SlotRead.TheVariants.{Member}
-use Rattle.lz_judge.specs.Surveys.{AreFindings, HoldsASet, found_keys}
-use Rattle.lz_judge.specs.declared.finding.Finding.{Finding}
-use Rattle.lz_judge.specs.declared.finding.Finding.TheVariants.{Key, BadKey, Twice}
-use Rattle.lz_judge.specs.declared.renewing.RenewFlaw.{RenewFlaw}
-use Rattle.lz_judge.specs.declared.renewing.RenewFlaw.TheVariants.{NotHeld, Missing, Extra}
+use Rattle.lz_slot.specs.{Bytes.{Holds, slot_at}, Sets.{Keys}, declared.slot.SlotRead.TheVariants.{Member}}
+use Rattle.lz_judge.specs.{Surveys.{AreFindings, HoldsASet, found_keys}, declared.finding.Finding.{Finding, TheVariants.{Key, BadKey, Twice}}}
+use Rattle.lz_judge.specs.declared.renewing.RenewFlaw.{RenewFlaw, TheVariants.{NotHeld, Missing, Extra}}
 
 -- both files hold one set
 abbrev pub HoldOneSet : List ℕ → List ℕ → Type 0

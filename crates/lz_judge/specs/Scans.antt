@@ -1,13 +1,9 @@
 -- What a scan of slots knows when it has come to slot n.
 use Rattle.std.specs.Prelude.{◌≡◌, ℕ, ◌+◌, ◌*◌, ◌/◌, ◌<◌, ◌≤◌, Bool, true, false, List, [], ◌∷◌, ◌++◌, length, map, take, Option, Ok}
 use Rattle.std.specs.Io.KnownBytes.{Consumes, IsAtEnd}
-use Rattle.lz_slot.specs.Bytes.{format_of, header_body, header_read, of_size, open_byte, slot_at}
-use Rattle.lz_slot.specs.declared.format.Format.{Format}
-use Rattle.lz_slot.specs.declared.header.Header.{Header}
+use Rattle.lz_slot.specs.{Bytes.{format_of, header_body, header_read, of_size, open_byte, slot_at}, declared.{format.Format.{Format}, header.Header.{Header}}}
 use Rattle.lz_slot.specs.declared.slot.SlotRead.{SlotRead}
-use Rattle.lz_judge.specs.declared.scan.Scan.{Scan}
-use Rattle.lz_judge.specs.Places.{IsTable}
-use Rattle.lz_judge.specs.Surveys.{AreFindings, finding_key}
+use Rattle.lz_judge.specs.{declared.scan.Scan.{Scan}, Places.{IsTable}, Surveys.{AreFindings, finding_key}}
 
 -- the slots below n were taken
 pub record Scanned (says : ℕ → SlotRead) (n : ℕ) (scan : Scan) : Type 0 where

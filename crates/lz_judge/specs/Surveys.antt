@@ -1,14 +1,9 @@
 -- What a survey says of a file. Slot i says `says i`.
-use Rattle.std.specs.Prelude.{◌≡◌, ◌≢◌, ◌↔◌, ℕ, zero, suc, ◌<◌, ◌==◌, List, [], ◌∷◌, ◌++◌, map, length, All, IfSome, IsTrue, Ok, Err, None, Option, Some, Bool, true, false}
-use Rattle.std.specs.List.{list_all, list_any}
-use Rattle.lz_slot.specs.Bytes.{Holds, format_of, header_read, slot_at}
-use Rattle.lz_slot.specs.Sets.{Keys}
-use Rattle.lz_slot.specs.declared.slot.SlotRead.{SlotRead}
 use Rattle.lz_slot.specs.declared.slot.SlotRead.TheVariants as read
-use Rattle.lz_judge.specs.declared.finding.Finding.{Finding}
-use Rattle.lz_judge.specs.declared.finding.Finding.TheVariants.{Key, BadKey, Twice}
-use Rattle.lz_judge.specs.declared.finding.Survey.{Survey}
-use Rattle.lz_judge.specs.declared.finding.Survey.TheVariants.{Refused, Found}
+use Rattle.std.specs.Prelude.{◌≡◌, ◌≢◌, ◌↔◌, ℕ, zero, suc, ◌<◌, ◌==◌, List, [], ◌∷◌, ◌++◌, map, length, All, IfSome, IsTrue, Ok, Err, None, Option, Some, Bool}
+use Rattle.std.specs.{Prelude.{true, false}, List.{list_all, list_any}}
+use Rattle.lz_slot.specs.{Bytes.{Holds, format_of, header_read, slot_at}, Sets.{Keys}, declared.slot.SlotRead.{SlotRead}}
+use Rattle.lz_judge.specs.declared.finding.{Finding.{Finding, TheVariants.{Key, BadKey, Twice}}, Survey.{Survey, TheVariants.{Refused, Found}}}
 
 -- slot i holds the key k, and no slot below it does
 pub record IsFirst (says : ℕ → SlotRead) (i k : ℕ) : Type 0 where

@@ -1,11 +1,7 @@
 -- What reading the text of a history comes to. A line ends with a line feed.
 use Rattle.std.specs.Prelude.{◌≡◌, ◌≢◌, ◌⊎◌, ℕ, ◌+◌, ◌≤◌, ◌==◌, false, List, [], ◌∷◌, ◌++◌, All, length, Some}
-use Rattle.lz_slot.specs.declared.history.Mark.{Mark}
-use Rattle.lz_slot.specs.declared.history.Mark.TheVariants.{Call, Answer, Refused, Cut, Stop, Crash, Opened, OpenFailed}
-use Rattle.lz_judge.specs.Limits.{most_calls, most_bytes}
-use Rattle.lz_judge.specs.declared.line.Line.{Line}
-use Rattle.lz_judge.specs.declared.line.Line.TheVariants.{Seen, Placed, Other}
-use Rattle.lz_judge.specs.Records.{MayFollow, Record}
+use Rattle.lz_slot.specs.declared.history.Mark.{Mark, TheVariants.{Call, Answer, Refused, Cut, Stop, Crash, Opened, OpenFailed}}
+use Rattle.lz_judge.specs.{Limits.{most_calls, most_bytes}, declared.line.Line.{Line, TheVariants.{Seen, Placed, Other}}, Records.{MayFollow, Record}}
 use Rattle.lz_judge.specs.LinesRead.{line_read}
 
 -- how many calls a mark makes

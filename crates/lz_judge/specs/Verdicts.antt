@@ -1,13 +1,8 @@
 -- What the judge knows of the points before it looks at their order.
-use Rattle.std.specs.Prelude.{◌≡◌, ℕ, ◌≤◌, Bool, None, List, map}
 use Rattle.std.specs.BTreeMap as tree
-use Rattle.std.specs.BTreeMap.{BTreeMap}
-use Rattle.std.specs.Ordering.{nat_cmp}
-use Rattle.lz_slot.specs.declared.history.Mark.{Mark}
-use Rattle.lz_slot.specs.Histories.{IsAnswered, IsRefused, count_of}
-use Rattle.lz_judge.specs.declared.history.Point.{Point}
-use Rattle.lz_judge.specs.Records.{IsMade, IsPoint}
-use Rattle.lz_judge.specs.Readings.{IsAt}
+use Rattle.std.specs.{Prelude.{◌≡◌, ℕ, ◌≤◌, Bool, None, List, map}, BTreeMap.{BTreeMap}, Ordering.{nat_cmp}}
+use Rattle.lz_slot.specs.{declared.history.Mark.{Mark}, Histories.{IsAnswered, IsRefused, count_of}}
+use Rattle.lz_judge.specs.{declared.history.Point.{Point}, Records.{IsMade, IsPoint}, Readings.{IsAt}}
 
 -- each call with a point has this one place, no refused call has one, and each answered call has
 pub record AreListed (M : List Mark) (points : List Point) (places : BTreeMap ℕ ℕ) : Type 0 where

@@ -2,11 +2,7 @@
 -- node's two words are an even place and the next, so that they lie in one line of the cache.
 use Rattle.std.specs.Prelude.{ℕ, ◌+◌, ◌-◌, ◌/◌, ◌%◌, ◌^◌, ◌<◌, ◌≤◌, ◌≡◌, ◌==◌, nat_lt, if◌then◌else◌, List, length, replicate, slice_index}
 use Rattle.lz_slot.specs.Limits.{most_slots}
-use Rattle.lz_list.specs.declared.word.Word.{Word}
-use Rattle.lz_list.specs.declared.word.Word.TheVariants.{Head, Link, Key, Pin, Halt}
-use Rattle.lz_list.specs.declared.layout.Sizes.{Sizes}
-use Rattle.lz_list.specs.Words.{Words, get}
-use Rattle.lz_list.specs.Traces.{table}
+use Rattle.lz_list.specs.{declared.{word.Word.{Word, TheVariants.{Head, Link, Key, Pin, Halt}}, layout.Sizes.{Sizes}}, Words.{Words, get}, Traces.{table}}
 
 -- the place of a word
 abbrev pub index : Sizes → Word → ℕ

@@ -1,11 +1,7 @@
 -- What a hop of a walk tells, and on which words it may be made.
 use Rattle.std.specs.Prelude.{ℕ, ◌≤◌}
 use Rattle.lz_slot.specs.Limits.{most_slots}
-use Rattle.lz_list.specs.declared.walk.Look.{Look}
-use Rattle.lz_list.specs.declared.walk.Look.TheVariants.{AtHead, AtBelow}
-use Rattle.lz_list.specs.declared.walk.Hop.{Hop}
-use Rattle.lz_list.specs.declared.walk.Hop.TheVariants.{More as GoesOn, End as Ends}
-use Rattle.lz_list.specs.Words.{next_of}
+use Rattle.lz_list.specs.{declared.walk.{Look.{Look, TheVariants.{AtHead, AtBelow}}, Hop.{Hop, TheVariants.{More as GoesOn, End as Ends}}}, Words.{next_of}}
 use Rattle.lz_list.specs.Walks.{Hopped, More, End}
 
 -- the hop that a walk made which looks there afterwards

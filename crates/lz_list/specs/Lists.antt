@@ -1,12 +1,8 @@
 -- The list as contracts see it: its buckets are sorted, and each change keeps them so.
 use Rattle.std.specs.Prelude.{◌≡◌, ◌≢◌, ◌⊎◌, ℕ, zero, suc, ◌<◌, ◌≤◌, ◌↔◌, true, false, [], ◌∷◌, length, replicate, Option, Some, None}
 use Rattle.lz_slot.specs.Limits.{most_slots}
-use Rattle.lz_list.specs.declared.place.Place.{Place}
-use Rattle.lz_list.specs.declared.place.Place.TheVariants.{Bucket, Node}
-use Rattle.lz_list.specs.declared.word.Word.{Word}
-use Rattle.lz_list.specs.declared.word.Word.TheVariants.{Head, Link, Key, Pin, Halt}
-use Rattle.lz_list.specs.Words.{Words, get, word_of, place_number, next_of, flags_of, next_at, is_marked_at}
-use Rattle.lz_list.specs.Locks.{NodeLocks}
+use Rattle.lz_list.specs.declared.{place.Place.{Place, TheVariants.{Bucket, Node}}, word.Word.{Word, TheVariants.{Head, Link, Key, Pin, Halt}}}
+use Rattle.lz_list.specs.{Words.{Words, get, word_of, place_number, next_of, flags_of, next_at, is_marked_at}, Locks.{NodeLocks}}
 use Rattle.lz_list.specs.Traces.{Chain, bucket_of, on, rank_at, WordsShow, KeysBelong}
 
 -- The words, and who has each node lock.

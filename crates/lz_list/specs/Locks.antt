@@ -1,8 +1,6 @@
 -- Node locks, and the three tests that a writer makes under them.
 use Rattle.std.specs.Prelude.{ℕ, Bool, false, not, ◌&&◌, ◌==◌, List, [], ◌∷◌, slice_index, slice_set, Option, Some, None}
-use Rattle.lz_list.specs.declared.place.Place.{Place}
-use Rattle.lz_list.specs.declared.place.Place.TheVariants.{Bucket, Node}
-use Rattle.lz_list.specs.Words.{Words, link_to, next_at, is_marked_at}
+use Rattle.lz_list.specs.{declared.place.Place.{Place, TheVariants.{Bucket, Node}}, Words.{Words, link_to, next_at, is_marked_at}}
 
 -- The node locks, by place: the actor that has each, 0 where it is free.
 pub record NodeLocks : Type 0 where

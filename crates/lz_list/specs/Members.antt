@@ -1,10 +1,8 @@
 -- What traces make of the members, as contracts cite it.
 use Rattle.std.specs.Prelude.{◌≡◌, ℕ, ◌<◌, ◌≤◌, ◌↔◌, Bool, true, false, List, [], ◌∷◌, length}
 use Rattle.lz_slot.specs.Limits.{most_slots}
-use Rattle.lz_list.specs.declared.publishing.Publishing.TheVariants.{Linked as linked, Marked as marked}
-use Rattle.lz_list.specs.Words.{Words}
-use Rattle.lz_list.specs.Traces.{Trace, Lawful, member, words_of_trace}
-use Rattle.lz_list.specs.Lists.{IsTable, IsSorted, IsMember, IsMemberIn}
+use Rattle.lz_list.specs.{declared.publishing.Publishing.TheVariants.{Linked as linked, Marked as marked}, Words.{Words}}
+use Rattle.lz_list.specs.{Traces.{Trace, Lawful, member, words_of_trace}, Lists.{IsTable, IsSorted, IsMember, IsMemberIn}}
 
 -- after a lawful trace the buckets are sorted
 abbrev pub WordsAreSorted : Type 0

@@ -1,7 +1,6 @@
 -- What a walker may rely on since it was pinned.
 use Rattle.std.specs.Prelude.{◌≡◌, ◌⊎◌, ℕ, suc, true, [], ◌∷◌}
-use Rattle.lz_list.specs.declared.publishing.Publishing.{Publishing}
-use Rattle.lz_list.specs.declared.publishing.Publishing.TheVariants.{KeyPrepared as key_prepared, LinkPrepared as link_prepared}
+use Rattle.lz_list.specs.declared.publishing.Publishing.{Publishing, TheVariants.{KeyPrepared as key_prepared, LinkPrepared as link_prepared}}
 use Rattle.lz_list.specs.Traces.{Trace, Begins, on, chain}
 
 -- A holds after some trace that begins with P0 and begins P

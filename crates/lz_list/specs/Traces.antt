@@ -1,13 +1,10 @@
 -- Traces of publishings, and what walkers see after one. The newest publishing stands first.
-use Rattle.std.specs.Prelude.{◌≡◌, ◌⊎◌, ℕ, zero, suc, ◌<◌, ◌≤◌, ◌%◌, Bool, true, false, ◌==◌, nat_lt, ◌&&◌, ◌||◌, if◌then◌else◌, not, List, [], ◌∷◌, ◌++◌, length, map, filter, replicate}
-use Rattle.lz_list.specs.declared.word.Word.{Word}
-use Rattle.lz_list.specs.declared.word.Word.TheVariants.{Head, Link, Key, Pin, Halt}
-use Rattle.lz_list.specs.declared.flags.Flags.{Flags}
-use Rattle.lz_list.specs.declared.publishing.Change.{Change}
-use Rattle.lz_list.specs.declared.publishing.Change.TheVariants.{Added, Removed}
-use Rattle.lz_list.specs.declared.publishing.Publishing.{Publishing}
-use Rattle.lz_list.specs.declared.publishing.Publishing.TheVariants.{Linked as linked, Marked as marked, Unlinked as unlinked, Settled as settled, KeyPrepared as key_prepared, LinkPrepared as link_prepared, Halted as halted}
-use Rattle.lz_list.specs.Words.{Words, link_with}
+use Rattle.std.specs.Prelude.{◌≡◌, ◌⊎◌, ℕ, zero, suc, ◌<◌, ◌≤◌, ◌%◌, Bool, true, false, ◌==◌, nat_lt, ◌&&◌, ◌||◌, if◌then◌else◌, not, List, [], ◌∷◌, ◌++◌}
+use Rattle.std.specs.Prelude.{length, map, filter, replicate}
+use Rattle.lz_list.specs.declared.{word.Word.{Word, TheVariants.{Head, Link, Key, Pin, Halt}}, flags.Flags.{Flags}, publishing.Change.{Change}}
+use Rattle.lz_list.specs.declared.publishing.{Change.TheVariants.{Added, Removed}, Publishing.{Publishing, TheVariants.{Linked as linked, Marked as marked}}}
+use Rattle.lz_list.specs.declared.publishing.Publishing.TheVariants.{Unlinked as unlinked, Settled as settled, KeyPrepared as key_prepared}
+use Rattle.lz_list.specs.{declared.publishing.Publishing.TheVariants.{LinkPrepared as link_prepared, Halted as halted}, Words.{Words, link_with}}
 
 abbrev pub Trace : Type 0
 Trace = List Publishing

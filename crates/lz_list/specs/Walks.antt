@@ -1,16 +1,8 @@
 -- A walk for a key: it loads one word after the other, and holds no lock.
 use Rattle.std.specs.Prelude.{ℕ, zero, suc, ◌==◌, nat_lt, if◌then◌else◌, Option, Some, None}
-use Rattle.lz_list.specs.declared.place.Place.{Place}
-use Rattle.lz_list.specs.declared.place.Place.TheVariants.{Bucket, Node}
-use Rattle.lz_list.specs.declared.word.Word.{Word}
-use Rattle.lz_list.specs.declared.word.Word.TheVariants.{Head, Link, Key}
-use Rattle.lz_list.specs.declared.flags.Flags.{Flags}
-use Rattle.lz_list.specs.declared.walk.Look.{Look}
-use Rattle.lz_list.specs.declared.walk.Look.TheVariants.{AtHead, AtKey, AtMet, AtBelow}
-use Rattle.lz_list.specs.declared.walk.Met.{Met}
-use Rattle.lz_list.specs.declared.walk.Met.TheVariants.{Absent, Unmarked, Marked}
-use Rattle.lz_list.specs.Words.{next_of, flags_of}
-use Rattle.lz_list.specs.Traces.{bucket_of}
+use Rattle.lz_list.specs.declared.{place.Place.{Place, TheVariants.{Bucket, Node}}, word.Word.{Word, TheVariants.{Head, Link, Key}}, flags.Flags.{Flags}}
+use Rattle.lz_list.specs.declared.walk.{Look.{Look, TheVariants.{AtHead, AtKey, AtMet, AtBelow}}, Met.{Met, TheVariants.{Absent, Unmarked, Marked}}}
+use Rattle.lz_list.specs.{Words.{next_of, flags_of}, Traces.{bucket_of}}
 
 -- A walk goes on, or ends with the place before the key, the slot after that place, and what it met.
 pub data Hopped : Type 0 where

@@ -1,10 +1,7 @@
 -- The words that threads share.
 use Rattle.std.specs.Prelude.{ℕ, suc, ◌+◌, ◌*◌, ◌/◌, ◌%◌, ◌^◌, Bool, true, false, ◌==◌, List, slice_index, slice_set, Option, Some, None}
 use Rattle.lz_slot.specs.Counted.{of_pass, set_of_pass}
-use Rattle.lz_list.specs.declared.place.Place.{Place}
-use Rattle.lz_list.specs.declared.place.Place.TheVariants.{Bucket, Node}
-use Rattle.lz_list.specs.declared.word.Word.{Word}
-use Rattle.lz_list.specs.declared.word.Word.TheVariants.{Head, Link, Key, Pin, Halt}
+use Rattle.lz_list.specs.declared.{place.Place.{Place, TheVariants.{Bucket, Node}}, word.Word.{Word, TheVariants.{Head, Link, Key, Pin, Halt}}}
 use Rattle.lz_list.specs.declared.flags.Flags.{Flags}
 
 pub record Words : Type 0 where

@@ -1,20 +1,15 @@
 -- One caller: each life is a plain set's, one command after the other.
 use Rattle.std.specs.Prelude.{◌≡◌, ◌⊎◌, ℕ, ◌<◌, Bool, true, false, List, [], ◌∷◌, None, Some}
-use Rattle.lz_slot.specs.declared.command.Command.{Command}
-use Rattle.lz_slot.specs.declared.command.Command.TheVariants.{Add}
-use Rattle.lz_slot.specs.declared.history.Refusal.TheVariants.{Full, Worn, OldFile}
-use Rattle.lz_slot.specs.declared.history.Mark.TheVariants.{Call, Answer, Refused, Cut}
-use Rattle.lz_slot.specs.Sets.{Keys, Same, key_of, after, reply, HasMembers}
-use Rattle.lz_slot.specs.declared.format.Format.{Format}
-use Rattle.lz_slot.specs.Bytes.{Holds, format_of}
-use Rattle.lz_slot.specs.Histories.{History, Life, lives}
+use Rattle.lz_slot.specs.declared.{command.Command.{Command, TheVariants.{Add}}, history.Refusal.TheVariants.{Full, Worn, OldFile}}
+use Rattle.lz_slot.specs.declared.{history.Mark.TheVariants.{Call, Answer, Refused, Cut}, format.Format.{Format}}
+use Rattle.lz_slot.specs.{Sets.{Keys, Same, key_of, after, reply, HasMembers}, Bytes.{Holds, format_of}, Histories.{History, Life, lives}}
 use Rattle.lz_disk.specs.Images.{Medium}
 use Rattle.lz_list.specs.Traces.{Trace, member}
 use Rattle.lz_machine.specs.declared.event.Reply.TheVariants.{Worn as SaysWorn, OldFile as SaysOldFile, Halted, Device}
-use Rattle.lz_machine.specs.Table.{pin_of, last_pin, is_old}
+use Rattle.lz_machine.specs.{declared.caller.Progress.TheVariants.{Reserving}, Table.{pin_of, last_pin, is_old}, Runs.{Start, IsStart, Service, Caller, Up}}
+use Rattle.lz_machine.specs.Runs.{Transition, Calls, Turn, Fails, Looks, CrashesIn, MayStep, MayLeave, Reached, IsRun, run, first_point, start_keys, caller_at}
+use Rattle.lz_machine.specs.Runs.{reply_at}
 use Rattle.lz_allot.specs.Uses.{collect, lowest_free}
-use Rattle.lz_machine.specs.declared.caller.Progress.TheVariants.{Reserving}
-use Rattle.lz_machine.specs.Runs.{Start, IsStart, Service, Caller, Up, Transition, Calls, Turn, Fails, Looks, CrashesIn, MayStep, MayLeave, Reached, IsRun, run, first_point, start_keys, caller_at, reply_at}
 
 -- the step is this actor's, or no actor's
 abbrev pub IsOwn : ℕ → Transition → Type 0

@@ -1,34 +1,17 @@
 -- What an open call relies on in a sound state, by how far it has come.
 use Rattle.std.specs.Prelude.{◌≡◌, ◌⊎◌, ℕ, zero, suc, ◌<◌, ◌≤◌, ◌%◌, Bool, true, false, List, length, Option, Some, None}
-use Rattle.lz_slot.specs.declared.format.Format.{Format}
-use Rattle.lz_slot.specs.declared.command.Command.{Command}
-use Rattle.lz_slot.specs.declared.command.Command.TheVariants.{Add, Remove, Has}
-use Rattle.lz_slot.specs.Sets.{key_of}
-use Rattle.lz_vault.specs.declared.vault.Stage.{Stage}
-use Rattle.lz_vault.specs.declared.vault.Stage.TheVariants.{KeyLoose, Keyed}
-use Rattle.lz_vault.specs.Stages.{Cell}
-use Rattle.lz_vault.specs.Vaults.{Vaulted}
-use Rattle.lz_list.specs.declared.place.Place.{Place}
-use Rattle.lz_list.specs.declared.walk.Look.{Look}
-use Rattle.lz_list.specs.declared.walk.Look.TheVariants.{AtHead, AtKey, AtMet, AtBelow}
-use Rattle.lz_list.specs.Words.{link_to}
+use Rattle.lz_slot.specs.{declared.{format.Format.{Format}, command.Command.{Command, TheVariants.{Add, Remove, Has}}}, Sets.{key_of}}
+use Rattle.lz_vault.specs.{declared.vault.Stage.{Stage, TheVariants.{KeyLoose, Keyed}}, Stages.{Cell}, Vaults.{Vaulted}}
+use Rattle.lz_list.specs.{declared.{place.Place.{Place}, walk.Look.{Look, TheVariants.{AtHead, AtKey, AtMet, AtBelow}}}, Words.{link_to}}
 use Rattle.lz_list.specs.Traces.{Trace, Begins, bucket_of, key_word, linking, linking_in, is_removed, is_marked, halt_word, member, SettledYes, SettledNo}
-use Rattle.lz_list.specs.Pinned.{Stood, IsQuiet}
-use Rattle.lz_list.specs.Laws.{IsHigh}
-use Rattle.lz_machine.specs.declared.event.Reply.{Reply}
-use Rattle.lz_machine.specs.declared.event.Reply.TheVariants.{Yes, No, Full, Worn as SaysWorn, OldFile as SaysOldFile, Halted, Device}
+use Rattle.lz_list.specs.{Pinned.{Stood, IsQuiet}, Laws.{IsHigh}}
+use Rattle.lz_machine.specs.declared.event.Reply.{Reply, TheVariants.{Yes, No, Full, Worn as SaysWorn, OldFile as SaysOldFile, Halted, Device}}
 use Rattle.lz_machine.specs.declared.actor.Actor.{Actor}
 use Rattle.lz_machine.specs.declared.actor.Hold.TheVariants.{Nothing, Locks, Checked, GateOpened, Linked, GateClosed, Marked, Unlinked, Released}
-use Rattle.lz_machine.specs.declared.caller.Sequence.{Sequence}
-use Rattle.lz_machine.specs.declared.caller.Sequence.TheVariants.{Pinning, Resting, Writing, Adding, Removing, Releasing, Halting}
-use Rattle.lz_machine.specs.declared.caller.Progress.{Progress}
-use Rattle.lz_machine.specs.declared.caller.Progress.TheVariants.{Playing, LoadsHalt, Walking, Reserving, SeeingPins, Claiming, Checking, Answering}
-use Rattle.lz_machine.specs.Yards.{Shape, actor_in, cell_in, stage_in, pin_in, IsInside}
-use Rattle.lz_machine.specs.Table.{is_old, last_pin}
-use Rattle.lz_machine.specs.Runs.{Caller, caller_at}
-use Rattle.lz_machine.specs.Kept.{upto}
-use Rattle.lz_machine.specs.Stands.{IsWalking, WasBetween}
-use Rattle.lz_machine.specs.Notes.{Notes}
+use Rattle.lz_machine.specs.declared.caller.Sequence.{Sequence, TheVariants.{Pinning, Resting, Writing, Adding, Removing, Releasing, Halting}}
+use Rattle.lz_machine.specs.declared.caller.Progress.{Progress, TheVariants.{Playing, LoadsHalt, Walking, Reserving, SeeingPins, Claiming, Checking, Answering}}
+use Rattle.lz_machine.specs.{Yards.{Shape, actor_in, cell_in, stage_in, pin_in, IsInside}, Table.{is_old, last_pin}, Runs.{Caller, caller_at}, Kept.{upto}}
+use Rattle.lz_machine.specs.{Stands.{IsWalking, WasBetween}, Notes.{Notes}}
 
 -- What an open call relies on, by how far it has come. A caller's view: the table's buckets, how many passes there are,
 -- the file's format, the slots' cells, whether the vault is dead, and what its actor has in hand.

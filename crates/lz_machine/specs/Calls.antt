@@ -1,32 +1,16 @@
 -- The fixed order of one command's events.
 use Rattle.std.specs.Prelude.{ℕ, ◌+◌, ◌-◌, Bool, true, false, ◌==◌, nat_lt, if◌then◌else◌, List, [], ◌∷◌, length, slice_index_or, Option, Some, None}
-use Rattle.lz_slot.specs.declared.command.Command.{Command}
-use Rattle.lz_slot.specs.declared.command.Command.TheVariants.{Add, Remove, Has}
-use Rattle.lz_slot.specs.declared.format.Format.{Format}
-use Rattle.lz_slot.specs.Sets.{key_of}
-use Rattle.lz_list.specs.declared.place.Place.{Place}
-use Rattle.lz_list.specs.declared.word.Word.TheVariants.{Halt as halt_word, Pin as pin_word}
-use Rattle.lz_list.specs.declared.walk.Look.{Look}
-use Rattle.lz_list.specs.declared.walk.Look.TheVariants.{AtHead}
-use Rattle.lz_list.specs.declared.walk.Met.{Met}
-use Rattle.lz_list.specs.declared.walk.Met.TheVariants.{Absent, Unmarked, Marked}
-use Rattle.lz_list.specs.Words.{Words, get}
-use Rattle.lz_list.specs.Walks.{Hopped, More, End, wants, hopped}
-use Rattle.lz_flush.specs.declared.need.Need.{Need}
-use Rattle.lz_flush.specs.declared.need.Need.TheVariants.{Now, Sync as needs_sync}
-use Rattle.lz_flush.specs.Settling.{may_answer}
-use Rattle.lz_machine.specs.declared.event.Event.{Event}
-use Rattle.lz_machine.specs.declared.event.Event.TheVariants.{Pin, Hop, Reserve, WriteKey, Claim, Check, WriteOpen, Link, WriteClose, Mark, Release, Sync, Settle, Unlink, Retire, SeePin, Answer, Halt}
-use Rattle.lz_machine.specs.declared.event.Outcome.{Outcome}
-use Rattle.lz_machine.specs.declared.event.Outcome.TheVariants.{Value, Slot, NoSlot, Taken, True, False, Early, Worn, OldFile, Fault, Dead}
-use Rattle.lz_machine.specs.declared.event.Reply.{Reply}
+use Rattle.lz_slot.specs.{declared.{command.Command.{Command, TheVariants.{Add, Remove, Has}}, format.Format.{Format}}, Sets.{key_of}}
+use Rattle.lz_list.specs.declared.{place.Place.{Place}, word.Word.TheVariants.{Halt as halt_word, Pin as pin_word}, walk.Look.{Look, TheVariants.{AtHead}}}
+use Rattle.lz_list.specs.{declared.walk.Met.{Met, TheVariants.{Absent, Unmarked, Marked}}, Words.{Words, get}, Walks.{Hopped, More, End, wants, hopped}}
+use Rattle.lz_flush.specs.{declared.need.Need.{Need, TheVariants.{Now, Sync as needs_sync}}, Settling.{may_answer}}
+use Rattle.lz_machine.specs.declared.event.Event.{Event, TheVariants.{Pin, Hop, Reserve, WriteKey, Claim, Check, WriteOpen, Link, WriteClose, Mark, Release}}
+use Rattle.lz_machine.specs.declared.event.{Event.TheVariants.{Sync, Settle, Unlink, Retire, SeePin, Answer, Halt}, Outcome.{Outcome}}
+use Rattle.lz_machine.specs.declared.event.{Outcome.TheVariants.{Value, Slot, NoSlot, Taken, True, False, Early, Worn, OldFile, Fault, Dead}, Reply.{Reply}}
 use Rattle.lz_machine.specs.declared.event.Reply.TheVariants.{Yes, No, Full, Worn as SaysWorn, OldFile as SaysOldFile, Halted, Device}
-use Rattle.lz_machine.specs.declared.caller.Sequence.{Sequence}
-use Rattle.lz_machine.specs.declared.caller.Sequence.TheVariants.{Pinning, Resting, Writing, Adding, Removing, Releasing, Halting}
-use Rattle.lz_machine.specs.declared.caller.Progress.{Progress}
-use Rattle.lz_machine.specs.declared.caller.Progress.TheVariants.{Playing, LoadsHalt, Walking, Reserving, SeeingPins, Claiming, Checking, Answering}
-use Rattle.lz_machine.specs.Yards.{Shape}
-use Rattle.lz_machine.specs.Table.{is_old}
+use Rattle.lz_machine.specs.declared.caller.Sequence.{Sequence, TheVariants.{Pinning, Resting, Writing, Adding, Removing, Releasing, Halting}}
+use Rattle.lz_machine.specs.declared.caller.Progress.{Progress, TheVariants.{Playing, LoadsHalt, Walking, Reserving, SeeingPins, Claiming, Checking, Answering}}
+use Rattle.lz_machine.specs.{Yards.{Shape}, Table.{is_old}}
 
 -- the events of a sequence, as the rule lists them
 abbrev pub events_of : Command → Sequence → List Event

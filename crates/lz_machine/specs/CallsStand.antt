@@ -3,13 +3,9 @@ use Rattle.std.specs.Prelude.{◌≡◌, ℕ, suc, true, ◌%◌, ◌==◌, ◌&
 use Rattle.lz_disk.specs.Images.{Medium}
 use Rattle.lz_vault.specs.declared.vault.Stage.TheVariants.{Closed}
 use Rattle.lz_allot.specs.Uses.{is_outside}
-use Rattle.lz_list.specs.declared.publishing.Publishing.TheVariants.{Linked as linked, Marked as marked}
-use Rattle.lz_list.specs.Pinned.{Stood}
-use Rattle.lz_list.specs.Traces.{Trace, is_marked}
+use Rattle.lz_list.specs.{declared.publishing.Publishing.TheVariants.{Linked as linked, Marked as marked}, Pinned.{Stood}, Traces.{Trace, is_marked}}
 use Rattle.lz_machine.specs.Runs.{Start, IsStart, Service, State, Up, Down, Transition, Point, IsRun, run, first_point, caller_at}
-use Rattle.lz_machine.specs.CallersSound.{CallerSound, view_of}
-use Rattle.lz_machine.specs.Table.{pin_of, is_sure}
-use Rattle.lz_machine.specs.Yards.{cell_at}
+use Rattle.lz_machine.specs.{CallersSound.{CallerSound, view_of}, Table.{pin_of, is_sure}, Yards.{cell_at}}
 
 -- the pass is outside
 abbrev pub is_out : State → ℕ → Bool

@@ -1,10 +1,8 @@
 -- The ledger of a life: the rows of all calls that were answered or changed something, against the trace and the marks.
 use Rattle.std.specs.Prelude.{◌≡◌, ◌⊎◌, ℕ, suc, ◌+◌, ◌≤◌, ◌<◌, Bool, true, false, not, ◌==◌, ◌&&◌, List, [], ◌∷◌, ◌++◌, length, map, filter, Some, None}
-use Rattle.lz_slot.specs.declared.command.Command.TheVariants.{Add, Remove}
-use Rattle.lz_slot.specs.Sets.{Keys, key_of}
+use Rattle.lz_slot.specs.{declared.command.Command.TheVariants.{Add, Remove}, Sets.{Keys, key_of}}
 use Rattle.lz_slot.specs.Histories.{History, IsRefused, IsCalled, IsAnswered, IsBefore, Fits}
-use Rattle.lz_list.specs.declared.publishing.Publishing.{Publishing}
-use Rattle.lz_list.specs.declared.publishing.Publishing.TheVariants.{Linked as linked, Marked as marked}
+use Rattle.lz_list.specs.declared.publishing.Publishing.{Publishing, TheVariants.{Linked as linked, Marked as marked}}
 use Rattle.lz_list.specs.Traces.{Trace, Lawful, SettledYes, SettledNo}
 use Rattle.lz_machine.specs.Ledgers.{Row, HasRow, Stands, times, Each, Leads, listed, change_at}
 use Rattle.lz_machine.specs.Kept.{IsRowOf, MayDrop, upto, last_change, kept_keys, publishing}

@@ -1,8 +1,6 @@
 -- A file keeps its format.
 use Rattle.std.specs.Prelude.{◌≡◌, ℕ, List}
-use Rattle.lz_slot.specs.declared.format.Format.{Format}
-use Rattle.lz_slot.specs.Bytes.{format_of}
-use Rattle.lz_slot.specs.Histories.{History}
+use Rattle.lz_slot.specs.{declared.format.Format.{Format}, Bytes.{format_of}, Histories.{History}}
 use Rattle.lz_disk.specs.Images.{IsImage}
 use Rattle.lz_list.specs.Traces.{Trace}
 use Rattle.lz_vault.specs.Stages.{Suits}

@@ -1,8 +1,7 @@
 -- Reuse: which slots become free.
 use Rattle.std.specs.Prelude.{◌≡◌, ℕ, List}
 use Rattle.lz_disk.specs.Images.{Medium}
-use Rattle.lz_allot.specs.declared.sight.Sight.{Sight}
-use Rattle.lz_allot.specs.Uses.{Free, Limbo, use_of, collect, AllFree}
+use Rattle.lz_allot.specs.{declared.sight.Sight.{Sight}, Uses.{Free, Limbo, use_of, collect, AllFree}}
 use Rattle.lz_machine.specs.Runs.{Start, IsStart, Service, Up, Transition, IsRun, run, first_point, moments}
 
 -- Where a slot in limbo becomes free, each pass was outside in some state since the slot was last unlinked.

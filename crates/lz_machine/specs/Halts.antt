@@ -1,16 +1,10 @@
 -- What the marks of a run tell of a halt, and of device calls that failed. Marks and steps stand newest first.
 use Rattle.std.specs.Prelude.{◌≡◌, ◌⊎◌, ℕ, suc, ◌+◌, ◌≤◌, Bool, true, false, List, [], ◌∷◌, Option, Some, None}
-use Rattle.lz_slot.specs.declared.history.Cut.TheVariants.{Halted as cut_halted, Device as cut_device}
-use Rattle.lz_slot.specs.declared.history.Mark.{Mark}
-use Rattle.lz_slot.specs.declared.history.Mark.TheVariants.{Call, Answer, Refused, Cut}
-use Rattle.lz_slot.specs.declared.history.Refusal.TheVariants.{Full as refused_full}
-use Rattle.lz_slot.specs.Histories.{History}
+use Rattle.lz_slot.specs.declared.history.{Cut.TheVariants.{Halted as cut_halted, Device as cut_device}, Mark.{Mark, TheVariants.{Call, Answer, Refused, Cut}}}
+use Rattle.lz_slot.specs.{declared.history.Refusal.TheVariants.{Full as refused_full}, Histories.{History}}
 use Rattle.lz_list.specs.Traces.{Trace}
-use Rattle.lz_machine.specs.declared.caller.Progress.{Progress}
-use Rattle.lz_machine.specs.declared.caller.Progress.TheVariants.{Playing, LoadsHalt, Answering}
-use Rattle.lz_machine.specs.declared.caller.Sequence.TheVariants.{Pinning, Resting, Halting}
-use Rattle.lz_machine.specs.declared.event.Reply.{Reply}
-use Rattle.lz_machine.specs.declared.event.Reply.TheVariants.{Worn, OldFile, Halted, Device}
+use Rattle.lz_machine.specs.declared.caller.{Progress.{Progress, TheVariants.{Playing, LoadsHalt, Answering}}, Sequence.TheVariants.{Pinning, Resting, Halting}}
+use Rattle.lz_machine.specs.declared.event.Reply.{Reply, TheVariants.{Worn, OldFile, Halted, Device}}
 use Rattle.lz_machine.specs.Runs.{Caller, Start, State, Up, Down, Transition, Fails, Opens, Reached, IsRun, first_point, run}
 
 -- a call of the life that goes on was cut off

@@ -3,9 +3,7 @@ use Rattle.std.specs.Prelude.{◌≡◌, ◌≢◌, ℕ, Some}
 use Rattle.lz_slot.specs.Histories.{History}
 use Rattle.lz_disk.specs.Images.{Medium}
 use Rattle.lz_list.specs.Traces.{Trace}
-use Rattle.lz_machine.specs.declared.event.Outcome.TheVariants.{NotNow}
-use Rattle.lz_machine.specs.Table.{line}
-use Rattle.lz_machine.specs.Runs.{Start, Service, Caller, Up, Reached, caller_at, next_event}
+use Rattle.lz_machine.specs.{declared.event.Outcome.TheVariants.{NotNow}, Table.{line}, Runs.{Start, Service, Caller, Up, Reached, caller_at, next_event}}
 
 -- In each state that is reached each caller's next event is played, or refused otherwise than as NotNow.
 abbrev pub NeverLate : Type 0

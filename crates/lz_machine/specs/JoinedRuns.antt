@@ -1,9 +1,6 @@
 -- Runs may follow on one another: each begins with a text that the one before it may leave, with buckets and passes of its own.
 use Rattle.std.specs.Prelude.{◌≤◌, ℕ, Bool, List, [], ◌∷◌, ◌++◌}
-use Rattle.lz_slot.specs.Limits.{most_buckets, most_passes}
-use Rattle.lz_slot.specs.Bytes.{Holds, format_of}
-use Rattle.lz_slot.specs.Histories.{History, Life, ChainTo, lives}
-use Rattle.lz_slot.specs.Sets.{Keys}
+use Rattle.lz_slot.specs.{Limits.{most_buckets, most_passes}, Bytes.{Holds, format_of}, Histories.{History, Life, ChainTo, lives}, Sets.{Keys}}
 use Rattle.lz_disk.specs.Images.{at_rest}
 use Rattle.lz_vault.specs.Stages.{Suits}
 use Rattle.lz_list.specs.Traces.{Trace}

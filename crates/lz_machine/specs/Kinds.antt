@@ -1,8 +1,7 @@
 -- Kinds of events.
-use Rattle.lz_machine.specs.declared.event.Event.{Event}
 use Rattle.lz_machine.specs.declared.event.Event.TheVariants as event
-use Rattle.lz_machine.specs.declared.kind.Kind.{Kind}
 use Rattle.lz_machine.specs.declared.kind.Kind.TheVariants as kind
+use Rattle.lz_machine.specs.declared.{event.Event.{Event}, kind.Kind.{Kind}}
 
 -- the kind of an event
 abbrev pub kind_of : Event → Kind

@@ -1,8 +1,6 @@
 -- What is settled lasts.
 use Rattle.std.specs.Prelude.{◌≡◌, ℕ, true, false}
-use Rattle.lz_slot.specs.declared.command.Command.TheVariants.{Add, Remove}
-use Rattle.lz_slot.specs.Sets.{Keys}
-use Rattle.lz_slot.specs.Histories.{History, IsUnderWay}
+use Rattle.lz_slot.specs.{declared.command.Command.TheVariants.{Add, Remove}, Sets.{Keys}, Histories.{History, IsUnderWay}}
 use Rattle.lz_list.specs.Traces.{Trace, IsSettled}
 
 -- The set has each key whose adding is settled after P, unless a removal of it is under way in the history M, and lacks each

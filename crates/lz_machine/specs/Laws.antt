@@ -1,18 +1,10 @@
 -- The main theorem over every history, and the two laws on which threads rest.
-use Rattle.std.specs.Prelude.{◌≡◌, ◌≢◌, ◌==◌, ℕ, Bool, true, false, List, [], ◌∷◌, ◌++◌, Option, Some, None, IsSome}
-use Rattle.std.specs.List.{list_any}
-use Rattle.lz_slot.specs.Sets.{Keys}
-use Rattle.lz_slot.specs.Histories.{History, ChainTo, lives, last_history}
-use Rattle.lz_slot.specs.Bytes.{Holds}
-use Rattle.lz_list.specs.Traces.{Trace}
-use Rattle.lz_list.specs.declared.word.Word.{Word}
-use Rattle.lz_machine.specs.declared.event.Event.{Event}
-use Rattle.lz_machine.specs.declared.event.Event.TheVariants.{Hop}
-use Rattle.lz_machine.specs.declared.event.Outcome.{Outcome}
-use Rattle.lz_machine.specs.declared.event.Outcome.TheVariants.{Fault}
-use Rattle.lz_machine.specs.Table.{line}
-use Rattle.lz_machine.specs.Lasts.{Lasts}
-use Rattle.lz_machine.specs.Runs.{Start, State, Up, Down, Transition, Calls, Turn, Fails, Looks, Stops, Crashes, CrashesIn, Point, Service, Caller, Reached, MayLeave, MayStep, IsRun, run, caller_at, next_event, start_keys, IsStart, first_point}
+use Rattle.std.specs.{Prelude.{◌≡◌, ◌≢◌, ◌==◌, ℕ, Bool, true, false, List, [], ◌∷◌, ◌++◌, Option, Some, None, IsSome}, List.{list_any}}
+use Rattle.lz_slot.specs.{Sets.{Keys}, Histories.{History, ChainTo, lives, last_history}, Bytes.{Holds}}
+use Rattle.lz_list.specs.{Traces.{Trace}, declared.word.Word.{Word}}
+use Rattle.lz_machine.specs.{declared.event.{Event.{Event, TheVariants.{Hop}}, Outcome.{Outcome, TheVariants.{Fault}}}, Table.{line}, Lasts.{Lasts}}
+use Rattle.lz_machine.specs.Runs.{Start, State, Up, Down, Transition, Calls, Turn, Fails, Looks, Stops, Crashes, CrashesIn, Point, Service, Caller, Reached}
+use Rattle.lz_machine.specs.Runs.{MayLeave, MayStep, IsRun, run, caller_at, next_event, start_keys, IsStart, first_point}
 
 -- Whatever the run, each text that a crash may leave holds a set, and the lives lead from the first set to that one: each
 -- life has a list of commands that fits it.

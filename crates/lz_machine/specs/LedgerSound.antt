@@ -1,22 +1,12 @@
 -- The rows of a life in a sound state, against its trace and its history.
 use Rattle.std.specs.Prelude.{◌≡◌, ℕ, suc, ◌<◌, ◌≤◌, Bool, true, false, List, [], length, Option, Some}
-use Rattle.lz_slot.specs.declared.command.Command.{Command}
-use Rattle.lz_slot.specs.declared.command.Command.TheVariants.{Add, Remove}
-use Rattle.lz_slot.specs.Histories.{History, IsCalled, IsRefused, IsUnderWay}
+use Rattle.lz_slot.specs.{declared.command.Command.{Command, TheVariants.{Add, Remove}}, Histories.{History, IsCalled, IsRefused, IsUnderWay}}
 use Rattle.lz_vault.specs.Stages.{Cell}
 use Rattle.lz_list.specs.Traces.{Trace, on, chain_of, key_word, is_marked}
-use Rattle.lz_machine.specs.declared.event.Reply.TheVariants.{Halted, Device}
-use Rattle.lz_machine.specs.declared.actor.Actor.{Actor}
-use Rattle.lz_machine.specs.declared.caller.Sequence.TheVariants.{Adding, Removing, Halting}
-use Rattle.lz_machine.specs.declared.caller.Progress.{Progress}
-use Rattle.lz_machine.specs.declared.caller.Progress.TheVariants.{Playing, Answering}
-use Rattle.lz_machine.specs.Yards.{Shape, actor_in, cell_in, stage_in}
-use Rattle.lz_machine.specs.Runs.{Caller, caller_at}
-use Rattle.lz_machine.specs.Ledgers.{Row, Each, change_at, times}
-use Rattle.lz_machine.specs.Kept.{publishing}
-use Rattle.lz_machine.specs.Entries.{IsLedger, IsSettledEntry, IsChangeOf}
-use Rattle.lz_machine.specs.SlotsSound.{IsGateOpened, IsGateWritten}
-use Rattle.lz_machine.specs.Notes.{Notes, entries}
+use Rattle.lz_machine.specs.declared.{event.Reply.TheVariants.{Halted, Device}, actor.Actor.{Actor}, caller.Sequence.TheVariants.{Adding, Removing, Halting}}
+use Rattle.lz_machine.specs.{declared.caller.Progress.{Progress, TheVariants.{Playing, Answering}}, Yards.{Shape, actor_in, cell_in, stage_in}}
+use Rattle.lz_machine.specs.{Runs.{Caller, caller_at}, Ledgers.{Row, Each, change_at, times}, Kept.{publishing}, Entries.{IsLedger, IsSettledEntry, IsChangeOf}}
+use Rattle.lz_machine.specs.{SlotsSound.{IsGateOpened, IsGateWritten}, Notes.{Notes, entries}}
 
 pub record LedgerSound (n calls passes : ℕ) (callers : List (Option Caller)) (P : Trace) (M : History) (notes : Notes) : Type 0 where
   pub opened : n ≤ length P

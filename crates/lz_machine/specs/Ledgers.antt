@@ -1,7 +1,7 @@
 -- The list of calls that a trace and a ledger give. Rows and lists of calls stand oldest first.
-use Rattle.std.specs.Prelude.{◌≡◌, ◌⊎◌, ℕ, zero, suc, Bool, false, not, ◌==◌, ◌&&◌, List, [], ◌∷◌, ◌++◌, Option, MatchOption, filter, if◌then◌else◌, nat_lt, nat_le}
-use Rattle.lz_slot.specs.declared.command.Command.{Command}
-use Rattle.lz_slot.specs.Sets.{key_of, Keys, Same, after, reply, moved}
+use Rattle.std.specs.Prelude.{◌≡◌, ◌⊎◌, ℕ, zero, suc, Bool, false, not, ◌==◌, ◌&&◌, List, [], ◌∷◌, ◌++◌, Option, MatchOption, filter, if◌then◌else◌, nat_lt}
+use Rattle.std.specs.Prelude.{nat_le}
+use Rattle.lz_slot.specs.{declared.command.Command.{Command}, Sets.{key_of, Keys, Same, after, reply, moved}}
 
 -- A call that is listed: its number, its command, its answer if it has one, whether it changes the set, and its position, a
 -- number of publishings.

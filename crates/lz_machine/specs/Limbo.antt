@@ -1,9 +1,7 @@
 -- What has been seen of a pass since a slot was retired: v is its pin word, P0 the trace at its last pin, P the trace now.
 use Rattle.std.specs.Prelude.{◌≡◌, ℕ, suc, ◌<◌, ◌≤◌, ◌%◌}
-use Rattle.lz_allot.specs.declared.sight.Sight.{Sight}
-use Rattle.lz_allot.specs.declared.sight.Sight.TheVariants.{Unseen, Inside, Left}
-use Rattle.lz_list.specs.Traces.{Trace}
-use Rattle.lz_list.specs.Pinned.{Stood}
+use Rattle.lz_allot.specs.declared.sight.Sight.{Sight, TheVariants.{Unseen, Inside, Left}}
+use Rattle.lz_list.specs.{Traces.{Trace}, Pinned.{Stood}}
 
 -- since P0 the slot stood on no chain
 abbrev pub IsAway : ℕ → Trace → Trace → ℕ → Type 0

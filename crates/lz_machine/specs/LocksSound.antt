@@ -1,14 +1,9 @@
 -- What an actor may rely on in a sound state because of its locks, which it has of what it claimed from Claim to Release.
 use Rattle.std.specs.Prelude.{◌≡◌, ◌⊎◌, ℕ, Bool, true, false, List, [], ◌∷◌, length, Option, Some}
-use Rattle.lz_list.specs.declared.place.Place.{Place}
-use Rattle.lz_list.specs.Words.{place_number, link_to}
-use Rattle.lz_list.specs.Traces.{Trace, key_word, is_marked}
+use Rattle.lz_list.specs.{declared.place.Place.{Place}, Words.{place_number, link_to}, Traces.{Trace, key_word, is_marked}}
 use Rattle.lz_list.specs.Locks.{NodeLocks, claimed_places, owner}
-use Rattle.lz_machine.specs.declared.actor.Actor.{Actor}
-use Rattle.lz_machine.specs.declared.actor.Hold.{Hold}
-use Rattle.lz_machine.specs.declared.actor.Hold.TheVariants.{Nothing, Checked, GateOpened, GateClosed, Marked, Released}
-use Rattle.lz_machine.specs.Yards.{Shape, actor_in}
-use Rattle.lz_machine.specs.Stands.{IsLinkable, IsRound, InBucket, FacesNode}
+use Rattle.lz_machine.specs.declared.actor.{Actor.{Actor}, Hold.{Hold, TheVariants.{Nothing, Checked, GateOpened, GateClosed, Marked, Released}}}
+use Rattle.lz_machine.specs.{Yards.{Shape, actor_in}, Stands.{IsLinkable, IsRound, InBucket, FacesNode}}
 
 -- An actor has the locks of what it claimed from Claim to Release.
 abbrev pub has_locks : Hold → Bool

@@ -1,9 +1,6 @@
 -- What the marks of a run tell: each call has a number of its own, an actor has one call open at most, and a call ends once.
 use Rattle.std.specs.Prelude.{◌≡◌, ◌≢◌, ◌⊎◌, ℕ, [], ◌∷◌}
-use Rattle.lz_slot.specs.declared.command.Command.{Command}
-use Rattle.lz_slot.specs.declared.history.Mark.{Mark}
-use Rattle.lz_slot.specs.declared.history.Mark.TheVariants.{Call, Answer, Refused, Cut}
-use Rattle.lz_slot.specs.Histories.{History, IsCalled}
+use Rattle.lz_slot.specs.{declared.{command.Command.{Command}, history.Mark.{Mark, TheVariants.{Call, Answer, Refused, Cut}}}, Histories.{History, IsCalled}}
 use Rattle.lz_list.specs.Traces.{Trace}
 use Rattle.lz_machine.specs.Runs.{Start, State, Reached}
 

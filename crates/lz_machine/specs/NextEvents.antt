@@ -3,9 +3,7 @@ use Rattle.std.specs.Prelude.{◌≡◌, ℕ, Some}
 use Rattle.lz_slot.specs.Histories.{History}
 use Rattle.lz_disk.specs.Images.{Medium}
 use Rattle.lz_list.specs.Traces.{Trace}
-use Rattle.lz_machine.specs.Orders.{MayTake}
-use Rattle.lz_machine.specs.Ready.{IsEventOf}
-use Rattle.lz_machine.specs.Runs.{Start, Service, Caller, Up, Reached, IsActor, IsNext, caller_at, next_event}
+use Rattle.lz_machine.specs.{Orders.{MayTake}, Ready.{IsEventOf}, Runs.{Start, Service, Caller, Up, Reached, IsActor, IsNext, caller_at, next_event}}
 use Rattle.lz_machine.specs.Table.{line}
 
 -- The actor is one of the service's, its event is one of the yard's and its next one, and its call may take what it gives.

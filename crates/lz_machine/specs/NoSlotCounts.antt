@@ -4,10 +4,7 @@ use Rattle.lz_slot.specs.Histories.{History}
 use Rattle.lz_disk.specs.Images.{Medium}
 use Rattle.lz_allot.specs.declared.counts.Counts.{Counts}
 use Rattle.lz_list.specs.Traces.{Trace}
-use Rattle.lz_machine.specs.declared.event.Event.TheVariants.{Reserve}
-use Rattle.lz_machine.specs.declared.event.Outcome.TheVariants.{NoSlot}
-use Rattle.lz_machine.specs.Runs.{Start, Service, Up, Reached}
-use Rattle.lz_machine.specs.Table.{line}
+use Rattle.lz_machine.specs.{declared.event.{Event.TheVariants.{Reserve}, Outcome.TheVariants.{NoSlot}}, Runs.{Start, Service, Up, Reached}, Table.{line}}
 
 -- Where a slot is asked for and none is found, none is free, and the counts that are told sum to the number of slots.
 abbrev pub CountsAreRight : Type 0

@@ -1,8 +1,7 @@
 -- What proofs keep beside a state, and the rows of its life.
 use Rattle.std.specs.Prelude.{ℕ, zero, suc, true, List, [], ◌∷◌, ◌++◌, Option, Some, None}
 use Rattle.lz_list.specs.Traces.{Trace}
-use Rattle.lz_machine.specs.Runs.{Caller, caller_at}
-use Rattle.lz_machine.specs.Ledgers.{Row}
+use Rattle.lz_machine.specs.{Runs.{Caller, caller_at}, Ledgers.{Row}}
 
 -- What proofs keep beside a state: for each pass the trace at its last pin and the position at which its call has changed
 -- something, if it has; and the rows of the calls of this life that have ended, in the order of their ends.

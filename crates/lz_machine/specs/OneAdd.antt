@@ -1,16 +1,11 @@
 -- The machine running: one adding to a freshly made set of one slot, in each format. And what a crash may leave.
 use Rattle.std.specs.Prelude.{◌≡◌, ℕ, Bool, true, false, List, [], ◌∷◌, ◌++◌, replicate, Some, None}
-use Rattle.lz_slot.specs.declared.command.Command.TheVariants.{Add}
-use Rattle.lz_slot.specs.declared.format.Format.{Format}
-use Rattle.lz_slot.specs.declared.format.Format.TheVariants.{Four}
-use Rattle.lz_slot.specs.declared.history.Mark.TheVariants.{Call, Answer}
-use Rattle.lz_slot.specs.Bytes.{open_byte, slot_body}
-use Rattle.lz_slot.specs.Whole.{whole_slot}
-use Rattle.lz_slot.specs.Histories.{History}
+use Rattle.lz_slot.specs.declared.{command.Command.TheVariants.{Add}, format.Format.{Format, TheVariants.{Four}}, history.Mark.TheVariants.{Call, Answer}}
+use Rattle.lz_slot.specs.{Bytes.{open_byte, slot_body}, Whole.{whole_slot}, Histories.{History}}
 use Rattle.lz_vault.specs.Vaults.{DeviceCall, NoCall, WriteAt, SyncAll}
 use Rattle.lz_list.specs.Traces.{Trace}
-use Rattle.lz_machine.specs.Table.{line_call}
-use Rattle.lz_machine.specs.Runs.{Start, IsStart, State, Up, Transition, Calls, Turn, IsRun, Point, run, first_point, caller_at, next_event, made_text, Reached, MayLeave}
+use Rattle.lz_machine.specs.{Table.{line_call}, Runs.{Start, IsStart, State, Up, Transition, Calls, Turn, IsRun, Point, run, first_point, caller_at}}
+use Rattle.lz_machine.specs.Runs.{next_event, made_text, Reached, MayLeave}
 
 -- a format that stands on a bytewise disk
 abbrev pub is_bytewise : Format → Bool

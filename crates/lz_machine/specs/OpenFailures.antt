@@ -1,10 +1,7 @@
 -- Opens that are refused.
 use Rattle.std.specs.Prelude.{◌≡◌, ◌⊎◌, ℕ, List}
-use Rattle.lz_slot.specs.Bytes.{Holds}
-use Rattle.lz_slot.specs.Sets.{Keys}
-use Rattle.lz_vault.specs.Opens.{IsFaultOf, open_fault_number}
-use Rattle.lz_vault.specs.declared.opening.OpenFault.{OpenFault}
-use Rattle.lz_vault.specs.declared.opening.OpenFault.TheVariants.{Device, Memory}
+use Rattle.lz_slot.specs.{Bytes.{Holds}, Sets.{Keys}}
+use Rattle.lz_vault.specs.{Opens.{IsFaultOf, open_fault_number}, declared.opening.OpenFault.{OpenFault, TheVariants.{Device, Memory}}}
 
 -- the number of an open that was refused because of the device or when out of memory
 abbrev pub IsOpenFailure : ℕ → Type 0

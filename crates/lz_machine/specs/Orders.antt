@@ -1,16 +1,9 @@
 -- What a caller keeps, and what it may take.
 use Rattle.std.specs.Prelude.{ℕ, ◌<◌, ◌≤◌, length}
-use Rattle.lz_slot.specs.declared.command.Command.{Command}
-use Rattle.lz_slot.specs.Limits.{most_buckets, most_passes}
+use Rattle.lz_slot.specs.{declared.command.Command.{Command}, Limits.{most_buckets, most_passes}}
 use Rattle.lz_list.specs.Hops.{LeadsOn}
-use Rattle.lz_machine.specs.declared.caller.Progress.{Progress}
-use Rattle.lz_machine.specs.declared.caller.Progress.TheVariants.{Playing, LoadsHalt, Walking, SeeingPins}
-use Rattle.lz_machine.specs.declared.event.Event.{Event}
-use Rattle.lz_machine.specs.declared.event.Event.TheVariants.{SeePin}
-use Rattle.lz_machine.specs.declared.event.Outcome.{Outcome}
-use Rattle.lz_machine.specs.declared.event.Outcome.TheVariants.{Value}
-use Rattle.lz_machine.specs.Yards.{Shape}
-use Rattle.lz_machine.specs.Calls.{events_of}
+use Rattle.lz_machine.specs.declared.{caller.Progress.{Progress, TheVariants.{Playing, LoadsHalt, Walking, SeeingPins}}, event.Event.{Event}}
+use Rattle.lz_machine.specs.{declared.event.{Event.TheVariants.{SeePin}, Outcome.{Outcome, TheVariants.{Value}}}, Yards.{Shape}, Calls.{events_of}}
 
 -- A call's command, the buckets and passes of the yard on which it is played, and how far it has come.
 pub record Calling : Type 0 where

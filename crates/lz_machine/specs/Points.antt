@@ -1,8 +1,7 @@
 -- Points that a run reaches.
 use Rattle.std.specs.Prelude.{◌≡◌, ℕ, List, IsTrue, IsNone}
 use Rattle.lz_allot.specs.Uses.{is_outside}
-use Rattle.lz_machine.specs.Table.{pin_of}
-use Rattle.lz_machine.specs.Runs.{Start, IsStart, first_point, State, Up, Down, Transition, caller_at, Point, run, IsRun}
+use Rattle.lz_machine.specs.{Table.{pin_of}, Runs.{Start, IsStart, first_point, State, Up, Down, Transition, caller_at, Point, run, IsRun}}
 
 -- a point of a run from the start
 pub record IsReached (start : Start) (p : Point) : Type 0 where

@@ -1,16 +1,12 @@
 -- What an event's calls of the lower crates ask for, where the event is played.
 use Rattle.std.specs.Prelude.{◌≡◌, ◌⊎◌, ℕ, ◌<◌, ◌≤◌, true, length, Some, IfSome}
-use Rattle.lz_slot.specs.Rooms.{largest_of}
-use Rattle.lz_slot.specs.Limits.{largest_key}
+use Rattle.lz_slot.specs.{Rooms.{largest_of}, Limits.{largest_key}}
 use Rattle.lz_vault.specs.declared.vault.Stage.TheVariants.{Keyed, Opening, Open}
 use Rattle.lz_allot.specs.Allots.{IsTakenAt}
-use Rattle.lz_list.specs.declared.word.Word.TheVariants.{Link as link_at, Key as key_at}
-use Rattle.lz_list.specs.Words.{get, link_to}
+use Rattle.lz_list.specs.{declared.word.Word.TheVariants.{Link as link_at, Key as key_at}, Words.{get, link_to}}
 use Rattle.lz_list.specs.Lists.{IsWord, IsPlace, IsCurr, MayLinkAt, MayUnlinkAt, KeepsList}
-use Rattle.lz_machine.specs.declared.event.Event.{Event}
-use Rattle.lz_machine.specs.declared.event.Event.TheVariants.{Pin, Hop, WriteKey, Claim, Check, WriteOpen, Link, WriteClose, Mark, Release, Sync, Settle, Unlink, Retire, SeePin, Answer}
-use Rattle.lz_machine.specs.declared.actor.Actor.{Actor}
-use Rattle.lz_machine.specs.Yards.{Yard, actor_at, cell_at}
+use Rattle.lz_machine.specs.declared.event.Event.{Event, TheVariants.{Pin, Hop, WriteKey, Claim, Check, WriteOpen, Link, WriteClose, Mark, Release, Sync}}
+use Rattle.lz_machine.specs.{declared.{event.Event.TheVariants.{Settle, Unlink, Retire, SeePin, Answer}, actor.Actor.{Actor}}, Yards.{Yard, actor_at, cell_at}}
 use Rattle.lz_machine.specs.Table.{last_pin, pin_of, is_unused}
 
 -- an event's slots, words and passes are the yard's

@@ -1,36 +1,21 @@
 -- Runs of the machine: callers' steps, device failures, stops, crashes and opens. Steps, marks and traces stand newest first.
-use Rattle.std.specs.Prelude.{◌≡◌, ◌≢◌, ◌⊎◌, ℕ, suc, ◌+◌, ◌*◌, ◌≤◌, Bool, true, false, List, [], ◌∷◌, ◌++◌, map, replicate, Option, Some, None, IsTrue, IsNone, IsSomeAnd}
-use Rattle.lz_slot.specs.declared.command.Command.{Command}
-use Rattle.lz_slot.specs.declared.format.Format.{Format}
+use Rattle.std.specs.Prelude.{◌≡◌, ◌≢◌, ◌⊎◌, ℕ, suc, ◌+◌, ◌*◌, ◌≤◌, Bool, true, false, List, [], ◌∷◌, ◌++◌, map, replicate, Option, Some, None, IsTrue, IsNone}
+use Rattle.std.specs.Prelude.{IsSomeAnd}
+use Rattle.lz_slot.specs.declared.{command.Command.{Command}, format.Format.{Format}}
 use Rattle.lz_slot.specs.declared.history.Refusal.TheVariants.{Full as refused_full, Worn as refused_worn, OldFile as refused_old_file}
-use Rattle.lz_slot.specs.declared.history.Cut.TheVariants.{Halted as cut_halted, Device as cut_device}
-use Rattle.lz_slot.specs.declared.history.Mark.{Mark}
+use Rattle.lz_slot.specs.declared.history.{Cut.TheVariants.{Halted as cut_halted, Device as cut_device}, Mark.{Mark}}
 use Rattle.lz_slot.specs.declared.history.Mark.TheVariants.{Call, Answer, Refused, Cut, Stop, Crash, Opened, OpenFailed}
-use Rattle.lz_slot.specs.Limits.{largest_key, most_buckets, most_passes}
-use Rattle.lz_slot.specs.Sets.{Keys, members, key_of}
-use Rattle.lz_slot.specs.Counted.{of_pass, set_of_pass}
-use Rattle.lz_slot.specs.Histories.{History}
+use Rattle.lz_slot.specs.{Limits.{largest_key, most_buckets, most_passes}, Sets.{Keys, members, key_of}, Counted.{of_pass, set_of_pass}, Histories.{History}}
 use Rattle.lz_slot.specs.Bytes.{open_byte, header_body, Holds, format_of, held}
 use Rattle.lz_disk.specs.Images.{Medium, IsImage, AreBytes, at_rest, synced}
-use Rattle.lz_vault.specs.Stages.{Suits}
-use Rattle.lz_vault.specs.Vaults.{medium_after, MayFail}
+use Rattle.lz_vault.specs.{Stages.{Suits}, Vaults.{medium_after, MayFail}}
 use Rattle.lz_allot.specs.Uses.{is_outside, Moment, Pins, Unlinking}
-use Rattle.lz_list.specs.declared.word.Word.TheVariants.{Pin as pin_word}
-use Rattle.lz_list.specs.declared.publishing.Publishing.{Publishing}
-use Rattle.lz_list.specs.declared.publishing.Publishing.TheVariants.{Unlinked as unlinked}
-use Rattle.lz_list.specs.Words.{Words, get, set}
-use Rattle.lz_list.specs.Traces.{Trace, insert}
-use Rattle.lz_machine.specs.declared.event.Event.{Event}
-use Rattle.lz_machine.specs.declared.event.Event.TheVariants.{Invoke}
-use Rattle.lz_machine.specs.declared.event.Outcome.{Outcome}
-use Rattle.lz_machine.specs.declared.event.Outcome.TheVariants.{NotNow}
-use Rattle.lz_machine.specs.declared.event.Reply.{Reply}
-use Rattle.lz_machine.specs.declared.event.Reply.TheVariants.{Yes, No, Full, Worn, OldFile, Halted, Device}
-use Rattle.lz_machine.specs.Yards.{Shape, Yard, actor_at, opened_yard, first_trace}
-use Rattle.lz_machine.specs.Table.{yard_done, line, line_failed, line_call, line_publishes, pin_of, last_pin}
-use Rattle.lz_machine.specs.OpenFailures.{IsOpenFailure}
-use Rattle.lz_machine.specs.declared.caller.Progress.{Progress}
-use Rattle.lz_machine.specs.declared.caller.Progress.TheVariants.{Answering}
+use Rattle.lz_list.specs.declared.{word.Word.TheVariants.{Pin as pin_word}, publishing.Publishing.{Publishing, TheVariants.{Unlinked as unlinked}}}
+use Rattle.lz_list.specs.{Words.{Words, get, set}, Traces.{Trace, insert}}
+use Rattle.lz_machine.specs.declared.event.{Event.{Event, TheVariants.{Invoke}}, Outcome.{Outcome, TheVariants.{NotNow}}, Reply.{Reply}}
+use Rattle.lz_machine.specs.declared.{event.Reply.TheVariants.{Yes, No, Full, Worn, OldFile, Halted, Device}, caller.Progress.{Progress}}
+use Rattle.lz_machine.specs.{declared.caller.Progress.TheVariants.{Answering}, Yards.{Shape, Yard, actor_at, opened_yard, first_trace}}
+use Rattle.lz_machine.specs.{Table.{yard_done, line, line_failed, line_call, line_publishes, pin_of, last_pin}, OpenFailures.{IsOpenFailure}}
 use Rattle.lz_machine.specs.Calls.{begun, event_at, progress_after, loaded}
 
 -- A call that is open: its number, its command and how far it has come.

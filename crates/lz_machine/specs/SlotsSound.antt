@@ -1,14 +1,9 @@
 -- Where a slot stands in a sound state: its stage, its use and who has it.
 use Rattle.std.specs.Prelude.{◌≡◌, ◌≢◌, ◌⊎◌, ℕ, suc, ◌<◌, Bool, true, false, List, length, Some}
-use Rattle.lz_vault.specs.declared.vault.Stage.{Stage}
-use Rattle.lz_vault.specs.declared.vault.Stage.TheVariants.{Closed, Opening, Open, Closing}
-use Rattle.lz_vault.specs.Stages.{Cell, IsFree}
-use Rattle.lz_allot.specs.declared.sight.Sight.{Sight}
-use Rattle.lz_allot.specs.Uses.{Use, Free, Taken, Limbo, use_of}
+use Rattle.lz_vault.specs.{declared.vault.Stage.{Stage, TheVariants.{Closed, Opening, Open, Closing}}, Stages.{Cell, IsFree}}
+use Rattle.lz_allot.specs.{declared.sight.Sight.{Sight}, Uses.{Use, Free, Taken, Limbo, use_of}}
 use Rattle.lz_list.specs.Traces.{Trace, IsLoose, halt_word, on, chain_of, key_word, linking, is_settled, is_removed, is_marked}
-use Rattle.lz_machine.specs.declared.actor.Actor.{Actor}
-use Rattle.lz_machine.specs.declared.actor.Hold.{Hold}
-use Rattle.lz_machine.specs.declared.actor.Hold.TheVariants.{Checked, GateOpened, GateClosed, Marked, Unlinked, Released}
+use Rattle.lz_machine.specs.declared.actor.{Actor.{Actor}, Hold.{Hold, TheVariants.{Checked, GateOpened, GateClosed, Marked, Unlinked, Released}}}
 use Rattle.lz_machine.specs.Yards.{Shape, actor_in, cell_in, stage_in}
 
 -- Where a slot stands: its stage, its use and who has it.

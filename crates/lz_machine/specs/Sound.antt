@@ -1,35 +1,17 @@
 -- The invariant of the machine: what holds of each state that is reached, with its trace. Each field is a record of its own,
 -- over those parts of the state that it speaks of, so that a step shows only what it touches.
 use Rattle.std.specs.Prelude.{◌≡◌, ℕ, ◌<◌, ◌≤◌, true, false, List, [], ◌∷◌, length, slice_get, Option, Some}
-use Rattle.lz_slot.specs.Limits.{most_slots_of}
-use Rattle.lz_slot.specs.Rooms.{largest_of}
-use Rattle.lz_slot.specs.Sets.{Keys}
-use Rattle.lz_slot.specs.Bytes.{Holds, format_of}
-use Rattle.lz_slot.specs.Counted.{of_pass}
+use Rattle.lz_slot.specs.{Limits.{most_slots_of}, Rooms.{largest_of}, Sets.{Keys}, Bytes.{Holds, format_of}, Counted.{of_pass}}
 use Rattle.lz_slot.specs.Histories.{History, Life, ChainTo, Fits, lives, IsBefore as IsAnsweredBefore}
 use Rattle.lz_disk.specs.Images.{Medium, IsImage, IsSound as IsSoundDisk}
-use Rattle.lz_vault.specs.Stages.{Cell, Keeps, Suits}
-use Rattle.lz_vault.specs.Vaults.{Vaulted}
-use Rattle.lz_allot.specs.declared.sight.Sight.{Sight}
-use Rattle.lz_allot.specs.declared.sight.Sight.TheVariants.{Left}
-use Rattle.lz_allot.specs.Uses.{Use, Free, Limbo, use_of}
-use Rattle.lz_list.specs.declared.word.Word.TheVariants.{Head as head_at, Link as link_at, Key as key_at}
-use Rattle.lz_list.specs.Words.{Words}
+use Rattle.lz_vault.specs.{Stages.{Cell, Keeps, Suits}, Vaults.{Vaulted}}
+use Rattle.lz_allot.specs.{declared.sight.Sight.{Sight, TheVariants.{Left}}, Uses.{Use, Free, Limbo, use_of}}
+use Rattle.lz_list.specs.{declared.word.Word.TheVariants.{Head as head_at, Link as link_at, Key as key_at}, Words.{Words}}
 use Rattle.lz_list.specs.Traces.{Trace, Lawful, node_next, linking, is_settled, halt_word, word_after, table, member}
-use Rattle.lz_machine.specs.declared.actor.Actor.{Actor}
-use Rattle.lz_machine.specs.Yards.{Shape, Yard, actor_in, pin_in, IsInside}
-use Rattle.lz_machine.specs.Table.{last_pin}
-use Rattle.lz_machine.specs.Runs.{Caller, Service, State, Up, Down, Start, Point, caller_at, shape_of, start_keys}
-use Rattle.lz_machine.specs.Formats.{HasFormat}
-use Rattle.lz_machine.specs.Ledgers.{Row, HasRow}
-use Rattle.lz_machine.specs.Kept.{upto}
-use Rattle.lz_machine.specs.Limbo.{IsAway, IsRightSight}
-use Rattle.lz_machine.specs.Lasts.{Lasts}
-use Rattle.lz_machine.specs.SlotsSound.{SlotsSound}
-use Rattle.lz_machine.specs.LocksSound.{LocksSound}
-use Rattle.lz_machine.specs.Notes.{Notes, entries}
-use Rattle.lz_machine.specs.LedgerSound.{LedgerSound, TailsSound}
-use Rattle.lz_machine.specs.CallersSound.{CallersSound}
+use Rattle.lz_machine.specs.{declared.actor.Actor.{Actor}, Yards.{Shape, Yard, actor_in, pin_in, IsInside}, Table.{last_pin}}
+use Rattle.lz_machine.specs.{Runs.{Caller, Service, State, Up, Down, Start, Point, caller_at, shape_of, start_keys}, Formats.{HasFormat}, Ledgers.{Row, HasRow}}
+use Rattle.lz_machine.specs.{Kept.{upto}, Limbo.{IsAway, IsRightSight}, Lasts.{Lasts}, SlotsSound.{SlotsSound}, LocksSound.{LocksSound}, Notes.{Notes, entries}}
+use Rattle.lz_machine.specs.{LedgerSound.{LedgerSound, TailsSound}, CallersSound.{CallersSound}}
 
 -- The trace is lawful, and the words are those after it; pin words are no part of it.
 pub record TraceSound (shape : Shape) (words : Words) (P : Trace) : Type 0 where

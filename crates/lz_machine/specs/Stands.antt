@@ -1,11 +1,8 @@
 -- What a caller may rely on where it stands, in words of the trace: P0 is the trace at its pin, P the trace now, k its key.
 use Rattle.std.specs.Prelude.{◌≡◌, ℕ, suc, true, false}
-use Rattle.lz_list.specs.declared.place.Place.{Place}
-use Rattle.lz_list.specs.declared.place.Place.TheVariants.{Bucket, Node}
-use Rattle.lz_list.specs.Words.{place_number}
-use Rattle.lz_list.specs.Traces.{Trace, on, chain_of, bucket_of, key_word, node_next, next_link, IsLoose, is_marked, has_added, has_removed, member, linking, is_removed, Adjacent}
-use Rattle.lz_list.specs.Pinned.{Once, Stood}
-use Rattle.lz_list.specs.Laws.{IsLow, IsHigh}
+use Rattle.lz_list.specs.{declared.place.Place.{Place, TheVariants.{Bucket, Node}}, Words.{place_number}, Traces.{Trace, on, chain_of, bucket_of, key_word}}
+use Rattle.lz_list.specs.Traces.{node_next, next_link, IsLoose, is_marked, has_added, has_removed, member, linking, is_removed, Adjacent}
+use Rattle.lz_list.specs.{Pinned.{Once, Stood}, Laws.{IsLow, IsHigh}}
 
 -- a slot that is ready to be linked before link n
 pub record IsLinkable (buckets k n s : ℕ) (P : Trace) : Type 0 where

@@ -1,35 +1,24 @@
 -- The table of the nineteen events: what each needs, which device call it makes, what it changes and what it answers.
-use Rattle.std.specs.Prelude.{ℕ, ◌+◌, ◌^◌, Bool, true, false, not, ◌&&◌, ◌||◌, ◌==◌, if◌then◌else◌, List, [], ◌∷◌, map, slice_set, Option, Some, None, is_some, nat_lt, unwrap_or}
-use Rattle.lz_slot.specs.declared.command.Command.{Command}
-use Rattle.lz_slot.specs.declared.command.Command.TheVariants.{Add}
-use Rattle.lz_slot.specs.declared.format.Format.{Format}
-use Rattle.lz_slot.specs.Rooms.{largest_of}
-use Rattle.lz_slot.specs.Counted.{set_of_pass}
-use Rattle.lz_vault.specs.declared.vault.Stage.{Stage}
-use Rattle.lz_vault.specs.declared.vault.Stage.TheVariants.{Closed, Keyed, Opening, Open, Closing}
+use Rattle.std.specs.Prelude.{ℕ, ◌+◌, ◌^◌, Bool, true, false, not, ◌&&◌, ◌||◌, ◌==◌, if◌then◌else◌, List, [], ◌∷◌, map, slice_set, Option, Some, None, is_some}
+use Rattle.std.specs.Prelude.{nat_lt, unwrap_or}
+use Rattle.lz_slot.specs.{declared.{command.Command.{Command, TheVariants.{Add}}, format.Format.{Format}}, Rooms.{largest_of}, Counted.{set_of_pass}}
+use Rattle.lz_vault.specs.declared.vault.Stage.{Stage, TheVariants.{Closed, Keyed, Opening, Open, Closing}}
 use Rattle.lz_vault.specs.Stages.{Cell, cell_synced, stage_put, is_closed, is_keyed, is_covered, is_free}
 use Rattle.lz_vault.specs.Vaults.{Vaulted, DeviceCall, NoCall, SyncAll, key_call, opening_call, closing_call, last_sync, syncs_after, cells_failed, died}
 use Rattle.lz_allot.specs.Uses.{Use, collect, lowest_free, take_slot, give_back, retire, see_pin, counts, is_outside}
-use Rattle.lz_list.specs.declared.place.Place.{Place}
-use Rattle.lz_list.specs.declared.place.Place.TheVariants.{Node}
-use Rattle.lz_list.specs.declared.word.Word.{Word}
+use Rattle.lz_list.specs.declared.{place.Place.{Place, TheVariants.{Node}}, word.Word.{Word}}
 use Rattle.lz_list.specs.declared.word.Word.TheVariants.{Link as link_at, Key as key_at, Pin as pin_at, Halt as halt_word}
-use Rattle.lz_list.specs.declared.publishing.Change.TheVariants.{Added, Removed}
-use Rattle.lz_list.specs.declared.publishing.Publishing.{Publishing}
-use Rattle.lz_list.specs.declared.publishing.Publishing.TheVariants.{Linked as linked, Settled as settled, Marked as marked, Unlinked as unlinked, KeyPrepared as key_prepared, LinkPrepared as link_prepared, Halted as halted}
+use Rattle.lz_list.specs.declared.publishing.{Change.TheVariants.{Added, Removed}, Publishing.{Publishing, TheVariants.{Linked as linked, Settled as settled}}}
+use Rattle.lz_list.specs.declared.publishing.Publishing.TheVariants.{Marked as marked, Unlinked as unlinked, KeyPrepared as key_prepared}
+use Rattle.lz_list.specs.declared.publishing.Publishing.TheVariants.{LinkPrepared as link_prepared, Halted as halted}
 use Rattle.lz_list.specs.Words.{Words, get, set, redirect, next_at, link_to, word_of, is_marked_at, change_flags, marked_flags}
 use Rattle.lz_list.specs.Locks.{NodeLocks, is_pair_free, pair_owned, check}
 use Rattle.lz_flush.specs.Settling.{settle}
-use Rattle.lz_machine.specs.declared.event.Event.{Event}
-use Rattle.lz_machine.specs.declared.event.Event.TheVariants.{Invoke, Pin, Hop, Reserve, WriteKey, Claim, Check, WriteOpen, Link, WriteClose, Mark, Release, Sync, Settle, Unlink, Retire, SeePin, Answer, Halt}
-use Rattle.lz_machine.specs.declared.event.Outcome.{Outcome}
+use Rattle.lz_machine.specs.declared.event.Event.{Event, TheVariants.{Invoke, Pin, Hop, Reserve, WriteKey, Claim, Check, WriteOpen, Link, WriteClose, Mark}}
+use Rattle.lz_machine.specs.declared.event.{Event.TheVariants.{Release, Sync, Settle, Unlink, Retire, SeePin, Answer, Halt}, Outcome.{Outcome}}
 use Rattle.lz_machine.specs.declared.event.Outcome.TheVariants.{Done, Value, Slot, NoSlot, Taken, Busy, True, False, Early, Worn, OldFile, NotNow, Fault, Dead}
-use Rattle.lz_machine.specs.declared.actor.Hold.{Hold}
-use Rattle.lz_machine.specs.declared.actor.Hold.TheVariants.{Nothing, Locks, Checked, GateOpened, Linked, GateClosed, Marked, Unlinked, Released}
-use Rattle.lz_machine.specs.declared.actor.Actor.{Actor}
-use Rattle.lz_machine.specs.declared.course.Course.{Course}
-use Rattle.lz_machine.specs.declared.course.Course.TheVariants.{Refused, Dies, Plays}
-use Rattle.lz_machine.specs.Yards.{Yard, actor_at, cell_at}
+use Rattle.lz_machine.specs.declared.actor.Hold.{Hold, TheVariants.{Nothing, Locks, Checked, GateOpened, Linked, GateClosed, Marked, Unlinked, Released}}
+use Rattle.lz_machine.specs.{declared.{actor.Actor.{Actor}, course.Course.{Course, TheVariants.{Refused, Dies, Plays}}}, Yards.{Yard, actor_at, cell_at}}
 
 abbrev pub last_pin : ℕ
 last_pin = 2 ^ 62

@@ -2,16 +2,10 @@
 use Rattle.std.specs.Prelude.{◌≡◌, ℕ, true, false, List, Option, Some}
 use Rattle.lz_slot.specs.Sets.{key_of}
 use Rattle.lz_disk.specs.Images.{Medium}
-use Rattle.lz_list.specs.declared.walk.Look.{Look}
-use Rattle.lz_list.specs.declared.walk.Met.{Met}
-use Rattle.lz_list.specs.declared.walk.Met.TheVariants.{Absent, Unmarked, Marked}
-use Rattle.lz_list.specs.Words.{get}
-use Rattle.lz_list.specs.Walks.{Hopped, More, End, wants, hopped}
-use Rattle.lz_list.specs.Traces.{Trace, flags_after, IsNode, SettledYes, SettledNo}
-use Rattle.lz_list.specs.Pinned.{Once}
+use Rattle.lz_list.specs.{declared.walk.{Look.{Look}, Met.{Met, TheVariants.{Absent, Unmarked, Marked}}}, Words.{get}, Walks.{Hopped, More, End, wants, hopped}}
+use Rattle.lz_list.specs.{Traces.{Trace, flags_after, IsNode, SettledYes, SettledNo}, Pinned.{Once}}
 use Rattle.lz_machine.specs.declared.caller.Progress.TheVariants.{Walking}
-use Rattle.lz_machine.specs.Runs.{Start, IsStart, Service, Caller, Up, Transition, IsRun, run, first_point, caller_at}
-use Rattle.lz_machine.specs.CallsStand.{trace_outside}
+use Rattle.lz_machine.specs.{Runs.{Start, IsStart, Service, Caller, Up, Transition, IsRun, run, first_point, caller_at}, CallsStand.{trace_outside}}
 
 -- since the trace P0 there was one at which k was no member, and its last change covered
 abbrev pub WasSurelyAbsent : ℕ → Trace → Trace → Type 0

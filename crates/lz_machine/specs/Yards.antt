@@ -1,22 +1,11 @@
 -- What the yard keeps: the state that events change.
-use Rattle.std.specs.Prelude.{◌≡◌, ◌%◌, ℕ, zero, suc, false, List, [], ◌∷◌, ◌++◌, map, replicate, slice_index_or, None}
-use Rattle.lz_slot.specs.declared.slot.SlotRead.{SlotRead}
-use Rattle.lz_slot.specs.declared.slot.SlotRead.TheVariants.{Member}
 use Rattle.lz_slot.specs.declared.slot.SlotRead.TheVariants as read
-use Rattle.lz_slot.specs.Bytes.{format_of, slot_at, held}
-use Rattle.lz_slot.specs.Counted.{of_pass}
-use Rattle.lz_vault.specs.declared.vault.Stage.{Stage}
-use Rattle.lz_vault.specs.declared.vault.Stage.TheVariants.{Torn, Open}
-use Rattle.lz_vault.specs.Stages.{Cell}
-use Rattle.lz_vault.specs.Vaults.{Vaulted}
-use Rattle.lz_vault.specs.Members.{no_cell}
+use Rattle.std.specs.Prelude.{◌≡◌, ◌%◌, ℕ, zero, suc, false, List, [], ◌∷◌, ◌++◌, map, replicate, slice_index_or, None}
+use Rattle.lz_slot.specs.{declared.slot.SlotRead.{SlotRead, TheVariants.{Member}}, Bytes.{format_of, slot_at, held}, Counted.{of_pass}}
+use Rattle.lz_vault.specs.{declared.vault.Stage.{Stage, TheVariants.{Torn, Open}}, Stages.{Cell}, Vaults.{Vaulted}, Members.{no_cell}}
 use Rattle.lz_allot.specs.Uses.{Use, Free, Taken}
-use Rattle.lz_list.specs.declared.place.Place.TheVariants.{Bucket}
-use Rattle.lz_list.specs.Words.{Words}
-use Rattle.lz_list.specs.Locks.{NodeLocks}
-use Rattle.lz_list.specs.Traces.{words_of_trace, opening, Trace}
-use Rattle.lz_machine.specs.declared.actor.Actor.{Actor}
-use Rattle.lz_machine.specs.declared.actor.Hold.TheVariants.{Nothing}
+use Rattle.lz_list.specs.{declared.place.Place.TheVariants.{Bucket}, Words.{Words}, Locks.{NodeLocks}, Traces.{words_of_trace, opening, Trace}}
+use Rattle.lz_machine.specs.declared.actor.{Actor.{Actor}, Hold.TheVariants.{Nothing}}
 
 pub record Shape : Type 0 where
   pub slots : ℕ

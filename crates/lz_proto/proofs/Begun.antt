@@ -1,20 +1,10 @@
 -- A session on its way: what it took is answered as far as its lines ended.
-use Rattle.std.proofs.Common.{◌≡◌, ◌≢◌, ℕ, List, [], ◌++◌, Option, Result, Ok, Err, sym, ap, subst, ◌∙◌}
-use Rattle.std.proofs.lemmas.List.{append-nil}
-use Rattle.std.specs.Io.KnownBytes.{Consumes, IsAtEnd}
-use Rattle.std.proofs.KnownBytes.{Appends-trans, Consumes-trans}
-use Rattle.lz_proto.specs.declared.request.Request.{Request}
-use Rattle.lz_proto.specs.declared.fault.Bad.{Bad}
-use Rattle.lz_proto.specs.declared.fault.SessionFault.{SessionFault}
-use Rattle.lz_proto.specs.declared.fault.SessionFault.TheVariants.{Read, Write, Memory}
-use Rattle.lz_proto.specs.declared.item.Item.{Item}
-use Rattle.lz_proto.specs.declared.reply.Reply.{Reply}
-use Rattle.lz_proto.specs.declared.end.End.{End}
 use Rattle.lz_proto.specs.declared.end.End.TheVariants as ends
-use Rattle.lz_proto.specs.Pieces.{Reads, Ends, faults_of}
-use Rattle.lz_proto.specs.Sessions.{Answered, Whole, SessionTells, Writes}
-use Rattle.lz_proto.specs.Steps.{AnswersTell, PieceTells}
-use Rattle.lz_proto.proofs.Texts.{reads_more}
+use Rattle.std.proofs.{Common.{◌≡◌, ◌≢◌, ℕ, List, [], ◌++◌, Option, Result, Ok, Err, sym, ap, subst, ◌∙◌}, lemmas.List.{append-nil}}
+use Rattle.std.{proofs.KnownBytes.{Appends-trans, Consumes-trans}, specs.Io.KnownBytes.{Consumes, IsAtEnd}}
+use Rattle.lz_proto.specs.declared.{request.Request.{Request}, fault.{Bad.{Bad}, SessionFault.{SessionFault, TheVariants.{Read, Write, Memory}}}}
+use Rattle.lz_proto.specs.{declared.{item.Item.{Item}, reply.Reply.{Reply}, end.End.{End}}, Pieces.{Reads, Ends, faults_of}}
+use Rattle.lz_proto.{specs.{Sessions.{Answered, Whole, SessionTells, Writes}, Steps.{AnswersTell, PieceTells}}, proofs.Texts.{reads_more}}
 use Rattle.lz_proto.proofs.Serving.{answered_more, whole_within, whole_end, broken_end, broken_within}
 
 pub record Begun {S : Type 0} (answers : S → Request → Reply → S → Type 0) (input after : Option (List ℕ)) (kept : Option (List ℕ)) (old new : S) (written : List ℕ) : Type 0 where

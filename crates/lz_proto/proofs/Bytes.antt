@@ -1,9 +1,6 @@
 -- The bytes that a reader gave and a writer got.
-use Rattle.std.proofs.Common.{◌≡◌, ℕ, ◌+◌, ◌-◌, ◌≤◌, List, ◌++◌, length, take, drop, Option, Some, None, sym, ap, subst, ◌∙◌, arith}
-use Rattle.std.proofs.Math.Seq.{take-add}
-use Rattle.std.proofs.lemmas.List.{drop-drop, take_rest, length-drop}
-use Rattle.std.specs.Io.KnownBytes.{Appends, Keeps}
-use Rattle.std.proofs.KnownBytes.{Appends-trans}
+use Rattle.std.proofs.{Common.{◌≡◌, ℕ, ◌+◌, ◌-◌, ◌≤◌, List, ◌++◌, length, take, drop, Option, Some, None, sym, ap, subst, ◌∙◌, arith}, Math.Seq.{take-add}}
+use Rattle.std.{proofs.{lemmas.List.{drop-drop, take_rest, length-drop}, KnownBytes.{Appends-trans}}, specs.Io.KnownBytes.{Appends, Keeps}}
 
 -- a part of the text was sent, and the rest is left
 abbrev pub Sending : Option (List ℕ) → Option (List ℕ) → List ℕ → List ℕ → Type 0

@@ -1,18 +1,9 @@
 -- The items of an input that a session was asked, whatever its end.
 use Rattle.std.proofs.Common.{◌≡◌, ℕ, ◌⊎◌, inl, inr, List, [], ◌∷◌, ◌++◌, Option, Some, None, Result, Ok, Err, refl, sym, ap, subst, ◌∙◌, append_assoc}
-use Rattle.std.proofs.lemmas.List.{append-nil}
-use Rattle.std.specs.Io.KnownBytes.{Consumes, IsAtEnd}
-use Rattle.lz_proto.specs.declared.request.Request.{Request}
-use Rattle.lz_proto.specs.declared.item.Item.{Item}
-use Rattle.lz_proto.specs.declared.reply.Reply.{Reply}
-use Rattle.lz_proto.specs.declared.fault.SessionFault.{SessionFault}
-use Rattle.lz_proto.specs.declared.fault.SessionFault.TheVariants.{Read, Write, Memory}
-use Rattle.lz_proto.specs.declared.end.End.{End}
-use Rattle.lz_proto.specs.Lines.{Items}
-use Rattle.lz_proto.specs.Pieces.{Reads}
-use Rattle.lz_proto.specs.Sessions.{CutOff, IsInput, Serves, SessionTells}
-use Rattle.lz_proto.proofs.Serving.{input_is, known_rest, no_rest, goes_more}
-use Rattle.lz_proto.proofs.Texts.{some_items}
+use Rattle.std.{proofs.lemmas.List.{append-nil}, specs.Io.KnownBytes.{Consumes, IsAtEnd}}
+use Rattle.lz_proto.specs.declared.{request.Request.{Request}, item.Item.{Item}, reply.Reply.{Reply}, fault.SessionFault.{SessionFault}}
+use Rattle.lz_proto.specs.{declared.{fault.SessionFault.TheVariants.{Read, Write, Memory}, end.End.{End}}, Lines.{Items}, Pieces.{Reads}}
+use Rattle.lz_proto.{specs.Sessions.{CutOff, IsInput, Serves, SessionTells}, proofs.{Serving.{input_is, known_rest, no_rest, goes_more}, Texts.{some_items}}}
 
 -- the first items of an input were asked, and the service went from one state to another by it
 pub record FirstAsked {S : Type 0} (answers : S → Request → Reply → S → Type 0) (input : Option (List ℕ)) (old new : S) : Type 0 where

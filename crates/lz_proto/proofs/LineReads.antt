@@ -1,24 +1,13 @@
 -- What the tests of a line find is what the line is.
-use Rattle.std.proofs.Common.{◌≡◌, ℕ, ◌++◌, ◌-◌, ◌≤◌, List, length, take, drop, codes, Result, Ok, Err, true, false, nat_eq, nat_lt, arith, refl, sym, ap, ◌∙◌}
-use Rattle.std.specs.List.{starts_with}
-use Rattle.std.specs.Cmp.Lexicographic.{pointwise}
-use Rattle.std.proofs.lemmas.List.{take_rest}
-use Rattle.std.proofs.lemmas.Bool.{cond_both}
-use Rattle.std.proofs.lemmas.Slice.Eq.{starts_is}
-use Rattle.std.specs.Cmp.Lexicographic.{same_text}
-use Rattle.lz_proto.specs.declared.request.Request.{Request}
-use Rattle.lz_proto.specs.declared.request.Request.TheVariants.{Add, Remove, Has, Quit}
-use Rattle.lz_proto.specs.declared.fault.Bad.{Bad}
-use Rattle.std.proofs.lemmas.Bool.Decides.{nat_tests, Decides-eqb}
-use Rattle.lz_slot.specs.Limits.{largest_key}
 use Rattle.lz_slot.specs.Texts as texts
-use Rattle.lz_slot.specs.Texts.{key_fault, Spells}
-use Rattle.lz_slot.specs.declared.spelling.KeyFault.{KeyFault}
-use Rattle.lz_slot.proofs.Texts.Spellings.{keys_are_refused, read_spelled, spelled_read, spelled_short}
-use Rattle.lz_proto.specs.Lines.{bad_of, IsRequestText, fault_of_body, without_return, IsItem, item_of}
-use Rattle.lz_proto.specs.declared.item.Item.{Item}
-use Rattle.lz_proto.specs.declared.item.Item.TheVariants.{Asks, Faulty}
+use Rattle.std.proofs.Common.{◌≡◌, ℕ, ◌++◌, ◌-◌, ◌≤◌, List, length, take, drop, codes, Result, Ok, Err, true, false, nat_eq, nat_lt, arith, refl, sym, ap, ◌∙◌}
+use Rattle.std.{proofs.lemmas.{List.{take_rest}, Bool.{cond_both, Decides.{nat_tests, Decides-eqb}}, Slice.Eq.{starts_is}}, specs.List.{starts_with}}
+use Rattle.std.specs.Cmp.Lexicographic.{pointwise, same_text}
+use Rattle.lz_proto.specs.declared.{request.Request.{Request, TheVariants.{Add, Remove, Has, Quit}}, fault.Bad.{Bad}, item.Item.{Item}}
+use Rattle.lz_proto.specs.{declared.item.Item.TheVariants.{Asks, Faulty}, Lines.{bad_of, IsRequestText, fault_of_body, without_return, IsItem, item_of}}
 use Rattle.lz_proto.specs.Reading.{key_read, key_told, request_read, with_key}
+use Rattle.lz_slot.specs.{Limits.{largest_key}, Texts.{key_fault, Spells}, declared.spelling.KeyFault.{KeyFault}}
+use Rattle.lz_slot.proofs.Texts.Spellings.{keys_are_refused, read_spelled, spelled_read, spelled_short}
 
 pub add_read : (line : List ℕ) (r : Result ℕ Bad) → nat_lt 64 (length line) ≡ false → pointwise nat_eq line (codes "quit") ≡ false
     → starts_with nat_eq line (codes "add ") ≡ true → r ≡ key_read (take (length line - 4) (drop 4 line)) → with_key (λ k. Add k) r ≡ request_read line

@@ -1,12 +1,8 @@
 -- Worked lines.
-use Rattle.std.proofs.Common.{◌≡◌, inl, inr, [], ◌∷◌, ◌++◌, ◌+◌, refl, codes, replicate, arith}
-use Rattle.std.specs.Fmt.{digits}
-use Rattle.lz_proto.specs.declared.request.Request.TheVariants.{Add, Has}
-use Rattle.lz_proto.specs.declared.fault.Bad.TheVariants.{TooLong, NoCommand, NoNumber, KeyTooLarge, NoEnd, BadRoom}
-use Rattle.lz_proto.specs.declared.fault.Bad.{Bad}
-use Rattle.lz_proto.specs.declared.item.Item.TheVariants.{Asks, Faulty}
-use Rattle.lz_proto.specs.declared.reply.Reply.TheVariants.{Yes, No, Halted, OldFile}
-use Rattle.lz_proto.specs.Lines.{bad_number, fault_of, IsRequest}
+use Rattle.std.{proofs.Common.{◌≡◌, inl, inr, [], ◌∷◌, ◌++◌, ◌+◌, refl, codes, replicate, arith}, specs.Fmt.{digits}}
+use Rattle.lz_proto.specs.declared.{request.Request.TheVariants.{Add, Has}, fault.Bad.{Bad}}
+use Rattle.lz_proto.specs.declared.{fault.Bad.TheVariants.{TooLong, NoCommand, NoNumber, KeyTooLarge, NoEnd, BadRoom}, item.Item.TheVariants.{Asks, Faulty}}
+use Rattle.lz_proto.specs.{declared.reply.Reply.TheVariants.{Yes, No, Halted, OldFile}, Lines.{bad_number, fault_of, IsRequest}}
 use Rattle.lz_proto.specs.Sessions.{bad_text, session_text}
 
 add_largest : IsRequest (codes "add 999999999999999999\r") (Add 999999999999999999)

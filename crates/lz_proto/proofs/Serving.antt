@@ -1,24 +1,13 @@
 -- What a session has answered.
-use Rattle.std.proofs.Common.{◌≡◌, ◌≢◌, ℕ, inl, inr, ◌+◌, ◌<◌, List, [], ◌∷◌, ◌++◌, take, drop, get_or, length, Option, Some, None, Ok, Err, refl, sym, ap, subst, ◌∙◌, append_assoc}
-use Rattle.std.proofs.lemmas.List.{append-nil, take_more, take-append-drop}
-use Rattle.std.specs.Io.KnownBytes.{Consumes, IsAtEnd}
-use Rattle.std.proofs.KnownBytes.{Appends-trans}
-use Rattle.lz_proto.specs.declared.request.Request.{Request}
-use Rattle.lz_proto.specs.declared.request.Request.TheVariants.{Quit}
-use Rattle.lz_proto.specs.declared.fault.Bad.{Bad}
-use Rattle.lz_proto.specs.declared.fault.SessionFault.{SessionFault}
-use Rattle.lz_proto.specs.declared.fault.SessionFault.TheVariants.{Read, Write, Memory}
-use Rattle.lz_proto.specs.declared.item.Item.{Item}
-use Rattle.lz_proto.specs.declared.item.Item.TheVariants.{Asks, Faulty}
-use Rattle.lz_proto.specs.declared.reply.Reply.{Reply}
-use Rattle.lz_proto.specs.declared.reply.Reply.TheVariants.{Halted}
-use Rattle.lz_proto.specs.declared.end.End.{End}
 use Rattle.lz_proto.specs.declared.end.End.TheVariants as ends
-use Rattle.lz_proto.specs.Lines.{Items}
-use Rattle.lz_proto.specs.Pieces.{Reads, Feeds, Ends, faults_of}
+use Rattle.std.proofs.Common.{◌≡◌, ◌≢◌, ℕ, inl, inr, ◌+◌, ◌<◌, List, [], ◌∷◌, ◌++◌, take, drop, get_or, length, Option, Some, None, Ok, Err, refl, sym, ap}
+use Rattle.std.proofs.{Common.{subst, ◌∙◌, append_assoc}, lemmas.List.{append-nil, take_more, take-append-drop}, KnownBytes.{Appends-trans}}
+use Rattle.std.specs.Io.KnownBytes.{Consumes, IsAtEnd}
+use Rattle.lz_proto.specs.declared.{request.Request.{Request, TheVariants.{Quit}}, fault.{Bad.{Bad}, SessionFault.{SessionFault}}}
+use Rattle.lz_proto.specs.declared.{fault.SessionFault.TheVariants.{Read, Write, Memory}, item.Item.{Item, TheVariants.{Asks, Faulty}}, reply.Reply.{Reply}}
+use Rattle.lz_proto.specs.{declared.{reply.Reply.TheVariants.{Halted}, end.End.{End}}, Lines.{Items}, Pieces.{Reads, Feeds, Ends, faults_of}}
 use Rattle.lz_proto.specs.Sessions.{Serves, session_text, end_of, reply_text, bad_text, Answered, CutOff, Whole, Broken, IsInput, Writes}
-use Rattle.lz_proto.specs.Steps.{SendTells, AnswersTell, PieceTells, end_after}
-use Rattle.lz_proto.proofs.Texts.{items_end, reads_more, some_items}
+use Rattle.lz_proto.{specs.Steps.{SendTells, AnswersTell, PieceTells, end_after}, proofs.Texts.{items_end, reads_more, some_items}}
 
 -- what goes on after items that didn't end the session
 pub goes_more : {S : Type 0} (answers : S → Request → Reply → S → Type 0) (old mid new : S) (a b : List Item) (ra rb : List Reply)

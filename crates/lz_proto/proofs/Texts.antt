@@ -1,21 +1,14 @@
 -- The items of texts.
-use Rattle.std.proofs.Common.{◌≡◌, ◌≢◌, ℕ, ◌+◌, ◌-◌, ◌<◌, ◌≤◌, ◌⊎◌, inl, inr, List, [], ◌∷◌, ◌++◌, length, take, drop, get_or, min, Bool, true, false, nat_eq, nat_lt, Option, Some, None, Result, Ok, Err, IfOk, OnOk, is_ok, if◌then◌else◌, refl, sym, ap, subst, ◌∙◌, arith, rules, append_assoc, length-append}
-use Rattle.std.specs.List.{concat}
-use Rattle.std.proofs.Math.Seq.{take-append-add, take-append_seam}
+use Rattle.std.proofs.Common.{◌≡◌, ◌≢◌, ℕ, ◌+◌, ◌-◌, ◌<◌, ◌≤◌, ◌⊎◌, inl, inr, List, [], ◌∷◌, ◌++◌, length, take, drop, get_or, min, Bool, true, false, nat_eq}
+use Rattle.std.proofs.Common.{nat_lt, Option, Some, None, Result, Ok, Err, IfOk, OnOk, is_ok, if◌then◌else◌, refl, sym, ap, subst, ◌∙◌, arith, rules}
+use Rattle.std.proofs.{Common.{append_assoc, length-append}, Math.Seq.{take-append-add, take-append_seam}}
 use Rattle.std.proofs.lemmas.List.{take-append-drop, drop_more, get_or-take, get_or_default, take_rest, take_all, append-nil, length-take, nil_from_length}
-use Rattle.std.proofs.lemmas.List.Folds.{list_any-append, list_any_none}
-use Rattle.std.proofs.lemmas.Bool.{eq-eqb, eqb-true, cond_both}
-use Rattle.std.proofs.lemmas.Bool.Decides.{nat_tests}
+use Rattle.std.{proofs.lemmas.{List.Folds.{list_any-append, list_any_none}, Bool.{eq-eqb, eqb-true, cond_both, Decides.{nat_tests}}}, specs.List.{concat}}
 use Rattle.memchr.specs.Find.{IsFirstByte, Nowhere, Passes, is_byte}
-use Rattle.lz_proto.specs.declared.request.Request.TheVariants.{Add, Remove, Has, Quit}
-use Rattle.lz_proto.specs.declared.fault.Bad.{Bad}
-use Rattle.lz_proto.specs.declared.fault.Bad.TheVariants.{TooLong, NoEnd}
-use Rattle.lz_proto.specs.declared.item.Item.{Item}
+use Rattle.lz_proto.specs.declared.{request.Request.TheVariants.{Add, Remove, Has, Quit}, fault.Bad.{Bad, TheVariants.{TooLong, NoEnd}}, item.Item.{Item}}
 use Rattle.lz_proto.specs.declared.item.Item.TheVariants.{Asks, Faulty}
-use Rattle.lz_proto.specs.Lines.{IsItem, Items, nothing, no_end, line, quits, has_line_feed, line_feed, without_return, item_of}
-use Rattle.lz_proto.specs.Limits.{most_kept}
-use Rattle.lz_proto.specs.Pieces.{Adds, AnyPieces, Ends, FeedsAll, OneListOfItems, Reads, Feeds, faults_of}
-use Rattle.lz_proto.specs.Reading.{request_read}
+use Rattle.lz_proto.specs.{Lines.{IsItem, Items, nothing, no_end, line, quits, has_line_feed, line_feed, without_return, item_of}, Limits.{most_kept}}
+use Rattle.lz_proto.specs.{Pieces.{Adds, AnyPieces, Ends, FeedsAll, OneListOfItems, Reads, Feeds, faults_of}, Reading.{request_read}}
 use Rattle.lz_proto.proofs.LineReads.{item_read, item_only}
 
 -- a text whose first line ends

@@ -1,16 +1,10 @@
 -- What lines ask for. A text is a list of bytes.
-use Rattle.std.specs.Prelude.{◌≡◌, ◌≢◌, ℕ, ◌≤◌, Bool, false, ◌&&◌, ◌==◌, ◌-◌, take, nat_lt, nat_eq, if◌then◌else◌, Result, Ok, Err, slice_index, List, [], ◌∷◌, ◌++◌, length, drop, codes}
-use Rattle.std.specs.List.{list_any, starts_with}
-use Rattle.lz_slot.specs.Limits.{largest_key}
-use Rattle.lz_slot.specs.Texts.{key_fault, Spells}
-use Rattle.lz_proto.specs.Limits.{most_line}
-use Rattle.lz_slot.specs.declared.spelling.KeyFault.{KeyFault}
 use Rattle.lz_slot.specs.declared.spelling.KeyFault.TheVariants as key
-use Rattle.lz_proto.specs.declared.request.Request.{Request}
-use Rattle.lz_proto.specs.declared.request.Request.TheVariants.{Add, Remove, Has, Quit}
-use Rattle.lz_proto.specs.declared.fault.Bad.{Bad}
-use Rattle.lz_proto.specs.declared.fault.Bad.TheVariants.{TooLong, NoCommand, NoNumber, KeyTooLarge, NoEnd, BadRoom}
-use Rattle.lz_proto.specs.declared.item.Item.{Item}
+use Rattle.std.specs.Prelude.{◌≡◌, ◌≢◌, ℕ, ◌≤◌, Bool, false, ◌&&◌, ◌==◌, ◌-◌, take, nat_lt, nat_eq, if◌then◌else◌, Result, Ok, Err, slice_index, List, [], ◌∷◌}
+use Rattle.std.specs.{Prelude.{◌++◌, length, drop, codes}, List.{list_any, starts_with}}
+use Rattle.lz_slot.specs.{Limits.{largest_key}, Texts.{key_fault, Spells}, declared.spelling.KeyFault.{KeyFault}}
+use Rattle.lz_proto.specs.{Limits.{most_line}, declared.{request.Request.{Request, TheVariants.{Add, Remove, Has, Quit}}, fault.Bad.{Bad}}}
+use Rattle.lz_proto.specs.declared.{fault.Bad.TheVariants.{TooLong, NoCommand, NoNumber, KeyTooLarge, NoEnd, BadRoom}, item.Item.{Item}}
 use Rattle.lz_proto.specs.declared.item.Item.TheVariants.{Asks, Faulty}
 
 abbrev pub line_feed : ℕ

@@ -1,11 +1,6 @@
 -- What a text comes to when it comes in pieces.
-use Rattle.std.specs.Prelude.{◌≡◌, ◌↔◌, ℕ, ◌≤◌, Bool, true, false, List, [], ◌∷◌, ◌++◌, length, Option, None, Some, IfSome}
-use Rattle.std.specs.List.{concat}
-use Rattle.lz_proto.specs.declared.request.Request.TheVariants.{Quit}
-use Rattle.lz_proto.specs.declared.fault.Bad.{Bad}
-use Rattle.lz_proto.specs.declared.item.Item.{Item}
-use Rattle.lz_proto.specs.declared.item.Item.TheVariants.{Asks, Faulty}
-use Rattle.lz_proto.specs.Limits.{most_kept}
+use Rattle.std.specs.{Prelude.{◌≡◌, ◌↔◌, ℕ, ◌≤◌, Bool, true, false, List, [], ◌∷◌, ◌++◌, length, Option, None, Some, IfSome}, List.{concat}}
+use Rattle.lz_proto.specs.{declared.{request.Request.TheVariants.{Quit}, fault.Bad.{Bad}, item.Item.{Item, TheVariants.{Asks, Faulty}}}, Limits.{most_kept}}
 use Rattle.lz_proto.specs.Lines.{IsItem, Items, has_line_feed}
 
 -- The items are the text's first ones: up to `quit` where nothing is left, else all but those of what is left.

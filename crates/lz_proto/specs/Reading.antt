@@ -1,15 +1,9 @@
 -- The tests of a line in the order in which it is read. What they find is what the line is (module Lines).
-use Rattle.std.specs.Prelude.{ℕ, nat_lt, nat_eq, if◌then◌else◌, List, length, drop, codes, Result, Ok, Err}
-use Rattle.std.specs.List.{starts_with}
-use Rattle.std.specs.Cmp.Lexicographic.{pointwise}
 use Rattle.lz_slot.specs.Texts as texts
+use Rattle.std.specs.{Prelude.{ℕ, nat_lt, nat_eq, if◌then◌else◌, List, length, drop, codes, Result, Ok, Err}, List.{starts_with}, Cmp.Lexicographic.{pointwise}}
 use Rattle.lz_slot.specs.declared.spelling.KeyFault.{KeyFault}
-use Rattle.lz_proto.specs.declared.request.Request.{Request}
-use Rattle.lz_proto.specs.declared.request.Request.TheVariants.{Add, Remove, Has, Quit}
-use Rattle.lz_proto.specs.declared.fault.Bad.{Bad}
-use Rattle.lz_proto.specs.declared.fault.Bad.TheVariants.{TooLong, NoCommand}
-use Rattle.lz_proto.specs.Limits.{most_line}
-use Rattle.lz_proto.specs.Lines.{bad_of}
+use Rattle.lz_proto.specs.declared.{request.Request.{Request, TheVariants.{Add, Remove, Has, Quit}}, fault.Bad.{Bad, TheVariants.{TooLong, NoCommand}}}
+use Rattle.lz_proto.specs.{Limits.{most_line}, Lines.{bad_of}}
 
 abbrev pub key_told : Result ℕ KeyFault → Result ℕ Bad
 key_told (Ok k) = Ok k

@@ -1,20 +1,11 @@
 -- What a session writes.
+use Rattle.lz_proto.specs.declared.end.End.TheVariants as ends
 use Rattle.std.specs.Prelude.{◌≡◌, ℕ, List, [], ◌∷◌, ◌++◌, ◌⊎◌, ◌<◌, length, take, codes, Option, None, Some, Result, Ok, Err}
 use Rattle.std.specs.Io.KnownBytes.{Appends, Consumes, IsAtEnd}
-use Rattle.lz_proto.specs.declared.request.Request.{Request}
-use Rattle.lz_proto.specs.declared.request.Request.TheVariants.{Quit}
-use Rattle.lz_proto.specs.declared.fault.Bad.{Bad}
-use Rattle.lz_proto.specs.declared.fault.Bad.TheVariants.{TooLong, NoCommand, NoNumber, KeyTooLarge, NoEnd, BadRoom}
-use Rattle.lz_proto.specs.declared.item.Item.{Item}
-use Rattle.lz_proto.specs.declared.item.Item.TheVariants.{Asks, Faulty}
-use Rattle.lz_proto.specs.declared.reply.Reply.{Reply}
-use Rattle.lz_proto.specs.declared.reply.Reply.TheVariants.{Yes, No, Full, Halted, Worn, OldFile}
-use Rattle.lz_proto.specs.declared.fault.SessionFault.{SessionFault}
-use Rattle.lz_proto.specs.declared.fault.SessionFault.TheVariants.{Read, Write, Memory}
-use Rattle.lz_proto.specs.declared.end.End.{End}
-use Rattle.lz_proto.specs.declared.end.End.TheVariants as ends
-use Rattle.lz_proto.specs.Lines.{Items}
-use Rattle.lz_proto.specs.Pieces.{Reads}
+use Rattle.lz_proto.specs.declared.{request.Request.{Request, TheVariants.{Quit}}, fault.Bad.{Bad}}
+use Rattle.lz_proto.specs.declared.fault.{Bad.TheVariants.{TooLong, NoCommand, NoNumber, KeyTooLarge, NoEnd, BadRoom}, SessionFault.{SessionFault}}
+use Rattle.lz_proto.specs.declared.{fault.SessionFault.TheVariants.{Read, Write, Memory}, item.Item.{Item, TheVariants.{Asks, Faulty}}, reply.Reply.{Reply}}
+use Rattle.lz_proto.specs.{declared.{reply.Reply.TheVariants.{Yes, No, Full, Halted, Worn, OldFile}, end.End.{End}}, Lines.{Items}, Pieces.{Reads}}
 
 abbrev pub reply_text : Reply → List ℕ
 reply_text Yes = codes "yes\n"

@@ -1,16 +1,8 @@
 -- What the steps of a session do.
-use Rattle.std.specs.Prelude.{◌≡◌, ℕ, ◌<◌, List, [], length, take, Option, Result, Ok, Err}
-use Rattle.std.specs.Io.KnownBytes.{Appends}
-use Rattle.lz_proto.specs.declared.request.Request.{Request}
-use Rattle.lz_proto.specs.declared.item.Item.{Item}
-use Rattle.lz_proto.specs.declared.reply.Reply.{Reply}
-use Rattle.lz_proto.specs.declared.reply.Reply.TheVariants.{Halted}
-use Rattle.lz_proto.specs.declared.fault.SessionFault.{SessionFault}
-use Rattle.lz_proto.specs.declared.fault.SessionFault.TheVariants.{Read, Write, Memory}
-use Rattle.lz_proto.specs.declared.end.End.{End}
 use Rattle.lz_proto.specs.declared.end.End.TheVariants as ends
-use Rattle.lz_proto.specs.Pieces.{Feeds}
-use Rattle.lz_proto.specs.Sessions.{Answered, CutOff}
+use Rattle.std.specs.{Prelude.{◌≡◌, ℕ, ◌<◌, List, [], length, take, Option, Result, Ok, Err}, Io.KnownBytes.{Appends}}
+use Rattle.lz_proto.specs.declared.{request.Request.{Request}, item.Item.{Item}, reply.Reply.{Reply, TheVariants.{Halted}}, fault.SessionFault.{SessionFault}}
+use Rattle.lz_proto.specs.{declared.{fault.SessionFault.TheVariants.{Read, Write, Memory}, end.End.{End}}, Pieces.{Feeds}, Sessions.{Answered, CutOff}}
 
 -- how a session goes on after a reply
 abbrev pub end_after : Reply → End

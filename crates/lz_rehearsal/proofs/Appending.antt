@@ -1,12 +1,7 @@
 -- Lines that are written a part at a time.
 use Rattle.std.proofs.Common.{◌≡◌, ℕ, ◌+◌, ◌<◌, List, [], ◌∷◌, ◌++◌, length, take, get_or, codes, Option, refl, sym, ap, subst, ◌∙◌, append_assoc}
-use Rattle.std.proofs.lemmas.List.{take_more}
-use Rattle.std.specs.Io.KnownBytes.{Appends}
-use Rattle.std.proofs.KnownBytes.{Appends-trans}
-use Rattle.lz_slot.specs.declared.history.Mark.{Mark}
-use Rattle.lz_slot.specs.Texts.{key_text}
-use Rattle.lz_slot.specs.MarkTexts.{keys_text, marks_text}
-use Rattle.lz_slot.proofs.Texts.MarkTexts.{marks_join}
+use Rattle.std.{proofs.{lemmas.List.{take_more}, KnownBytes.{Appends-trans}}, specs.Io.KnownBytes.{Appends}}
+use Rattle.lz_slot.{specs.{declared.history.Mark.{Mark}, Texts.{key_text}, MarkTexts.{keys_text, marks_text}}, proofs.Texts.MarkTexts.{marks_join}}
 use Rattle.lz_rehearsal.specs.Tellings.{mark_line}
 
 keys_join : (ks js : List ℕ) → keys_text (ks ++ js) ≡ keys_text ks ++ keys_text js

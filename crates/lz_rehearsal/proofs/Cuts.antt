@@ -1,9 +1,7 @@
 -- Texts that are cut at a space.
-use Rattle.std.proofs.Common.{◌≡◌, ℕ, ◌+◌, ◌-◌, List, length, take, drop, Some, sym, ap, ◌∙◌}
-use Rattle.std.proofs.lemmas.List.{drop_more, take_rest}
+use Rattle.std.proofs.{Common.{◌≡◌, ℕ, ◌+◌, ◌-◌, List, length, take, drop, Some, sym, ap, ◌∙◌}, lemmas.List.{drop_more, take_rest}}
 use Rattle.memchr.specs.Find.{IsFirstByte, is_byte}
-use Rattle.lz_slot.specs.Texts.{parted}
-use Rattle.lz_slot.proofs.Texts.Cuts.{parted_at}
+use Rattle.lz_slot.{specs.Texts.{parted}, proofs.Texts.Cuts.{parted_at}}
 
 pub word_parted : (text word ended : List ℕ) (e : ℕ) → IsFirstByte (is_byte 32) text (Some e) → word ≡ take e text → ended ≡ drop e text
     → Some (word, take (length ended - 1) (drop 1 ended)) ≡ parted 32 text

@@ -1,19 +1,14 @@
 -- The marks of a run are lawful as a history is: they tell where a life goes on and which calls are open, as the state does.
+use Rattle.lz_machine.specs.Marks as told
 use Rattle.std.proofs.Common.{◌≡◌, ◌≢◌, ⊎_elim, inl, inr, ℕ, suc, true, false, ◌==◌, if◌then◌else◌, List, [], ◌∷◌, ◌++◌, Option, Some, None, refl}
-use Rattle.std.proofs.lemmas.Bool.Decides.{eqb_tells}
-use Rattle.std.proofs.lemmas.Option.{same_Some, none-some}
-use Rattle.lz_slot.specs.Histories.{History}
-use Rattle.lz_slot.specs.declared.command.Command.{Command}
-use Rattle.lz_slot.specs.declared.history.Mark.TheVariants.{Call, Answer, Refused, Cut}
+use Rattle.std.proofs.lemmas.{Bool.Decides.{eqb_tells}, Option.{same_Some, none-some}}
+use Rattle.lz_slot.specs.{Histories.{History}, declared.{command.Command.{Command}, history.Mark.TheVariants.{Call, Answer, Refused, Cut}}}
 use Rattle.lz_disk.specs.Images.{Medium}
 use Rattle.lz_judge.specs.Records.{IsLawful, IsOpen, MayFollow, actor_of, is_living}
-use Rattle.lz_machine.specs.declared.event.Reply.{Reply}
-use Rattle.lz_machine.specs.declared.event.Reply.TheVariants.{Yes}
-use Rattle.lz_machine.specs.Marks.{IsOpenCall, IsTold}
-use Rattle.lz_machine.specs.Marks as told
-use Rattle.lz_machine.specs.Yards.{Shape}
-use Rattle.lz_machine.specs.Runs.{Caller, Service, State, Up, Down, Start, Transition, Calls, Turn, Fails, Looks, Trips, Stops, Crashes, CrashesIn, Opens, OpenFails, caller_at, reply_at, after_turn, after_fault, state_after, HasTurn, HasFault, MayStep, mark_of, mark_of_turn, marks_of_turn, marks_of, run, IsRun, IsStart, first_point}
-use Rattle.lz_machine.proofs.Theorem.Marks.{marks_tell}
+use Rattle.lz_machine.specs.{declared.event.Reply.{Reply, TheVariants.{Yes}}, Marks.{IsOpenCall, IsTold}, Yards.{Shape}, Runs.{Caller, Service, State, Up}}
+use Rattle.lz_machine.specs.Runs.{Down, Start, Transition, Calls, Turn, Fails, Looks, Trips, Stops, Crashes, CrashesIn, Opens, OpenFails, caller_at, reply_at}
+use Rattle.lz_machine.specs.Runs.{after_turn, after_fault, state_after, HasTurn, HasFault, MayStep, mark_of, mark_of_turn, marks_of_turn, marks_of, run, IsRun}
+use Rattle.lz_machine.{specs.Runs.{IsStart, first_point}, proofs.Theorem.Marks.{marks_tell}}
 
 -- what ends one call leaves another open
 still_open : (M : History) (j i : ℕ) → j ≢ i → IsOpen M i → (actor : ℕ) × ((if j == i then None else actor_of M i) ≡ Some actor)

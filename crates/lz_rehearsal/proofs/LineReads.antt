@@ -1,10 +1,7 @@
 -- What the tests of a line find is what the line is.
-use Rattle.std.proofs.Common.{◌≡◌, ℕ, ◌-◌, List, length, take, drop, codes, Option, true, false, nat_eq, nat_lt, refl, sym, ap, ◌∙◌}
+use Rattle.std.proofs.{Common.{◌≡◌, ℕ, ◌-◌, List, length, take, drop, codes, Option, true, false, nat_eq, nat_lt, refl, sym, ap, ◌∙◌}, lemmas.List.{take_rest}}
 use Rattle.std.specs.List.{starts_with}
-use Rattle.std.proofs.lemmas.List.{take_rest}
-use Rattle.lz_rehearsal.specs.declared.line.Line.{Line}
-use Rattle.lz_rehearsal.specs.declared.line.Line.TheVariants.{Trip, Stop, Open, Show}
-use Rattle.lz_rehearsal.specs.Limits.{most_length}
+use Rattle.lz_rehearsal.specs.{declared.line.Line.{Line, TheVariants.{Trip, Stop, Open, Show}}, Limits.{most_length}}
 use Rattle.lz_rehearsal.specs.Scripts.{bare, call_read, crash_read, finish_read, line_read, turn_read, until_read}
 
 abbrev Begins : List ℕ → List ℕ → Type 0

@@ -1,25 +1,16 @@
 -- A rehearsal goes on, line by line and turn by turn.
-use Rattle.std.proofs.Common.{◌≡◌, inl, inr, ◌≤◌, ◌<◌, ◌+◌, ◌-◌, ℕ, zero, suc, Option, None, Some, List, [], ◌∷◌, ◌++◌, length, take, drop, get_or, slice_get, is_some, unwrap_or, Result, Ok, Err, OnOk, IfOk, refl, sym, ap, subst, ◌∙◌, arith}
-use Rattle.std.proofs.lemmas.Bool.{false≢true}
-use Rattle.std.proofs.Math.Seq.{split_at}
-use Rattle.std.proofs.lemmas.List.{append-nil, length-take-le, take_more}
-use Rattle.std.proofs.KnownBytes.{Appends-nil, Appends-trans}
-use Rattle.std.specs.Io.KnownBytes.{Appends}
-use Rattle.lz_slot.specs.declared.history.Mark.{Mark}
-use Rattle.lz_machine.specs.declared.event.Outcome.{Outcome}
-use Rattle.lz_machine.specs.declared.kind.Kind.{Kind}
-use Rattle.lz_core.specs.declared.play.Step.{Step as PlayStep}
 use Rattle.lz_core.specs.declared.play.Step.TheVariants as step
-use Rattle.lz_core.specs.declared.world.Turned.{Turned}
-use Rattle.lz_core.specs.Worlds.{IsLawful, IsTold, PlaysOn, StopsAt, WorldOver, mark_list}
-use Rattle.lz_core.proofs.Runs.PlayedStep.{stays}
-use Rattle.lz_core.proofs.Runs.JoinedPlays.{chains, joins}
-use Rattle.lz_rehearsal.specs.declared.line.Line.{Line}
-use Rattle.lz_rehearsal.specs.declared.line.Line.TheVariants.{Call, Turn, Until, Finish, Trip, Stop, Crash, Open, Show}
-use Rattle.lz_rehearsal.specs.Limits.{most_turns}
-use Rattle.lz_rehearsal.specs.Rehearsals.{Adds, AddsPart, Does, EndsAt, EndsCutShort, EndsWithin, IsLawfulLine, Rehearsed, Rehearses, Turns, enough, ended, busy, met, again, nothing, more}
-use Rattle.lz_slot.specs.MarkTexts.{marks_text}
-use Rattle.lz_rehearsal.specs.Rehearsing.{EndsTurns, GoesOn, PlaysStep, TakesTurns}
+use Rattle.std.proofs.Common.{◌≡◌, inl, inr, ◌≤◌, ◌<◌, ◌+◌, ◌-◌, ℕ, zero, suc, Option, None, Some, List, [], ◌∷◌, ◌++◌, length, take, drop, get_or, slice_get}
+use Rattle.std.proofs.{Common.{is_some, unwrap_or, Result, Ok, Err, OnOk, IfOk, refl, sym, ap, subst, ◌∙◌, arith}, lemmas.Bool.{false≢true}}
+use Rattle.std.proofs.{lemmas.List.{append-nil, length-take-le, take_more}, Math.Seq.{split_at}, KnownBytes.{Appends-nil, Appends-trans}}
+use Rattle.std.specs.Io.KnownBytes.{Appends}
+use Rattle.lz_slot.specs.{declared.history.Mark.{Mark}, MarkTexts.{marks_text}}
+use Rattle.lz_machine.specs.declared.{event.Outcome.{Outcome}, kind.Kind.{Kind}}
+use Rattle.lz_core.specs.{declared.{play.Step.{Step as PlayStep}, world.Turned.{Turned}}, Worlds.{IsLawful, IsTold, PlaysOn, StopsAt, WorldOver, mark_list}}
+use Rattle.lz_core.proofs.Runs.{PlayedStep.{stays}, JoinedPlays.{chains, joins}}
+use Rattle.lz_rehearsal.specs.{declared.line.Line.{Line, TheVariants.{Call, Turn, Until, Finish, Trip, Stop, Crash, Open, Show}}, Limits.{most_turns}}
+use Rattle.lz_rehearsal.specs.Rehearsals.{Adds, AddsPart, Does, EndsAt, EndsCutShort, EndsWithin, IsLawfulLine, Rehearsed, Rehearses, Turns, enough, ended}
+use Rattle.lz_rehearsal.specs.{Rehearsals.{busy, met, again, nothing, more}, Rehearsing.{EndsTurns, GoesOn, PlaysStep, TakesTurns}}
 
 -- what lines do is the play of some steps
 abbrev pub IsPlay : WorldOver → List Mark → WorldOver → Type 0

@@ -1,36 +1,19 @@
 -- What is written of a rehearsal says the marks that were seen, and is read as their history.
-use Rattle.std.proofs.Common.{◌≡◌, ℕ, ◌≤◌, List, [], ◌∷◌, ◌++◌, length, reverse, codes, decimal, Option, None, Some, IsSomeAnd, refl, sym, ap, subst, ◌∙◌, arith}
-use Rattle.std.proofs.lemmas.List.{append-nil}
-use Rattle.lz_slot.specs.Limits.{most_actors}
-use Rattle.lz_slot.specs.MarkTexts.{keys_text}
-use Rattle.lz_slot.specs.declared.history.Mark.{Mark}
-use Rattle.lz_judge.specs.MarkLines.{AreMarksOfRun, AscendFrom}
-use Rattle.lz_judge.specs.Records.{IsLawful}
-use Rattle.lz_machine.specs.declared.event.Event.{Event}
-use Rattle.lz_machine.specs.declared.event.Outcome.{Outcome}
-use Rattle.lz_machine.specs.declared.event.Outcome.TheVariants.{Busy}
-use Rattle.lz_machine.specs.declared.kind.Kind.{Kind}
-use Rattle.lz_machine.specs.Points.{IsReached}
-use Rattle.lz_machine.specs.Sound.{IsSound}
-use Rattle.lz_machine.specs.Yards.{Shape}
-use Rattle.lz_machine.specs.Runs.{Caller, Service, State, Up, Down, Start, Point, caller_at, first_point, run, shape_of}
-use Rattle.lz_machine.proofs.Frames.OneActor.{caller_range}
-use Rattle.lz_machine.proofs.Runs.ReachedPoint.{shape_kept}
-use Rattle.lz_machine.proofs.Theorem.Reached.{reached_sound, up_at}
-use Rattle.lz_core.specs.declared.play.Step.{Step as PlayStep}
 use Rattle.lz_core.specs.declared.play.Step.TheVariants as step
-use Rattle.lz_core.specs.Worlds.{Ascend, IsAt, IsTold, IsUp, PlaysOn, Shows, WorldOver, next_of_caller}
-use Rattle.lz_core.proofs.Members.ShownKeys.{ascend_from, members_reached}
-use Rattle.lz_rehearsal.specs.declared.line.Line.{Line}
-use Rattle.lz_rehearsal.specs.declared.line.Line.TheVariants.{Call, Turn, Until, Finish, Trip, Stop, Crash, Open, Show}
-use Rattle.lz_rehearsal.specs.Limits.{most_turns}
-use Rattle.lz_rehearsal.specs.Rehearsals.{Does, IsShow, IsStep, Rehearsed, Turns, enough, ended, busy, met, again, nothing, more}
-use Rattle.lz_rehearsal.specs.Histories.{RehearsalsReadBack}
-use Rattle.lz_rehearsal.proofs.LawfulMarks.{run_lawful}
-use Rattle.lz_rehearsal.proofs.Rehearsed.{play_of}
-use Rattle.lz_rehearsal.proofs.SaidText.{Says, said_reads, says_join, says_marks, says_one, says_silence}
 use Rattle.lz_rehearsal.proofs.SaidText as said
-use Rattle.lz_rehearsal.proofs.SilentLines.{busy_silent, show_silent}
+use Rattle.std.proofs.Common.{◌≡◌, ℕ, ◌≤◌, List, [], ◌∷◌, ◌++◌, length, reverse, codes, decimal, Option, None, Some, IsSomeAnd, refl, sym, ap, subst, ◌∙◌}
+use Rattle.std.proofs.{Common.{arith}, lemmas.List.{append-nil}}
+use Rattle.lz_slot.specs.{Limits.{most_actors}, MarkTexts.{keys_text}, declared.history.Mark.{Mark}}
+use Rattle.lz_judge.specs.{MarkLines.{AreMarksOfRun, AscendFrom}, Records.{IsLawful}}
+use Rattle.lz_machine.specs.{declared.{event.{Event.{Event}, Outcome.{Outcome, TheVariants.{Busy}}}, kind.Kind.{Kind}}, Points.{IsReached}, Sound.{IsSound}}
+use Rattle.lz_machine.specs.{Yards.{Shape}, Runs.{Caller, Service, State, Up, Down, Start, Point, caller_at, first_point, run, shape_of}}
+use Rattle.lz_machine.proofs.{Frames.OneActor.{caller_range}, Runs.ReachedPoint.{shape_kept}, Theorem.Reached.{reached_sound, up_at}}
+use Rattle.lz_core.specs.{declared.play.Step.{Step as PlayStep}, Worlds.{Ascend, IsAt, IsTold, IsUp, PlaysOn, Shows, WorldOver, next_of_caller}}
+use Rattle.lz_core.proofs.Members.ShownKeys.{ascend_from, members_reached}
+use Rattle.lz_rehearsal.specs.{declared.line.Line.{Line, TheVariants.{Call, Turn, Until, Finish, Trip, Stop, Crash, Open, Show}}, Limits.{most_turns}}
+use Rattle.lz_rehearsal.specs.Rehearsals.{Does, IsShow, IsStep, Rehearsed, Turns, enough, ended, busy, met, again, nothing, more}
+use Rattle.lz_rehearsal.{specs.Histories.{RehearsalsReadBack}, proofs.{LawfulMarks.{run_lawful}, Rehearsed.{play_of}}}
+use Rattle.lz_rehearsal.proofs.{SaidText.{Says, said_reads, says_join, says_marks, says_one, says_silence}, SilentLines.{busy_silent, show_silent}}
 
 -- an actor that took a turn has a call, so it is one of the service's
 has_call : (service : Service) (a : ℕ) (caller : Option Caller) (P : Event → Type 0) → caller_at service.callers a ≡ caller → IsSomeAnd (next_of_caller service caller) P

@@ -2,8 +2,7 @@
 use Rattle.std.specs.Prelude.{◌≡◌, refl, codes, None, Some}
 use Rattle.lz_slot.specs.declared.command.Command.TheVariants.{Add, Has}
 use Rattle.lz_disk.specs.declared.memory.Pick.TheVariants.{Byte, Part}
-use Rattle.lz_rehearsal.specs.declared.line.Line.TheVariants.{Call, Finish, Crash}
-use Rattle.lz_rehearsal.specs.Scripts.{line_read}
+use Rattle.lz_rehearsal.specs.{declared.line.Line.TheVariants.{Call, Finish, Crash}, Scripts.{line_read}}
 
 -- a key of any room, and both spellings of one in room 0
 calls : (line_read (codes "call 1 add 1:0") ≡ Some (Call 1 (Add 1000000000000000000))) × (line_read (codes "call 1 has 0:9") ≡ Some (Call 1 (Has 9)))

@@ -1,16 +1,10 @@
 -- A text of lines that say marks, and of silent ones among them, is read as the history of the marks.
+use Rattle.lz_judge.specs.TextsRead as read
 use Rattle.std.proofs.Common.{◌≡◌, ℕ, ◌+◌, ◌≤◌, List, [], ◌∷◌, ◌++◌, reverse, length, length-append, arith, sym, subst, append_assoc}
 use Rattle.std.proofs.lemmas.List.{append-nil, reverse-append}
-use Rattle.lz_slot.specs.MarkTexts.{mark_text, marks_text}
-use Rattle.lz_slot.specs.declared.history.Mark.{Mark}
-use Rattle.lz_judge.specs.declared.line.Line.TheVariants.{Seen, Other}
-use Rattle.lz_judge.specs.Limits.{most_bytes, most_calls}
-use Rattle.lz_judge.specs.MarkLines.{AreMarksOfRun, IsMarkOfRun}
-use Rattle.lz_judge.specs.Records.{IsLawful}
-use Rattle.lz_judge.specs.TextsRead as read
-use Rattle.lz_judge.specs.TextsRead.{Reads, calls_of}
-use Rattle.lz_judge.proofs.Texts.LineWord.{IsWritten}
-use Rattle.lz_judge.proofs.Texts.MarkLine.{mark_written, written_more}
+use Rattle.lz_slot.specs.{MarkTexts.{mark_text, marks_text}, declared.history.Mark.{Mark}}
+use Rattle.lz_judge.specs.{declared.line.Line.TheVariants.{Seen, Other}, Limits.{most_bytes, most_calls}, MarkLines.{AreMarksOfRun, IsMarkOfRun}}
+use Rattle.lz_judge.{specs.{Records.{IsLawful}, TextsRead.{Reads, calls_of}}, proofs.Texts.{LineWord.{IsWritten}, MarkLine.{mark_written, written_more}}}
 use Rattle.lz_rehearsal.specs.Tellings.{mark_line}
 
 -- the lines of the text say these marks, in their order

@@ -1,14 +1,11 @@
 -- Scripts that are read a line at a time.
-use Rattle.std.proofs.Common.{◌≡◌, ◌≢◌, ℕ, ◌+◌, ◌-◌, ◌*◌, ◌<◌, ◌≤◌, ◌⊎◌, inl, inr, List, [], ◌∷◌, ◌++◌, length, take, drop, Bool, true, false, nat_lt, Option, Some, None, option_map, IfSome, refl, sym, ap, subst, ◌∙◌, arith, append_assoc, length-append}
-use Rattle.std.proofs.lemmas.List.{take-append-drop, drop_more, take_all, length-take, take_rest}
-use Rattle.std.proofs.lemmas.Bool.Decides.{nat_tests}
+use Rattle.std.proofs.Common.{◌≡◌, ◌≢◌, ℕ, ◌+◌, ◌-◌, ◌*◌, ◌<◌, ◌≤◌, ◌⊎◌, inl, inr, List, [], ◌∷◌, ◌++◌, length, take, drop, Bool, true, false, nat_lt, Option}
+use Rattle.std.proofs.Common.{Some, None, option_map, IfSome, refl, sym, ap, subst, ◌∙◌, arith, append_assoc, length-append}
+use Rattle.std.proofs.lemmas.{List.{take-append-drop, drop_more, take_all, length-take, take_rest}, Bool.Decides.{nat_tests}}
 use Rattle.memchr.specs.Find.{IsFirstByte, is_byte}
 use Rattle.lz_proto.specs.Lines.{has_line_feed, line_feed}
-use Rattle.lz_rehearsal.specs.declared.line.Line.{Line}
-use Rattle.lz_rehearsal.specs.declared.script.ScriptFault.{ScriptFault}
-use Rattle.lz_rehearsal.specs.declared.script.ScriptFault.TheVariants.{Line as BadLine, Read, Memory}
-use Rattle.lz_rehearsal.specs.Scripts.{FailsAt, HasNoLine, IsScript, Reads, nothing, more, line_read}
-use Rattle.lz_rehearsal.specs.Limits.{most_bytes, most_length, most_lines}
+use Rattle.lz_rehearsal.specs.declared.{line.Line.{Line}, script.ScriptFault.{ScriptFault, TheVariants.{Line as BadLine, Read, Memory}}}
+use Rattle.lz_rehearsal.specs.{Scripts.{FailsAt, HasNoLine, IsScript, Reads, nothing, more, line_read}, Limits.{most_bytes, most_length, most_lines}}
 use Rattle.lz_rehearsal.specs.Scripting.{AddsLine, IsFaultOf, IsLineFault}
 use Rattle.lz_slot.proofs.Texts.Cuts.{cut_at, first_cut, lacks_all, lacks_first, stands}
 

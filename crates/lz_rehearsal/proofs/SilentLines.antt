@@ -1,10 +1,7 @@
 -- The lines of the members, and of an actor that found a lock taken: they say nothing of the history.
 use Rattle.std.proofs.Common.{ℕ, ◌≤◌, List, [], ◌∷◌, ◌++◌, codes, decimal, arith, refl}
-use Rattle.lz_slot.specs.Limits.{most_actors}
-use Rattle.lz_slot.specs.MarkTexts.{keys_text}
-use Rattle.lz_judge.specs.declared.line.Line.TheVariants.{Other}
-use Rattle.lz_judge.specs.MarkLines.{AscendFrom}
-use Rattle.lz_judge.proofs.Texts.LineWord.{IsWritten, plain}
+use Rattle.lz_slot.specs.{Limits.{most_actors}, MarkTexts.{keys_text}}
+use Rattle.lz_judge.{specs.{declared.line.Line.TheVariants.{Other}, MarkLines.{AscendFrom}}, proofs.Texts.LineWord.{IsWritten, plain}}
 use Rattle.lz_judge.proofs.Texts.MarkLine.{keys_written, number_field}
 
 pub show_silent : (ks : List ℕ) → AscendFrom 0 ks → IsWritten (codes "show" ++ keys_text ks) Other

@@ -1,13 +1,10 @@
 -- What is written of a rehearsal is a history.
 use Rattle.std.specs.Prelude.{ℕ, ◌≤◌, List, [], length, reverse}
-use Rattle.lz_slot.specs.declared.format.Format.{Format}
-use Rattle.lz_slot.specs.declared.history.Mark.{Mark}
-use Rattle.lz_judge.specs.Limits.{most_bytes, most_calls}
-use Rattle.lz_judge.specs.TextsRead.{Reads, calls_of}
+use Rattle.lz_slot.specs.declared.{format.Format.{Format}, history.Mark.{Mark}}
+use Rattle.lz_judge.specs.{Limits.{most_bytes, most_calls}, TextsRead.{Reads, calls_of}}
 use Rattle.lz_machine.specs.Yards.{Shape}
 use Rattle.lz_core.specs.Worlds.{IsNew, WorldOver}
-use Rattle.lz_rehearsal.specs.declared.line.Line.{Line}
-use Rattle.lz_rehearsal.specs.Rehearsals.{Rehearsed}
+use Rattle.lz_rehearsal.specs.{declared.line.Line.{Line}, Rehearsals.{Rehearsed}}
 
 -- The text of lines that were rehearsed on a new world, within the judge's limits, is read as the history of what was seen.
 abbrev pub RehearsalsReadBack : Type 0

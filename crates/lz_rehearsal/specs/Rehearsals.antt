@@ -1,21 +1,13 @@
 -- What the rehearsal of a script does.
-use Rattle.std.specs.Prelude.{◌≡◌, ◌≢◌, ℕ, suc, Option, None, Some, List, [], ◌∷◌, ◌++◌, length}
-use Rattle.std.specs.Io.KnownBytes.{Appends}
-use Rattle.lz_slot.specs.declared.history.Mark.{Mark}
-use Rattle.lz_proto.specs.Steps.{IsCutShort}
-use Rattle.lz_machine.specs.declared.event.Outcome.{Outcome}
-use Rattle.lz_machine.specs.declared.event.Outcome.TheVariants.{Busy}
-use Rattle.lz_machine.specs.declared.kind.Kind.{Kind}
-use Rattle.lz_core.specs.declared.play.Step.{Step as PlayStep}
 use Rattle.lz_core.specs.declared.play.Step.TheVariants as step
-use Rattle.lz_machine.specs.Runs.{State}
-use Rattle.lz_core.specs.Worlds.{Ascend, IsChain, IsLawful, IsTold, IsUp, PlaysOn, Shows, WorldOver, mark_list}
-use Rattle.lz_rehearsal.specs.declared.line.Line.{Line}
-use Rattle.lz_rehearsal.specs.declared.line.Line.TheVariants.{Call, Turn, Until, Finish, Trip, Stop, Crash, Open, Show}
-use Rattle.lz_rehearsal.specs.Limits.{most_turns}
-use Rattle.lz_slot.specs.MarkTexts.{marks_text}
-use Rattle.lz_judge.specs.MarkLines.{AreMarksOfRun}
+use Rattle.std.specs.{Prelude.{◌≡◌, ◌≢◌, ℕ, suc, Option, None, Some, List, [], ◌∷◌, ◌++◌, length}, Io.KnownBytes.{Appends}}
+use Rattle.lz_slot.specs.{declared.history.Mark.{Mark}, MarkTexts.{marks_text}}
+use Rattle.lz_proto.specs.Steps.{IsCutShort}
+use Rattle.lz_machine.specs.{declared.{event.Outcome.{Outcome, TheVariants.{Busy}}, kind.Kind.{Kind}}, Runs.{State}}
+use Rattle.lz_core.specs.{declared.play.Step.{Step as PlayStep}, Worlds.{Ascend, IsChain, IsLawful, IsTold, IsUp, PlaysOn, Shows, WorldOver, mark_list}}
+use Rattle.lz_rehearsal.specs.{declared.line.Line.{Line, TheVariants.{Call, Turn, Until, Finish, Trip, Stop, Crash, Open, Show}}, Limits.{most_turns}}
 use Rattle.lz_rehearsal.specs.Tellings.{busy_text, mark_line, show_text}
+use Rattle.lz_judge.specs.MarkLines.{AreMarksOfRun}
 
 -- a step was played: these marks were seen, and their lines written
 abbrev pub IsStep : WorldOver → PlayStep → List Mark → List ℕ → WorldOver → Type 0

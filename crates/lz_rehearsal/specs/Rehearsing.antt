@@ -1,14 +1,9 @@
 -- What the steps of a rehearsal do.
 use Rattle.std.specs.Prelude.{◌≡◌, ◌≢◌, ◌⊎◌, ℕ, Option, None, Some, List, []}
 use Rattle.lz_slot.specs.declared.history.Mark.{Mark}
-use Rattle.lz_machine.specs.declared.event.Outcome.TheVariants.{Busy}
-use Rattle.lz_machine.specs.declared.kind.Kind.{Kind}
-use Rattle.lz_core.specs.declared.play.Step.{Step as PlayStep}
-use Rattle.lz_core.specs.declared.world.Turned.{Turned}
-use Rattle.lz_core.specs.Worlds.{WorldOver}
-use Rattle.lz_rehearsal.specs.declared.line.Line.{Line}
-use Rattle.lz_rehearsal.specs.Rehearsals.{Does, IsStep, Turns}
-use Rattle.lz_rehearsal.specs.Tellings.{busy_text, mark_line}
+use Rattle.lz_machine.specs.declared.{event.Outcome.TheVariants.{Busy}, kind.Kind.{Kind}}
+use Rattle.lz_core.specs.{declared.{play.Step.{Step as PlayStep}, world.Turned.{Turned}}, Worlds.{WorldOver}}
+use Rattle.lz_rehearsal.specs.{declared.line.Line.{Line}, Rehearsals.{Does, IsStep, Turns}, Tellings.{busy_text, mark_line}}
 
 -- a line was played, and this is its text
 abbrev pub PlaysLine : WorldOver → Line → List ℕ → WorldOver → Type 0

@@ -1,10 +1,7 @@
 -- What the steps of reading a script do.
 use Rattle.std.specs.Prelude.{◌≡◌, ◌⊎◌, ℕ, ◌+◌, ◌<◌, None, Some, List, [], ◌∷◌, ◌++◌, length}
-use Rattle.lz_rehearsal.specs.declared.line.Line.{Line}
-use Rattle.lz_rehearsal.specs.declared.script.ScriptFault.{ScriptFault}
-use Rattle.lz_rehearsal.specs.declared.script.ScriptFault.TheVariants.{Line as BadLine, Read, Memory}
-use Rattle.lz_rehearsal.specs.Scripts.{FailsAt, line_read}
-use Rattle.lz_rehearsal.specs.Limits.{most_lines}
+use Rattle.lz_rehearsal.specs.declared.{line.Line.{Line}, script.ScriptFault.{ScriptFault, TheVariants.{Line as BadLine, Read, Memory}}}
+use Rattle.lz_rehearsal.specs.{Scripts.{FailsAt, line_read}, Limits.{most_lines}}
 
 -- a fault that reading a text may have: the number of its first line that doesn't read, or lack of memory
 abbrev pub IsFaultOf : List ℕ → ScriptFault → Type 0

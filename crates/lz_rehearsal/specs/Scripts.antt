@@ -1,20 +1,13 @@
 -- What the lines of a script ask for. A text is a list of bytes.
-use Rattle.std.specs.Prelude.{◌≡◌, ◌≢◌, ◌⊎◌, ℕ, suc, ◌+◌, ◌-◌, ◌*◌, ◌≤◌, false, ◌&&◌, nat_le, nat_lt, nat_eq, if◌then◌else◌, Result, Ok, Err, Option, None, Some, option_map, List, [], ◌∷◌, ◌++◌, length, drop, codes}
-use Rattle.std.specs.List.{starts_with}
-use Rattle.std.specs.Cmp.Lexicographic.{pointwise}
-use Rattle.lz_slot.specs.declared.command.Command.{Command}
-use Rattle.lz_slot.specs.declared.command.Command.TheVariants.{Add, Remove, Has}
-use Rattle.lz_disk.specs.declared.memory.Pick.{Pick}
-use Rattle.lz_disk.specs.declared.memory.Pick.TheVariants.{Old, New, Byte, Part}
+use Rattle.lz_machine.specs.declared.kind.Kind.TheVariants as kind
+use Rattle.std.specs.Prelude.{◌≡◌, ◌≢◌, ◌⊎◌, ℕ, suc, ◌+◌, ◌-◌, ◌*◌, ◌≤◌, false, ◌&&◌, nat_le, nat_lt, nat_eq, if◌then◌else◌, Result, Ok, Err, Option, None}
+use Rattle.std.specs.{Prelude.{Some, option_map, List, [], ◌∷◌, ◌++◌, length, drop, codes}, List.{starts_with}, Cmp.Lexicographic.{pointwise}}
+use Rattle.lz_slot.specs.{declared.{command.Command.{Command, TheVariants.{Add, Remove, Has}}, spelling.KeyFault.{KeyFault}}, Limits.{most_actors}}
+use Rattle.lz_slot.specs.{Numerals.{number_in}, Texts.{key_read, parted}}
+use Rattle.lz_disk.specs.declared.memory.Pick.{Pick, TheVariants.{Old, New, Byte, Part}}
 use Rattle.lz_proto.specs.Lines.{has_line_feed, line_feed}
 use Rattle.lz_machine.specs.declared.kind.Kind.{Kind}
-use Rattle.lz_machine.specs.declared.kind.Kind.TheVariants as kind
-use Rattle.lz_slot.specs.Limits.{most_actors}
-use Rattle.lz_slot.specs.Numerals.{number_in}
-use Rattle.lz_slot.specs.Texts.{key_read, parted}
-use Rattle.lz_slot.specs.declared.spelling.KeyFault.{KeyFault}
-use Rattle.lz_rehearsal.specs.Limits.{most_kept, most_length, most_lines, most_turns}
-use Rattle.lz_rehearsal.specs.declared.line.Line.{Line}
+use Rattle.lz_rehearsal.specs.{Limits.{most_kept, most_length, most_lines, most_turns}, declared.line.Line.{Line}}
 use Rattle.lz_rehearsal.specs.declared.line.Line.TheVariants.{Call, Turn, Until, Finish, Trip, Stop, Crash, Open, Show}
 
 abbrev pub space : ℕ

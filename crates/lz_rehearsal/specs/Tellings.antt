@@ -1,7 +1,6 @@
 -- What a rehearsal writes.
 use Rattle.std.specs.Prelude.{ℕ, List, [], ◌∷◌, ◌++◌, codes, decimal}
-use Rattle.lz_slot.specs.MarkTexts.{keys_text, mark_text}
-use Rattle.lz_slot.specs.declared.history.Mark.{Mark}
+use Rattle.lz_slot.specs.{MarkTexts.{keys_text, mark_text}, declared.history.Mark.{Mark}}
 
 -- the line of what is seen of a service
 abbrev pub mark_line : Mark → List ℕ

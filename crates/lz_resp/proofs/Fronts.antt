@@ -1,18 +1,11 @@
 -- What readers of slices find.
-use Rattle.std.proofs.Common.{◌≡◌, ℕ, suc, ◌+◌, ◌-◌, ◌<◌, ◌≤◌, List, [], ◌∷◌, ◌++◌, length, take, drop, get_or, true, false, nat_lt, Some, None, Ok, Err, refl, sym, ap, ◌∙◌, arith, append_assoc}
-use Rattle.std.specs.List.{list_any}
-use Rattle.std.proofs.lemmas.List.{drop_more}
-use Rattle.std.proofs.lemmas.Bool.{eqb-true}
-use Rattle.std.proofs.lemmas.Bool.Decides.{nat_tests}
+use Rattle.std.proofs.Common.{◌≡◌, ℕ, suc, ◌+◌, ◌-◌, ◌<◌, ◌≤◌, List, [], ◌∷◌, ◌++◌, length, take, drop, get_or, true, false, nat_lt, Some, None, Ok, Err, refl}
+use Rattle.std.{proofs.{Common.{sym, ap, ◌∙◌, arith, append_assoc}, lemmas.{List.{drop_more}, Bool.{eqb-true, Decides.{nat_tests}}}}, specs.List.{list_any}}
 use Rattle.memchr.specs.Find.{IsFirstByte, is_byte}
 use Rattle.lz_slot.proofs.Texts.Cuts.{lacks_all, parted_at, parted_none}
-use Rattle.lz_resp.specs.Frames.{fits, is_quote, words_of}
-use Rattle.lz_resp.specs.Limits.{most_frame}
+use Rattle.lz_resp.specs.{Frames.{fits, is_quote, words_of}, Limits.{most_frame}}
 use Rattle.lz_resp.specs.Reading.{Front, StopsBy, and_then, end_at, first_by, first_of, frame_at, inline_at, inline_of, line_at, line_of, word_at, words_at}
-use Rattle.lz_resp.specs.declared.fault.Fault.{Fault}
-use Rattle.lz_resp.specs.declared.fault.Stop.{Stop}
-use Rattle.lz_resp.specs.declared.fault.Stop.TheVariants.{Memory, Faulty}
-use Rattle.lz_resp.specs.declared.fault.Fault.TheVariants.{Quotes, TooLong}
+use Rattle.lz_resp.specs.declared.fault.{Fault.{Fault, TheVariants.{Quotes, TooLong}}, Stop.{Stop, TheVariants.{Memory, Faulty}}}
 
 -- a text that has no CR has no line
 pub line_none : (fault : Fault) (text : List ℕ) → IsFirstByte (is_byte 13) text None → Ok None ≡ line_at fault text

@@ -2,11 +2,8 @@
 use Rattle.std.proofs.Common.{◌≡◌, ◌∙◌, [], ◌∷◌, refl, sym, codes, arith}
 use Rattle.sha2.specs.Sha256.{compress, digest_bytes, first_words, hash_after, rounds, schedule, sha256}
 use Rattle.lz_proto.specs.declared.request.Request.TheVariants.{Add, Remove, Has}
-use Rattle.lz_resp.specs.Keys.{at_first, text_number}
-use Rattle.lz_resp.specs.Commands.{item_of, selected_after, ok_text, no_room}
-use Rattle.lz_resp.specs.declared.naming.Naming.TheVariants.{Rooms, Texts}
-use Rattle.lz_resp.specs.declared.naming.Selected.TheVariants.{Room, Nameless}
-use Rattle.lz_resp.specs.declared.form.Form.TheVariants.{Added, Removed, Found, Each, Stored}
+use Rattle.lz_resp.specs.{Keys.{at_first, text_number}, Commands.{item_of, selected_after, ok_text, no_room}, declared.naming.Naming.TheVariants.{Rooms, Texts}}
+use Rattle.lz_resp.specs.declared.{naming.Selected.TheVariants.{Room, Nameless}, form.Form.TheVariants.{Added, Removed, Found, Each, Stored}}
 use Rattle.lz_resp.specs.declared.item.Item.TheVariants.{Asks, Says}
 
 plain : text_number (codes "s") (codes "m") ≡ 750852491603012123

@@ -1,18 +1,13 @@
 -- What was read of a text is read of it with more after it.
-use Rattle.std.proofs.Common.{◌≡◌, ℕ, zero, suc, ◌+◌, ◌-◌, ◌<◌, ◌≤◌, ◌⊎◌, inl, inr, List, [], ◌∷◌, ◌++◌, length, take, drop, true, false, nat_eq, nat_lt, Option, Some, None, Ok, Err, refl, sym, ap, subst, ◌∙◌, arith, length-append, length-drop}
+use Rattle.std.proofs.Common.{◌≡◌, ℕ, zero, suc, ◌+◌, ◌-◌, ◌<◌, ◌≤◌, ◌⊎◌, inl, inr, List, [], ◌∷◌, ◌++◌, length, take, drop, true, false, nat_eq, nat_lt}
+use Rattle.std.proofs.{Common.{Option, Some, None, Ok, Err, refl, sym, ap, subst, ◌∙◌, arith, length-append, length-drop}, Math.Seq.{take-append-add}}
+use Rattle.std.proofs.lemmas.{List.{take-append-le, drop-append-le, take_all, length-take}, Bool.{cond_both, Decides.{nat_tests}}}
 use Rattle.std.specs.Prelude.{◌==◌, option_map}
-use Rattle.std.proofs.Math.Seq.{take-append-add}
-use Rattle.std.proofs.lemmas.List.{take-append-le, drop-append-le, take_all, length-take}
-use Rattle.std.proofs.lemmas.Bool.{cond_both}
-use Rattle.std.proofs.lemmas.Bool.Decides.{nat_tests}
-use Rattle.lz_slot.specs.Numerals.{number_in}
-use Rattle.lz_slot.specs.Texts.{parted}
-use Rattle.lz_resp.specs.Limits.{most_frame, most_word}
+use Rattle.lz_slot.specs.{Numerals.{number_in}, Texts.{parted}}
+use Rattle.lz_resp.specs.{Limits.{most_frame, most_word}, Frames.{star, dollar}, Reading.{Front, and_then, array_at, array_of, bulk_at, count_of, end_at}}
+use Rattle.lz_resp.specs.Reading.{first_by, first_of, frame_at, inline_at, inline_of, line_at, line_of, word_at, word_of, words_at}
+use Rattle.lz_resp.specs.declared.fault.Fault.{Fault, TheVariants.{Count, Length, NoBulk, NoEnd, TooLong}}
 use Rattle.lz_proto.specs.Lines.{carriage_return, line_feed}
-use Rattle.lz_resp.specs.Frames.{star, dollar}
-use Rattle.lz_resp.specs.Reading.{Front, and_then, array_at, array_of, bulk_at, count_of, end_at, first_by, first_of, frame_at, inline_at, inline_of, line_at, line_of, word_at, word_of, words_at}
-use Rattle.lz_resp.specs.declared.fault.Fault.{Fault}
-use Rattle.lz_resp.specs.declared.fault.Fault.TheVariants.{Count, Length, NoBulk, NoEnd, TooLong}
 
 pub record Stays {A : Type 0} (read : List ℕ → Front A) : Type 0 where
   pub value : (text more : List ℕ) (x : A) (rest : List ℕ) → read text ≡ Ok (Some (x, rest)) → (read (text ++ more) ≡ Ok (Some (x, rest ++ more))) × (length rest ≤ length text)

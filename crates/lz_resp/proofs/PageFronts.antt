@@ -1,10 +1,7 @@
 -- What the reader of a page's numbers finds.
 use Rattle.std.proofs.Common.{◌≡◌, ℕ, ◌+◌, ◌-◌, ◌<◌, List, [], ◌∷◌, ◌++◌, Some, None, Ok, Err, refl, sym, ap, ◌∙◌, append_assoc}
 use Rattle.lz_slot.specs.Limits.{largest_number}
-use Rattle.lz_resp.specs.Pages.{number_at, numbers_at}
-use Rattle.lz_resp.specs.Reading.{Front, and_then}
-use Rattle.lz_resp.specs.declared.fault.Fault.{Fault}
-use Rattle.lz_resp.proofs.Fronts.{one_less}
+use Rattle.lz_resp.{specs.{Pages.{number_at, numbers_at}, Reading.{Front, and_then}, declared.fault.Fault.{Fault}}, proofs.Fronts.{one_less}}
 
 -- numbers before those that were read
 abbrev pub with_numbers : List ℕ → Front (List ℕ) → Front (List ℕ)

@@ -1,13 +1,7 @@
 -- Worked pages, as a client asks for them and reads them.
-use Rattle.std.proofs.Common.{◌≡◌, ◌≢◌, ℕ, List, [], ◌∷◌, Ok, Err, Some, None, refl, ap, codes}
-use Rattle.std.specs.Fmt.{digits}
-use Rattle.lz_resp.specs.Frames.{words_of}
-use Rattle.lz_resp.specs.Commands.{item_of}
-use Rattle.lz_resp.specs.Reading.{Front}
-use Rattle.lz_resp.specs.Pages.{page_at, request_text}
-use Rattle.lz_resp.specs.declared.fault.Fault.TheVariants.{Count, NoBulk}
-use Rattle.lz_resp.specs.declared.item.Item.TheVariants.{Lists}
-use Rattle.lz_resp.specs.declared.naming.Selected.TheVariants.{Room}
+use Rattle.std.{proofs.Common.{◌≡◌, ◌≢◌, ℕ, List, [], ◌∷◌, Ok, Err, Some, None, refl, ap, codes}, specs.Fmt.{digits}}
+use Rattle.lz_resp.specs.{Frames.{words_of}, Commands.{item_of}, Reading.{Front}, Pages.{page_at, request_text}}
+use Rattle.lz_resp.specs.declared.{fault.Fault.TheVariants.{Count, NoBulk}, item.Item.TheVariants.{Lists}, naming.Selected.TheVariants.{Room}}
 
 asked :
     (request_text 3 512 ≡ codes "SSCAN 3 512 COUNT 256\r\n")

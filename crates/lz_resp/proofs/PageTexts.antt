@@ -1,21 +1,12 @@
 -- What is read is a page, and each page is read.
-use Rattle.std.proofs.Common.{◌≡◌, ℕ, zero, suc, ◌≤◌, List, [], ◌∷◌, ◌++◌, length, Bool, true, false, nat_le, decimal, Option, Some, None, Ok, Err, refl, sym, ap, subst, ◌∙◌, arith, append_assoc}
-use Rattle.std.specs.Prelude.{◌==◌, if◌then◌else◌}
-use Rattle.std.specs.Fmt.{digits}
-use Rattle.std.specs.List.{flat_map, list_all}
-use Rattle.std.proofs.lemmas.Bool.{cond_both}
-use Rattle.std.proofs.lemmas.Bool.Decides.{nat_tests}
-use Rattle.std.proofs.lemmas.Fmt.{length-decimal-le}
-use Rattle.lz_slot.specs.Limits.{largest_number, most_slots}
-use Rattle.lz_slot.specs.Numerals.{number_in}
-use Rattle.lz_slot.proofs.Texts.Numerals.{decimal_read, number_told_of}
+use Rattle.std.proofs.Common.{◌≡◌, ℕ, zero, suc, ◌≤◌, List, [], ◌∷◌, ◌++◌, length, Bool, true, false, nat_le, decimal, Option, Some, None, Ok, Err, refl, sym}
+use Rattle.std.proofs.{Common.{ap, subst, ◌∙◌, arith, append_assoc}, lemmas.{Bool.{cond_both, Decides.{nat_tests}}, Fmt.{length-decimal-le}}}
+use Rattle.std.specs.{Prelude.{◌==◌, if◌then◌else◌}, Fmt.{digits}, List.{flat_map, list_all}}
+use Rattle.lz_slot.{specs.{Limits.{largest_number, most_slots}, Numerals.{number_in}}, proofs.Texts.Numerals.{decimal_read, number_told_of}}
 use Rattle.lz_slot.proofs.Texts.Spellings.{decimal_lacks}
-use Rattle.lz_resp.specs.Frames.{bulk, star}
-use Rattle.lz_resp.specs.Limits.{most_word, most_words}
-use Rattle.lz_resp.specs.Pages.{FaultsHaveNoPage, IsPage, PagesAreRead, PagesAreSpelled, counted, count_at, heading_at, members_at, number_at, number_text, numbers_at, page_at, page_of, parts_at, told_text}
-use Rattle.lz_resp.specs.Reading.{Front, and_then, line_at, word_at}
-use Rattle.lz_resp.specs.declared.fault.Fault.{Fault}
-use Rattle.lz_resp.specs.declared.fault.Fault.TheVariants.{Count}
+use Rattle.lz_resp.specs.{Frames.{bulk, star}, Limits.{most_word, most_words}, Pages.{FaultsHaveNoPage, IsPage, PagesAreRead, PagesAreSpelled, counted}}
+use Rattle.lz_resp.specs.Pages.{count_at, heading_at, members_at, number_at, number_text, numbers_at, page_at, page_of, parts_at, told_text}
+use Rattle.lz_resp.specs.{Reading.{Front, and_then, line_at, word_at}, declared.fault.Fault.{Fault, TheVariants.{Count}}}
 use Rattle.lz_resp.proofs.LongerTexts.{Stays, given, same_read, stays_given, stays_line, stays_then, stays_word, stays_wrong, then_value}
 use Rattle.lz_resp.proofs.Spellings.{line_read, line_spelled, word_read, word_spelled}
 

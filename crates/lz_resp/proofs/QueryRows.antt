@@ -1,14 +1,9 @@
 -- Worked queries.
-use Rattle.std.proofs.Common.{◌≡◌, ◌≢◌, true, false, [], ◌∷◌, ◌++◌, refl, codes}
-use Rattle.std.specs.Fmt.{digits}
-use Rattle.lz_resp.specs.Commands.{bad_syntax, item_of}
-use Rattle.lz_resp.specs.Frames.{bulk}
+use Rattle.std.{proofs.Common.{◌≡◌, ◌≢◌, true, false, [], ◌∷◌, ◌++◌, refl, codes}, specs.Fmt.{digits}}
+use Rattle.lz_resp.specs.{Commands.{bad_syntax, item_of}, Frames.{bulk}}
 use Rattle.lz_resp.specs.Queries.{clients_text, ends_service, info_text, keyspace_text, lazyset_text, query_text, server_text, stats_text, version_text}
-use Rattle.lz_resp.specs.declared.figures.Figures.{Figures}
-use Rattle.lz_resp.specs.declared.naming.Selected.TheVariants.{Room}
-use Rattle.lz_resp.specs.declared.item.Item.TheVariants.{Says, Tells}
-use Rattle.lz_resp.specs.declared.query.Query.TheVariants.{Size, Info, Shutdown}
-use Rattle.lz_resp.specs.declared.query.Sections.TheVariants.{All, Server, Clients, Missing}
+use Rattle.lz_resp.specs.declared.{figures.Figures.{Figures}, naming.Selected.TheVariants.{Room}, item.Item.TheVariants.{Says, Tells}}
+use Rattle.lz_resp.specs.declared.query.{Query.TheVariants.{Size, Info, Shutdown}, Sections.TheVariants.{All, Server, Clients, Missing}}
 
 asked :
     (item_of (Room 3) (codes "DbSize" ∷ []) ≡ Tells Size) × (item_of (Room 3) (codes "DBSIZE" ∷ codes "3" ∷ []) ≡ Says (codes "-ERR wrong number of arguments for 'dbsize' command\r\n"))

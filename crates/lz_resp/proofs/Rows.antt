@@ -1,19 +1,11 @@
 -- Worked frames.
-use Rattle.std.proofs.Common.{◌≡◌, [], ◌∷◌, ◌++◌, length, Some, None, Ok, Err, refl, codes}
-use Rattle.std.specs.Fmt.{digits}
-use Rattle.std.specs.List.{flat_map}
-use Rattle.lz_proto.specs.declared.request.Request.TheVariants.{Add, Remove, Has}
-use Rattle.lz_proto.specs.declared.reply.Reply.TheVariants.{Yes, No, Full, Halted, OldFile}
-use Rattle.lz_resp.specs.Reading.{first_of}
-use Rattle.lz_resp.specs.Commands.{item_of, selected_after, ok_text, no_key, no_room, no_words_text, nil_text, hello_text, no_version, other_version, subtext_of}
-use Rattle.lz_resp.specs.Frames.{bulk}
-use Rattle.lz_resp.specs.Names.{all_commands}
-use Rattle.lz_resp.specs.Replies.{fault_text, integer, text_of}
-use Rattle.lz_resp.specs.declared.fault.Fault.TheVariants.{Count, Length, NoBulk, NoEnd, Quotes}
 use Rattle.lz_resp.specs.declared.subcommand.Subcommand.TheVariants as subcommand
-use Rattle.lz_resp.specs.declared.form.Form.TheVariants.{Added, Removed, Found, Each, Stored}
-use Rattle.lz_resp.specs.declared.naming.Selected.TheVariants.{Room}
-use Rattle.lz_resp.specs.declared.item.Item.TheVariants.{Asks, Says, Ends}
+use Rattle.std.{proofs.Common.{◌≡◌, [], ◌∷◌, ◌++◌, length, Some, None, Ok, Err, refl, codes}, specs.{Fmt.{digits}, List.{flat_map}}}
+use Rattle.lz_proto.specs.declared.{request.Request.TheVariants.{Add, Remove, Has}, reply.Reply.TheVariants.{Yes, No, Full, Halted, OldFile}}
+use Rattle.lz_resp.specs.{Reading.{first_of}, Commands.{item_of, selected_after, ok_text, no_key, no_room, no_words_text, nil_text, hello_text, no_version}}
+use Rattle.lz_resp.specs.{Commands.{other_version, subtext_of}, Frames.{bulk}, Names.{all_commands}, Replies.{fault_text, integer, text_of}}
+use Rattle.lz_resp.specs.declared.{fault.Fault.TheVariants.{Count, Length, NoBulk, NoEnd, Quotes}, form.Form.TheVariants.{Added, Removed, Found, Each, Stored}}
+use Rattle.lz_resp.specs.declared.{naming.Selected.TheVariants.{Room}, item.Item.TheVariants.{Asks, Says, Ends}}
 
 ping : first_of (codes "*1\r\n$4\r\nPING\r\n*1") ≡ Ok (Some (codes "PING" ∷ [], codes "*1"))
 unfolding first_of

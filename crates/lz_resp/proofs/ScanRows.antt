@@ -1,10 +1,7 @@
 -- Worked scans.
-use Rattle.std.proofs.Common.{◌≡◌, ◌≢◌, [], ◌∷◌, Some, None, refl, codes}
-use Rattle.std.specs.Fmt.{digits}
-use Rattle.lz_resp.specs.Commands.{bad_cursor, bad_syntax, item_of, no_key, no_room, no_texts}
-use Rattle.lz_resp.specs.Scans.{page_text}
-use Rattle.lz_resp.specs.declared.item.Item.TheVariants.{Lists, Says}
-use Rattle.lz_resp.specs.declared.naming.Selected.TheVariants.{Room, Nameless}
+use Rattle.std.{proofs.Common.{◌≡◌, ◌≢◌, [], ◌∷◌, Some, None, refl, codes}, specs.Fmt.{digits}}
+use Rattle.lz_resp.specs.{Commands.{bad_cursor, bad_syntax, item_of, no_key, no_room, no_texts}, Scans.{page_text}}
+use Rattle.lz_resp.specs.declared.{item.Item.TheVariants.{Lists, Says}, naming.Selected.TheVariants.{Room, Nameless}}
 
 -- the room is the one that is named, and not the one that is selected
 asked :

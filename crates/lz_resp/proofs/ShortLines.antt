@@ -1,22 +1,13 @@
 -- Lines of one or two digits, and frames of three words that have such lines.
-use Rattle.std.proofs.Common.{◌≡◌, ℕ, suc, ◌+◌, ◌-◌, ◌*◌, ◌/◌, ◌%◌, ◌<◌, ◌≤◌, List, [], ◌∷◌, ◌++◌, length, take, drop, get_or, true, false, nat_lt, decimal, Some, Ok, refl, sym, ap, ◌∙◌, arith, append_assoc}
-use Rattle.std.specs.Prelude.{◌==◌, ◌&&◌}
-use Rattle.std.proofs.Math.Seq.{take-length}
-use Rattle.std.proofs.lemmas.Bool.Decides.{nat_tests}
-use Rattle.std.proofs.lemmas.Fmt.{decimal_digit}
+use Rattle.std.proofs.Common.{◌≡◌, ℕ, suc, ◌+◌, ◌-◌, ◌*◌, ◌/◌, ◌%◌, ◌<◌, ◌≤◌, List, [], ◌∷◌, ◌++◌, length, take, drop, get_or, true, false, nat_lt, decimal}
+use Rattle.std.proofs.{Common.{Some, Ok, refl, sym, ap, ◌∙◌, arith, append_assoc}, Math.Seq.{take-length}, lemmas.Bool.Decides.{nat_tests}}
+use Rattle.std.{proofs.lemmas.Fmt.{decimal_digit}, specs.Prelude.{◌==◌, ◌&&◌}}
 use Rattle.itoa.proofs.Decimal.{decimal_two}
-use Rattle.lz_slot.proofs.Texts.Numerals.{decimal_read}
-use Rattle.lz_slot.proofs.Texts.Spellings.{decimal_lacks}
+use Rattle.lz_slot.proofs.Texts.{Numerals.{decimal_read}, Spellings.{decimal_lacks}}
 use Rattle.lz_proto.specs.Lines.{carriage_return, line_feed}
-use Rattle.lz_resp.specs.Digits.{digit_of}
-use Rattle.lz_resp.specs.Limits.{most_frame}
-use Rattle.lz_resp.specs.Frames.{dollar, line_end}
-use Rattle.lz_resp.specs.Reading.{Front, and_then, bulk_at, end_at, first_of, frame_at, line_at, word_at, word_of, words_at}
-use Rattle.lz_resp.specs.declared.fault.Fault.{Fault}
-use Rattle.lz_resp.specs.declared.fault.Fault.TheVariants.{NoEnd}
-use Rattle.lz_resp.proofs.Fronts.{first_found}
-use Rattle.lz_resp.proofs.LongerTexts.{given}
-use Rattle.lz_resp.proofs.Spellings.{line_read}
+use Rattle.lz_resp.specs.{Digits.{digit_of}, Limits.{most_frame}, Frames.{dollar, line_end}}
+use Rattle.lz_resp.specs.{Reading.{Front, and_then, bulk_at, end_at, first_of, frame_at, line_at, word_at, word_of, words_at}, declared.fault.Fault.{Fault}}
+use Rattle.lz_resp.{specs.declared.fault.Fault.TheVariants.{NoEnd}, proofs.{Fronts.{first_found}, LongerTexts.{given}, Spellings.{line_read}}}
 
 short_line : (fault : Fault) (n : ℕ) (text rest : List ℕ) → n < 100 → text ≡ decimal n ++ line_end ++ rest → line_at fault text ≡ given (decimal n) rest
 short_line fault n text rest low is = grind (arith, decimal, decimal_lacks, append_assoc, line_read)

@@ -1,25 +1,18 @@
 -- What is read is a frame, and each frame is read.
-use Rattle.std.proofs.Common.{◌≡◌, ℕ, zero, suc, ◌-◌, ◌≤◌, inl, inr, List, [], ◌∷◌, ◌++◌, length, take, drop, true, false, nat_eq, nat_lt, nat_le, decimal, codes, Option, Some, None, Ok, Err, refl, sym, ap, subst, ◌∙◌, arith, append_assoc, length-append}
-use Rattle.std.specs.Prelude.{◌==◌, ◌&&◌, option_map, if◌then◌else◌}
+use Rattle.std.proofs.Common.{◌≡◌, ℕ, zero, suc, ◌-◌, ◌≤◌, inl, inr, List, [], ◌∷◌, ◌++◌, length, take, drop, true, false, nat_eq, nat_lt, nat_le, decimal}
+use Rattle.std.proofs.Common.{codes, Option, Some, None, Ok, Err, refl, sym, ap, subst, ◌∙◌, arith, append_assoc, length-append}
+use Rattle.std.proofs.{Math.Seq.{drop-append_seam, take-append_seam}, lemmas.{List.{length-take, take-append-drop}, Bool.{cond_both}}}
+use Rattle.std.{proofs.lemmas.{Bool.Decides.{nat_tests, Decides-eqb}, Slice.Eq.{starts_is}}, specs.Prelude.{◌==◌, ◌&&◌, option_map, if◌then◌else◌}}
 use Rattle.std.specs.List.{flat_map, list_all, list_any, starts_with}
-use Rattle.std.proofs.Math.Seq.{drop-append_seam, take-append_seam}
-use Rattle.std.proofs.lemmas.List.{length-take, take-append-drop}
-use Rattle.std.proofs.lemmas.Bool.{cond_both}
-use Rattle.std.proofs.lemmas.Bool.Decides.{nat_tests, Decides-eqb}
-use Rattle.std.proofs.lemmas.Slice.Eq.{starts_is}
-use Rattle.lz_slot.specs.Numerals.{is_number, largest_read, number_in}
-use Rattle.lz_slot.specs.Texts.{parted}
-use Rattle.lz_slot.proofs.Texts.Cuts.{AreParts, Lacks, parted_clear, parted_whole}
-use Rattle.lz_slot.proofs.Texts.Numerals.{decimal_number, decimal_read, number_told_of}
-use Rattle.lz_slot.proofs.Texts.Spellings.{decimal_lacks}
+use Rattle.lz_slot.{specs.{Numerals.{is_number, largest_read, number_in}, Texts.{parted}}, proofs.Texts.Cuts.{AreParts, Lacks, parted_clear, parted_whole}}
+use Rattle.lz_slot.proofs.Texts.{Numerals.{decimal_number, decimal_read, number_told_of}, Spellings.{decimal_lacks}}
 use Rattle.lz_resp.specs.Limits.{most_frame, most_word, most_words}
-use Rattle.lz_proto.specs.Lines.{carriage_return, line_feed}
-use Rattle.lz_resp.specs.Frames.{IsFrame, IsInline, array, bulk, dollar, fits, is_quote, less_than_none, line_end, star, words_of}
-use Rattle.lz_resp.specs.Reading.{Front, and_then, array_at, array_of, bulk_at, count_of, end_at, first_by, first_of, frame_at, inline_at, inline_of, line_at, line_of, word_at, word_of, words_at}
-use Rattle.lz_resp.specs.Pieces.{FaultsHaveNoFrame, FramesAreRead, FramesAreSpelled}
-use Rattle.lz_resp.specs.declared.fault.Fault.{Fault}
+use Rattle.lz_resp.specs.{Frames.{IsFrame, IsInline, array, bulk, dollar, fits, is_quote, less_than_none, line_end, star, words_of}, Reading.{Front, and_then}}
+use Rattle.lz_resp.specs.Reading.{array_at, array_of, bulk_at, count_of, end_at, first_by, first_of, frame_at, inline_at, inline_of, line_at, line_of, word_at}
+use Rattle.lz_resp.specs.{Reading.{word_of, words_at}, Pieces.{FaultsHaveNoFrame, FramesAreRead, FramesAreSpelled}, declared.fault.Fault.{Fault}}
 use Rattle.lz_resp.specs.declared.fault.Fault.TheVariants.{Count, Length, NoBulk, NoEnd, Quotes, TooLong}
 use Rattle.lz_resp.proofs.LongerTexts.{first_fault, first_told, given, same_read, take_more, then_value}
+use Rattle.lz_proto.specs.Lines.{carriage_return, line_feed}
 
 -- a line that lacks CR is read up to its end
 pub line_read : (fault : Fault) (line tail : List ℕ) → Lacks 13 line → line_at fault (line ++ 13 ∷ 10 ∷ tail) ≡ given line tail

@@ -1,18 +1,10 @@
 -- The items of texts.
-use Rattle.std.proofs.Common.{◌≡◌, ℕ, zero, suc, ◌<◌, ◌≤◌, ◌⊎◌, inl, inr, List, [], ◌∷◌, ◌++◌, length, Option, Some, None, Ok, Err, refl, sym, ap, subst, ◌∙◌, arith, append_assoc}
-use Rattle.std.specs.List.{concat}
-use Rattle.std.proofs.lemmas.List.{append-nil, nil_from_length}
-use Rattle.lz_resp.specs.Limits.{most_frame}
-use Rattle.lz_resp.specs.Reading.{Front, first_of}
-use Rattle.lz_resp.specs.Keys.{at_first}
-use Rattle.lz_resp.specs.Commands.{item_of, selected_after}
-use Rattle.lz_resp.specs.Replies.{fault_text}
-use Rattle.lz_resp.specs.Pieces.{AnyPieces, Feeds, FeedsAll, Items, OneListOfItems, Place, Reads, Step, followed, goes, start, step, step_by, step_of, step_with, stopped, stops, unfinished, waits}
-use Rattle.lz_resp.specs.declared.fault.Fault.{Fault}
-use Rattle.lz_resp.specs.declared.naming.Selected.{Selected}
-use Rattle.lz_resp.specs.declared.item.Item.{Item}
-use Rattle.lz_resp.specs.declared.item.Item.TheVariants.{Asks, Says, Lists, Tells, Ends}
-use Rattle.lz_resp.proofs.LongerTexts.{first_fault, first_value, short_waits}
+use Rattle.std.proofs.Common.{◌≡◌, ℕ, zero, suc, ◌<◌, ◌≤◌, ◌⊎◌, inl, inr, List, [], ◌∷◌, ◌++◌, length, Option, Some, None, Ok, Err, refl, sym, ap, subst, ◌∙◌}
+use Rattle.std.{proofs.{Common.{arith, append_assoc}, lemmas.List.{append-nil, nil_from_length}}, specs.List.{concat}}
+use Rattle.lz_resp.specs.{Limits.{most_frame}, Reading.{Front, first_of}, Keys.{at_first}, Commands.{item_of, selected_after}, Replies.{fault_text}}
+use Rattle.lz_resp.specs.Pieces.{AnyPieces, Feeds, FeedsAll, Items, OneListOfItems, Place, Reads, Step, followed, goes, start, step, step_by, step_of}
+use Rattle.lz_resp.specs.{Pieces.{step_with, stopped, stops, unfinished, waits}, declared.{fault.Fault.{Fault}, naming.Selected.{Selected}, item.Item.{Item}}}
+use Rattle.lz_resp.{specs.declared.item.Item.TheVariants.{Asks, Says, Lists, Tells, Ends}, proofs.LongerTexts.{first_fault, first_value, short_waits}}
 
 by_goes : (item : Item) (selected : Selected) (after more : List ℕ) (items : List Item) (next : Selected) (rest : List ℕ) → step_by item selected after ≡ goes items next rest
     → (step_by item selected (after ++ more) ≡ goes items next (rest ++ more)) × (after ≡ rest)

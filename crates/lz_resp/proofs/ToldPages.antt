@@ -1,17 +1,10 @@
 -- What the service tells of a page is read by a client.
 use Rattle.std.proofs.Common.{◌≡◌, ℕ, ◌≤◌, List, [], ◌∷◌, ◌++◌, length, true, nat_le, decimal, Option, Some, None, refl, sym, ap, ◌∙◌, arith}
-use Rattle.std.specs.Prelude.{IfSome, codes, count_by, filter}
-use Rattle.std.specs.List.{flat_map, list_all}
-use Rattle.std.proofs.lemmas.Bool.{cond_both}
-use Rattle.std.proofs.lemmas.Bool.Decides.{nat_tests}
-use Rattle.std.proofs.lemmas.List.{length-map}
-use Rattle.std.proofs.lemmas.List.Sums.{count_by-le-length, length-filter}
-use Rattle.lz_slot.specs.Limits.{largest_number, most_slots}
-use Rattle.lz_slot.specs.Rooms.{number_of}
-use Rattle.lz_resp.specs.Frames.{line_end}
-use Rattle.lz_resp.specs.Pages.{PagesAreToldAndRead, number_text, numbers_in, page_at, told_text}
-use Rattle.lz_resp.specs.Scans.{cursor_of, is_in, member_text, page_text}
-use Rattle.lz_resp.proofs.PageTexts.{pages_are_read}
+use Rattle.std.proofs.lemmas.{Bool.{cond_both, Decides.{nat_tests}}, List.{length-map, Sums.{count_by-le-length, length-filter}}}
+use Rattle.std.specs.{Prelude.{IfSome, codes, count_by, filter}, List.{flat_map, list_all}}
+use Rattle.lz_slot.specs.{Limits.{largest_number, most_slots}, Rooms.{number_of}}
+use Rattle.lz_resp.specs.{Frames.{line_end}, Pages.{PagesAreToldAndRead, number_text, numbers_in, page_at, told_text}}
+use Rattle.lz_resp.{specs.Scans.{cursor_of, is_in, member_text, page_text}, proofs.PageTexts.{pages_are_read}}
 
 counted : (room : ℕ) (keys : List ℕ) → length (numbers_in room keys) ≡ count_by (is_in room) keys
 counted room keys = length-map (filter (is_in room) keys) number_of ∙ length-filter (is_in room) keys

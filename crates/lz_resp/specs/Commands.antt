@@ -1,27 +1,16 @@
 -- What frames ask for.
-use Rattle.std.specs.Prelude.{ℕ, ◌-◌, ◌+◌, ◌==◌, ◌&&◌, ◌||◌, min, nat_lt, Bool, if◌then◌else◌, List, [], ◌∷◌, ◌++◌, length, take, drop, codes, map, is_some, Option, None, Some, option_map, option_and_then, slice_index_or, unwrap_or}
-use Rattle.std.specs.Char.{to_ascii_uppercase}
-use Rattle.lz_slot.specs.Limits.{most_slots}
-use Rattle.lz_slot.specs.Numerals.{largest_read, number_in}
-use Rattle.lz_proto.specs.declared.request.Request.{Request}
-use Rattle.lz_proto.specs.declared.request.Request.TheVariants.{Add, Remove, Has}
-use Rattle.lz_resp.specs.Limits.{few_listed, most_listed, most_value}
-use Rattle.lz_proto.specs.Lines.{carriage_return, line_feed}
-use Rattle.lz_resp.specs.Frames.{bulk, line_end}
-use Rattle.lz_resp.specs.Keys.{Subset, key_of, of_name, room_of, unnamed}
-use Rattle.lz_resp.specs.Names.{command_of, is_word, name_of, sections_of, subcommand_of, subname_of, subtakes, takes}
-use Rattle.lz_resp.specs.declared.command.Command.{Command}
-use Rattle.lz_resp.specs.declared.command.Command.TheVariants.{Sadd, Srem, Sismember, Smismember, Sscan, Exists, Del, Unlink, Setnx, Set, Select, Ping, Echo, Quit, Reset, Hello, Client, Catalog, Config, Dbsize, Info as AskInfo, Shutdown}
-use Rattle.lz_resp.specs.declared.subcommand.Subcommand.{Subcommand}
-use Rattle.lz_resp.specs.declared.subcommand.Subcommand.TheVariants.{Getname, Setname, Setinfo, NoEvict, NoTouch, Count, Docs, Info, Get}
-use Rattle.lz_resp.specs.declared.form.Form.{Form}
-use Rattle.lz_resp.specs.declared.form.Form.TheVariants.{Added, Removed, Found, Each, Stored}
-use Rattle.lz_resp.specs.declared.naming.Selected.{Selected}
-use Rattle.lz_resp.specs.declared.naming.Selected.TheVariants.{Room, Nameless}
 use Rattle.lz_resp.specs.declared.query.Query.TheVariants as query
-use Rattle.lz_resp.specs.declared.query.Sections.{Sections}
-use Rattle.lz_resp.specs.declared.query.Sections.TheVariants.{All}
-use Rattle.lz_resp.specs.declared.item.Item.{Item}
+use Rattle.std.specs.Prelude.{ℕ, ◌-◌, ◌+◌, ◌==◌, ◌&&◌, ◌||◌, min, nat_lt, Bool, if◌then◌else◌, List, [], ◌∷◌, ◌++◌, length, take, drop, codes, map, is_some}
+use Rattle.std.specs.{Prelude.{Option, None, Some, option_map, option_and_then, slice_index_or, unwrap_or}, Char.{to_ascii_uppercase}}
+use Rattle.lz_slot.specs.{Limits.{most_slots}, Numerals.{largest_read, number_in}}
+use Rattle.lz_proto.specs.{declared.request.Request.{Request, TheVariants.{Add, Remove, Has}}, Lines.{carriage_return, line_feed}}
+use Rattle.lz_resp.specs.{Limits.{few_listed, most_listed, most_value}, Frames.{bulk, line_end}, Keys.{Subset, key_of, of_name, room_of, unnamed}}
+use Rattle.lz_resp.specs.{Names.{command_of, is_word, name_of, sections_of, subcommand_of, subname_of, subtakes, takes}, declared.command.Command.{Command}}
+use Rattle.lz_resp.specs.declared.command.Command.TheVariants.{Sadd, Srem, Sismember, Smismember, Sscan, Exists, Del, Unlink, Setnx, Set, Select, Ping, Echo}
+use Rattle.lz_resp.specs.declared.command.Command.TheVariants.{Quit, Reset, Hello, Client, Catalog, Config, Dbsize, Info as AskInfo, Shutdown}
+use Rattle.lz_resp.specs.declared.subcommand.Subcommand.{Subcommand, TheVariants.{Getname, Setname, Setinfo, NoEvict, NoTouch, Count, Docs, Info, Get}}
+use Rattle.lz_resp.specs.declared.{form.Form.{Form, TheVariants.{Added, Removed, Found, Each, Stored}}, naming.Selected.{Selected}}
+use Rattle.lz_resp.specs.declared.{naming.Selected.TheVariants.{Room, Nameless}, query.Sections.{Sections, TheVariants.{All}}, item.Item.{Item}}
 use Rattle.lz_resp.specs.declared.item.Item.TheVariants.{Asks, Says, Lists, Tells, Ends}
 
 abbrev pub word : List (List ℕ) → ℕ → List ℕ

@@ -1,6 +1,6 @@
 -- The grammar of frames. A text and a word are lists of bytes; a frame has words.
-use Rattle.std.specs.Prelude.{◌≡◌, ◌⊎◌, ℕ, ◌≤◌, Bool, true, false, ◌||◌, ◌&&◌, ◌==◌, nat_eq, nat_lt, nat_le, List, [], ◌∷◌, ◌++◌, length, decimal, codes, filter}
-use Rattle.std.specs.List.{flat_map, list_any, list_all, slice_split, starts_with}
+use Rattle.std.specs.Prelude.{◌≡◌, ◌⊎◌, ℕ, ◌≤◌, Bool, true, false, ◌||◌, ◌&&◌, ◌==◌, nat_eq, nat_lt, nat_le, List, [], ◌∷◌, ◌++◌, length, decimal, codes}
+use Rattle.std.specs.{Prelude.{filter}, List.{flat_map, list_any, list_all, slice_split, starts_with}}
 use Rattle.lz_proto.specs.Lines.{line_feed, carriage_return}
 use Rattle.lz_resp.specs.Limits.{most_frame, most_word, most_words}
 

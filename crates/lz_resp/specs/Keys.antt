@@ -1,17 +1,11 @@
 -- Parts of the set and the keys of their members. A part's name is a room and a member a number, or both are any bytes.
+use Rattle.lz_resp.specs.declared.subset.Subset.TheVariants as borrowed
 use Rattle.std.specs.Prelude.{◌≡◌, ℕ, ◌%◌, ◌≤◌, List, [], ◌++◌, length, Option, Some, option_map}
 use Rattle.byteorder.specs.Endian.{big_bytes, big_number}
 use Rattle.sha2.specs.Sha256.{sha256}
-use Rattle.lz_slot.specs.Limits.{largest_number, last_room, room_size}
-use Rattle.lz_slot.specs.Rooms.{rank}
-use Rattle.lz_slot.specs.Numerals.{number_in}
-use Rattle.lz_resp.specs.Limits.{most_word}
-use Rattle.lz_resp.specs.declared.naming.Naming.{Naming}
-use Rattle.lz_resp.specs.declared.naming.Naming.TheVariants.{Rooms, Texts}
-use Rattle.lz_resp.specs.declared.naming.Selected.{Selected}
-use Rattle.lz_resp.specs.declared.naming.Selected.TheVariants.{Room, Nameless}
+use Rattle.lz_slot.specs.{Limits.{largest_number, last_room, room_size}, Rooms.{rank}, Numerals.{number_in}}
+use Rattle.lz_resp.specs.{Limits.{most_word}, declared.naming.{Naming.{Naming, TheVariants.{Rooms, Texts}}, Selected.{Selected, TheVariants.{Room, Nameless}}}}
 use Rattle.lz_resp.specs.declared.subset.Subset.{Subset as Borrowed}
-use Rattle.lz_resp.specs.declared.subset.Subset.TheVariants as borrowed
 
 -- A part of the set: a room, or what a name stands for in room 0.
 pub data Subset : Type 0 where

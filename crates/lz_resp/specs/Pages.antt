@@ -1,15 +1,9 @@
 -- Pages of a room's members, as a client reads them.
-use Rattle.std.specs.Prelude.{◌≡◌, ℕ, zero, suc, ◌==◌, ◌≤◌, if◌then◌else◌, List, [], ◌∷◌, ◌++◌, nat_le, true, IfSome, codes, decimal, filter, length, map, Option, None, Some, Ok, Err}
-use Rattle.std.specs.List.{flat_map, list_all}
-use Rattle.lz_slot.specs.Limits.{largest_number, most_slots}
-use Rattle.lz_slot.specs.Numerals.{number_in}
-use Rattle.lz_slot.specs.Rooms.{number_of}
-use Rattle.lz_resp.specs.Frames.{bulk, line_end, star}
-use Rattle.lz_resp.specs.Limits.{most_listed, most_words}
-use Rattle.lz_resp.specs.Reading.{Front, and_then, line_at, word_at}
-use Rattle.lz_resp.specs.Scans.{cursor_of, is_in, page_text}
-use Rattle.lz_resp.specs.declared.fault.Fault.{Fault}
-use Rattle.lz_resp.specs.declared.fault.Fault.TheVariants.{Count}
+use Rattle.std.specs.Prelude.{◌≡◌, ℕ, zero, suc, ◌==◌, ◌≤◌, if◌then◌else◌, List, [], ◌∷◌, ◌++◌, nat_le, true, IfSome, codes, decimal, filter, length, map}
+use Rattle.std.specs.{Prelude.{Option, None, Some, Ok, Err}, List.{flat_map, list_all}}
+use Rattle.lz_slot.specs.{Limits.{largest_number, most_slots}, Numerals.{number_in}, Rooms.{number_of}}
+use Rattle.lz_resp.specs.{Frames.{bulk, line_end, star}, Limits.{most_listed, most_words}, Reading.{Front, and_then, line_at, word_at}}
+use Rattle.lz_resp.specs.{Scans.{cursor_of, is_in, page_text}, declared.fault.Fault.{Fault, TheVariants.{Count}}}
 
 -- what asks for the page of a room from this cursor on
 abbrev pub request_text : ℕ → ℕ → List ℕ

@@ -1,18 +1,8 @@
 -- What a text comes to, also when it comes in pieces.
-use Rattle.std.specs.Prelude.{◌≡◌, ℕ, ◌≤◌, ◌<◌, List, [], ◌∷◌, ◌++◌, length, drop, Option, None, Some, IfSome, Ok, Err}
-use Rattle.std.specs.List.{concat}
-use Rattle.lz_resp.specs.Limits.{most_frame}
-use Rattle.lz_resp.specs.Frames.{IsFrame, IsWithin}
-use Rattle.lz_resp.specs.Reading.{Front, first_of}
-use Rattle.lz_resp.specs.Keys.{IsRoom, at_first}
-use Rattle.lz_resp.specs.Commands.{item_of, selected_after}
-use Rattle.lz_resp.specs.Replies.{fault_text}
-use Rattle.lz_resp.specs.declared.naming.Naming.{Naming}
-use Rattle.lz_resp.specs.declared.naming.Selected.{Selected}
-use Rattle.lz_resp.specs.declared.item.Item.{Item}
-use Rattle.lz_resp.specs.declared.item.Item.TheVariants.{Asks, Says, Lists, Tells, Ends}
-use Rattle.lz_resp.specs.declared.fault.Fault.{Fault}
-use Rattle.lz_resp.specs.declared.frames.Next.{Next}
+use Rattle.std.specs.{Prelude.{◌≡◌, ℕ, ◌≤◌, ◌<◌, List, [], ◌∷◌, ◌++◌, length, drop, Option, None, Some, IfSome, Ok, Err}, List.{concat}}
+use Rattle.lz_resp.specs.{Limits.{most_frame}, Frames.{IsFrame, IsWithin}, Reading.{Front, first_of}, Keys.{IsRoom, at_first}}
+use Rattle.lz_resp.specs.{Commands.{item_of, selected_after}, Replies.{fault_text}, declared.{naming.{Naming.{Naming}, Selected.{Selected}}, item.Item.{Item}}}
+use Rattle.lz_resp.specs.declared.{item.Item.TheVariants.{Asks, Says, Lists, Tells, Ends}, fault.Fault.{Fault}, frames.Next.{Next}}
 use Rattle.lz_resp.specs.declared.frames.Next.TheVariants.{Waits, Goes, Stops}
 
 -- What comes first of a text: nothing yet; items after which nothing is read; or items, and what is selected and the text after them.

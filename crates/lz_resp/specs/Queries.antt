@@ -1,13 +1,7 @@
 -- What a service is asked of itself, and what it tells.
-use Rattle.std.specs.Prelude.{ℕ, ◌-◌, ◌==◌, Bool, false, if◌then◌else◌, List, [], ◌∷◌, ◌++◌, length, drop, codes, decimal}
-use Rattle.std.specs.List.{flat_map}
-use Rattle.lz_resp.specs.Commands.{error}
-use Rattle.lz_resp.specs.Frames.{bulk, line_end}
-use Rattle.lz_resp.specs.Replies.{integer}
-use Rattle.lz_resp.specs.declared.figures.Figures.{Figures}
-use Rattle.lz_resp.specs.declared.query.Query.{Query}
-use Rattle.lz_resp.specs.declared.query.Query.TheVariants.{Size, Info, Shutdown}
-use Rattle.lz_resp.specs.declared.query.Sections.{Sections}
+use Rattle.std.specs.{Prelude.{ℕ, ◌-◌, ◌==◌, Bool, false, if◌then◌else◌, List, [], ◌∷◌, ◌++◌, length, drop, codes, decimal}, List.{flat_map}}
+use Rattle.lz_resp.specs.{Commands.{error}, Frames.{bulk, line_end}, Replies.{integer}, declared.{figures.Figures.{Figures}, query.Query.{Query}}}
+use Rattle.lz_resp.specs.declared.query.{Query.TheVariants.{Size, Info, Shutdown}, Sections.{Sections}}
 use Rattle.lz_resp.specs.declared.query.Sections.TheVariants.{All, Server, Clients, Stats, Keyspace, Lazyset, Missing}
 
 -- a line of a name and its number

@@ -1,15 +1,10 @@
 -- What stands at the front of a text: a value and the text after it; nothing yet, where the text may go on; or a fault, however it goes on.
-use Rattle.std.specs.Prelude.{◌≡◌, ℕ, zero, suc, ◌-◌, ◌==◌, ◌&&◌, nat_lt, if◌then◌else◌, List, [], ◌∷◌, length, take, drop, codes, nat_eq, Option, None, Some, option_map, Result, Ok, Err}
-use Rattle.std.specs.List.{list_any, starts_with}
-use Rattle.lz_slot.specs.Numerals.{largest_read, number_in}
-use Rattle.lz_slot.specs.Texts.{parted}
-use Rattle.lz_resp.specs.Limits.{most_frame, most_word, most_words}
+use Rattle.std.specs.Prelude.{◌≡◌, ℕ, zero, suc, ◌-◌, ◌==◌, ◌&&◌, nat_lt, if◌then◌else◌, List, [], ◌∷◌, length, take, drop, codes, nat_eq, Option, None, Some}
+use Rattle.std.specs.{Prelude.{option_map, Result, Ok, Err}, List.{list_any, starts_with}}
+use Rattle.lz_slot.specs.{Numerals.{largest_read, number_in}, Texts.{parted}}
+use Rattle.lz_resp.specs.{Limits.{most_frame, most_word, most_words}, Frames.{star, dollar, is_quote, words_of, fits}, declared.fault.Fault.{Fault}}
+use Rattle.lz_resp.specs.declared.fault.{Fault.TheVariants.{Count, Length, NoBulk, NoEnd, Quotes, TooLong}, Stop.{Stop, TheVariants.{Memory, Faulty}}}
 use Rattle.lz_proto.specs.Lines.{line_feed, carriage_return}
-use Rattle.lz_resp.specs.Frames.{star, dollar, is_quote, words_of, fits}
-use Rattle.lz_resp.specs.declared.fault.Fault.{Fault}
-use Rattle.lz_resp.specs.declared.fault.Fault.TheVariants.{Count, Length, NoBulk, NoEnd, Quotes, TooLong}
-use Rattle.lz_resp.specs.declared.fault.Stop.{Stop}
-use Rattle.lz_resp.specs.declared.fault.Stop.TheVariants.{Memory, Faulty}
 
 abbrev pub Front : Type 0 → Type 0
 Front A = Result (Option (A × List ℕ)) Fault

@@ -1,14 +1,8 @@
 -- The texts of replies.
-use Rattle.std.specs.Prelude.{ℕ, Bool, true, false, ◌==◌, if◌then◌else◌, List, ◌∷◌, ◌++◌, length, codes, decimal, count_by}
-use Rattle.std.specs.List.{flat_map, list_any}
-use Rattle.lz_proto.specs.declared.reply.Reply.{Reply}
-use Rattle.lz_proto.specs.declared.reply.Reply.TheVariants.{Yes, Full, Halted, Worn, OldFile}
-use Rattle.lz_resp.specs.Frames.{line_end}
-use Rattle.lz_resp.specs.Commands.{on_line}
-use Rattle.lz_resp.specs.declared.form.Form.{Form}
-use Rattle.lz_resp.specs.declared.form.Form.TheVariants.{Added, Removed, Found, Each, Stored}
-use Rattle.lz_resp.specs.declared.fault.Fault.{Fault}
-use Rattle.lz_resp.specs.declared.fault.Fault.TheVariants.{Count, Length, NoBulk, NoEnd, Quotes, TooLong}
+use Rattle.std.specs.{Prelude.{ℕ, Bool, true, false, ◌==◌, if◌then◌else◌, List, ◌∷◌, ◌++◌, length, codes, decimal, count_by}, List.{flat_map, list_any}}
+use Rattle.lz_proto.specs.declared.reply.Reply.{Reply, TheVariants.{Yes, Full, Halted, Worn, OldFile}}
+use Rattle.lz_resp.specs.{Frames.{line_end}, Commands.{on_line}, declared.form.Form.{Form, TheVariants.{Added, Removed, Found, Each, Stored}}}
+use Rattle.lz_resp.specs.declared.fault.Fault.{Fault, TheVariants.{Count, Length, NoBulk, NoEnd, Quotes, TooLong}}
 
 abbrev pub is_yes : Reply → Bool
 is_yes Yes = true

@@ -1,8 +1,7 @@
 -- Requests as an item holds them.
 use Rattle.std.specs.Prelude.{List, [], ◌∷◌}
 use Rattle.lz_proto.specs.declared.request.Request.{Request}
-use Rattle.lz_resp.specs.declared.item.Held.{Held}
-use Rattle.lz_resp.specs.declared.item.Held.TheVariants.{One, Many}
+use Rattle.lz_resp.specs.declared.item.Held.{Held, TheVariants.{One, Many}}
 
 -- the requests that are held so
 abbrev pub requests_held : Held → List Request

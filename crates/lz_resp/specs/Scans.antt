@@ -1,6 +1,5 @@
 -- Replies to scans.
-use Rattle.std.specs.Prelude.{ℕ, ◌==◌, Bool, if◌then◌else◌, List, [], ◌++◌, codes, count_by, decimal, Option, unwrap_or}
-use Rattle.std.specs.List.{flat_map}
+use Rattle.std.specs.{Prelude.{ℕ, ◌==◌, Bool, if◌then◌else◌, List, [], ◌++◌, codes, count_by, decimal, Option, unwrap_or}, List.{flat_map}}
 use Rattle.lz_slot.specs.Rooms.{number_of, room_of}
 use Rattle.lz_resp.specs.Frames.{bulk, line_end}
 

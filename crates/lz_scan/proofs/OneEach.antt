@@ -1,19 +1,10 @@
 -- Keys that are told, each kept once.
-use Rattle.std.proofs.Common.{◌≡◌, ◌≢◌, ℕ, suc, ◌+◌, ◌<◌, ◌≤◌, inl, inr, List, [], ◌∷◌, ◌++◌, length, take, get_or, true, false, Option, Some, None, refl, sym, ap, subst, ◌∙◌, arith, append_assoc}
-use Rattle.std.specs.Prelude.{map, nat_eq, ◌||◌, ◌==◌, is_some, MatchOption}
-use Rattle.std.specs.Cmp.{nat_eq_equiv}
+use Rattle.std.proofs.Common.{◌≡◌, ◌≢◌, ℕ, suc, ◌+◌, ◌<◌, ◌≤◌, inl, inr, List, [], ◌∷◌, ◌++◌, length, take, get_or, true, false, Option, Some, None, refl, sym}
+use Rattle.std.proofs.{Common.{ap, subst, ◌∙◌, arith, append_assoc}, Math.Seq.{take-suc}, lemmas.Bool.{eq-eqb, Decides.{nat_tests}}}
+use Rattle.std.proofs.lemmas.{Grind.{common_steps, elements}, List.{map-append, Elements.{All-nil, All-push}, Folds.{list_any-append}}}
+use Rattle.std.{proofs.lemmas.Map.Keys.{IsDistinct-push}, specs.{Prelude.{map, nat_eq, ◌||◌, ◌==◌, is_some, MatchOption}, Cmp.{nat_eq_equiv}}}
 use Rattle.std.specs.List.{IsDistinct, list_any}
-use Rattle.std.proofs.Math.Seq.{take-suc}
-use Rattle.std.proofs.lemmas.Bool.{eq-eqb}
-use Rattle.std.proofs.lemmas.Bool.Decides.{nat_tests}
-use Rattle.std.proofs.lemmas.Grind.{common_steps, elements}
-use Rattle.std.proofs.lemmas.List.{map-append}
-use Rattle.std.proofs.lemmas.List.Elements.{All-nil, All-push}
-use Rattle.std.proofs.lemmas.List.Folds.{list_any-append}
-use Rattle.std.proofs.lemmas.Map.Keys.{IsDistinct-push}
-use Rattle.lz_slot.specs.Limits.{largest_key}
-use Rattle.lz_slot.specs.Rooms.{rank}
-use Rattle.lz_slot.specs.Sets.{members}
+use Rattle.lz_slot.specs.{Limits.{largest_key}, Rooms.{rank}, Sets.{members}}
 use Rattle.lz_scan.specs.Told.{AddsOnce, AreOnce}
 
 pub none_twice : IsDistinct nat_eq []

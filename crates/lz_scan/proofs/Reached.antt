@@ -1,14 +1,9 @@
 -- How far a scan has come.
 use Rattle.std.proofs.Common.{◌≡◌, ℕ, zero, suc, ◌+◌, List, [], ◌++◌, Option, Some, None, refl, sym, subst}
-use Rattle.std.specs.Prelude.{map}
-use Rattle.std.specs.Io.KnownBytes.{Appends, Consumes, prepend_known}
-use Rattle.std.proofs.KnownBytes.{Appends-nil, Appends-trans, Consumes-trans}
+use Rattle.std.{proofs.KnownBytes.{Appends-nil, Appends-trans, Consumes-trans}, specs.{Prelude.{map}, Io.KnownBytes.{Appends, Consumes, prepend_known}}}
 use Rattle.lz_slot.specs.Rooms.{rank}
 use Rattle.lz_resp.specs.Pages.{request_text, told_text}
-use Rattle.lz_scan.specs.Told.{AreOnce}
-use Rattle.lz_scan.specs.Scanning.{GoesTo, IsAt, begins, cursor_after, one_page, one_room}
-use Rattle.lz_scan.proofs.OneEach.{none_told}
-use Rattle.lz_scan.proofs.Unread.{none_kept}
+use Rattle.lz_scan.{specs.{Told.{AreOnce}, Scanning.{GoesTo, IsAt, begins, cursor_after, one_page, one_room}}, proofs.{OneEach.{none_told}, Unread.{none_kept}}}
 
 -- a page more was asked for and told
 pub page_goes : (room cursor next : ℕ) (numbers keys new : List ℕ) (left later written after : Option (List ℕ))

@@ -1,7 +1,6 @@
 -- What of the replies wasn't read.
 use Rattle.std.proofs.Common.{◌≡◌, ℕ, ◌-◌, List, [], ◌++◌, length, drop, Option, Some, None, sym, ap, ◌∙◌, arith, append_assoc, length-append}
-use Rattle.std.proofs.Math.Seq.{drop-append_seam}
-use Rattle.std.specs.Io.KnownBytes.{Consumes, prepend_known}
+use Rattle.std.{proofs.Math.Seq.{drop-append_seam}, specs.Io.KnownBytes.{Consumes, prepend_known}}
 
 -- nothing was kept yet
 pub none_kept : (left : Option (List ℕ)) (kept : List ℕ) → kept ≡ [] → Consumes left (prepend_known kept left) []

@@ -1,11 +1,8 @@
 -- What a scan of all rooms asks and is told, page by page. A text is a list of bytes.
-use Rattle.std.specs.Prelude.{ℕ, zero, suc, ◌+◌, List, [], ◌++◌, map, Option, None, Some}
-use Rattle.std.specs.Io.KnownBytes.{Appends, Consumes, prepend_known}
-use Rattle.lz_slot.specs.Limits.{last_room}
-use Rattle.lz_slot.specs.Rooms.{rank}
+use Rattle.std.specs.{Prelude.{ℕ, zero, suc, ◌+◌, List, [], ◌++◌, map, Option, None, Some}, Io.KnownBytes.{Appends, Consumes, prepend_known}}
+use Rattle.lz_slot.specs.{Limits.{last_room}, Rooms.{rank}}
 use Rattle.lz_resp.specs.Pages.{request_text, told_text}
-use Rattle.lz_scan.specs.Told.{AreOnce}
-use Rattle.lz_scan.specs.declared.replies.Replies.{Replies}
+use Rattle.lz_scan.specs.{Told.{AreOnce}, declared.replies.Replies.{Replies}}
 
 -- the cursor to go on with after a page that told this one: none at the end of a room
 abbrev pub cursor_after : ℕ → Option ℕ

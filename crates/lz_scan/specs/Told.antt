@@ -1,8 +1,6 @@
 -- Keys that are told, perhaps twice, and kept once.
-use Rattle.std.specs.Prelude.{◌≡◌, ◌≤◌, ◌⊎◌, ℕ, List, [], ◌∷◌, ◌++◌, All, true, false, nat_eq}
-use Rattle.std.specs.List.{IsDistinct}
-use Rattle.lz_slot.specs.Limits.{largest_key}
-use Rattle.lz_slot.specs.Sets.{Same, members}
+use Rattle.std.specs.{Prelude.{◌≡◌, ◌≤◌, ◌⊎◌, ℕ, List, [], ◌∷◌, ◌++◌, All, true, false, nat_eq}, List.{IsDistinct}}
+use Rattle.lz_slot.specs.{Limits.{largest_key}, Sets.{Same, members}}
 
 -- the keys are those that were told, each of them once
 pub record AreOnce (told keys : List ℕ) : Type 0 where

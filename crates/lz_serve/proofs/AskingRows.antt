@@ -1,32 +1,18 @@
 -- Worked rows of what a pass of a loop is about, most of which must not hold.
-use Rattle.std.proofs.Common.{◌≡◌, ◌≢◌, ◌↔◌, ◌&&◌, inl, inr, ℕ, zero, suc, Bool, true, false, List, [], ◌∷◌, IsSomeAnd, IsTrue, Option, Some, None, Result, Ok, Err, refl, sym, ap, ◌∙◌, subst, arith, lit<}
-use Rattle.std.proofs.lemmas.List.Elements.{All-cons, All-nil}
-use mathlib.Core.Bool.{true≢false}
 use Rattle.lz_slot.specs.declared.command.Command.TheVariants as command
-use Rattle.lz_slot.specs.declared.format.Format.{Format}
-use Rattle.lz_machine.specs.Orders.{Calling}
-use Rattle.lz_machine.specs.Yards.{Yard}
-use Rattle.lz_proto.specs.declared.request.Request.TheVariants.{Add, Has, Quit}
-use Rattle.lz_proto.specs.declared.reply.Reply.{Reply}
-use Rattle.lz_proto.specs.declared.reply.Reply.TheVariants.{Yes, Full}
-use Rattle.lz_board.specs.declared.pass.Pass.{Pass}
-use Rattle.lz_board.specs.declared.view.Part.{Part}
-use Rattle.lz_board.specs.Seats.{BoardId}
-use Rattle.lz_set.specs.declared.fault.Fault.{Fault}
 use Rattle.lz_set.specs.declared.fault.Fault.TheVariants as fault
-use Rattle.lz_set.specs.declared.underway.Stage.{Stage}
-use Rattle.lz_set.specs.declared.underway.Stage.TheVariants.{Answers}
-use Rattle.lz_set.specs.Stages.{StandsBefore}
-use Rattle.lz_serve.specs.Clients.{Askers, AwaitsBeforeAt}
-use Rattle.lz_serve.specs.Desks.{AnswersOneOf}
-use Rattle.lz_serve.specs.Grants.{Posed}
-use Rattle.lz_serve.specs.Halts.{SawHalt}
-use Rattle.lz_serve.specs.Lines.{awaited, replied as has_reply}
-use Rattle.lz_serve.specs.Replies.{AreAskedAgain, IsCallAnswered, command_of, told_of}
-use Rattle.lz_serve.proofs.Seats.{alone_once, told_full}
-use Rattle.lz_serve.specs.Askings.{AnswersNoOther, Asked, HasAnswered, IsAnsweredWith, IsAnswering, IsAsking, IsCounting, IsMadeAgain, IsSameQuestion, IsStopped, StillAwaits, WaitsForSlots}
-use Rattle.lz_serve.specs.declared.line.Line.{Line}
-use Rattle.lz_serve.proofs.Askings.{resting}
+use Rattle.std.proofs.Common.{◌≡◌, ◌≢◌, ◌↔◌, ◌&&◌, inl, inr, ℕ, zero, suc, Bool, true, false, List, [], ◌∷◌, IsSomeAnd, IsTrue, Option, Some, None, Result, Ok}
+use Rattle.std.proofs.{Common.{Err, refl, sym, ap, ◌∙◌, subst, arith, lit<}, lemmas.List.Elements.{All-cons, All-nil}}
+use mathlib.Core.Bool.{true≢false}
+use Rattle.lz_slot.specs.declared.format.Format.{Format}
+use Rattle.lz_machine.specs.{Orders.{Calling}, Yards.{Yard}}
+use Rattle.lz_proto.specs.declared.{request.Request.TheVariants.{Add, Has, Quit}, reply.Reply.{Reply, TheVariants.{Yes, Full}}}
+use Rattle.lz_board.specs.{declared.{pass.Pass.{Pass}, view.Part.{Part}}, Seats.{BoardId}}
+use Rattle.lz_set.specs.{declared.{fault.Fault.{Fault}, underway.Stage.{Stage, TheVariants.{Answers}}}, Stages.{StandsBefore}}
+use Rattle.lz_serve.specs.{Clients.{Askers, AwaitsBeforeAt}, Desks.{AnswersOneOf}, Grants.{Posed}, Halts.{SawHalt}, Lines.{awaited, replied as has_reply}}
+use Rattle.lz_serve.specs.{Replies.{AreAskedAgain, IsCallAnswered, command_of, told_of}, Askings.{AnswersNoOther, Asked, HasAnswered, IsAnsweredWith}}
+use Rattle.lz_serve.specs.Askings.{IsAnswering, IsAsking, IsCounting, IsMadeAgain, IsSameQuestion, IsStopped, StillAwaits, WaitsForSlots}
+use Rattle.lz_serve.{specs.declared.line.Line.{Line}, proofs.{Seats.{alone_once, told_full}, Askings.{resting}}}
 use Rattle.lz_serve.proofs.ClientRows.{asks, before_the_first_line, before_the_second, posed, two}
 use Rattle.lz_serve.proofs.ReplyRows.{never_full, silent_again, silent_alone, silent_at_last, silent_beside_a_removal, silent_while_one_waits}
 

@@ -1,26 +1,16 @@
 -- A pass of a loop that answers a request: how its call is played on, and its reply.
-use Rattle.std.proofs.Common.{◌≡◌, ◌+◌, ◌&&◌, ◌↔◌, ℕ, true, false, if◌then◌else◌, inl, inr, List, Result, Bool, IfSome, IsSomeAnd, IsTrue, Option, Some, None, refl, sym, ap, ◌∙◌, subst}
-use Rattle.lz_slot.specs.declared.command.Command.{Command}
-use Rattle.lz_slot.specs.declared.format.Format.{Format}
+use Rattle.std.proofs.Common.{◌≡◌, ◌+◌, ◌&&◌, ◌↔◌, ℕ, true, false, if◌then◌else◌, inl, inr, List, Result, Bool, IfSome, IsSomeAnd, IsTrue, Option, Some, None}
+use Rattle.std.proofs.Common.{refl, sym, ap, ◌∙◌, subst}
+use Rattle.lz_slot.specs.declared.{command.Command.{Command}, format.Format.{Format}}
 use Rattle.lz_machine.specs.Orders.{Calling}
-use Rattle.lz_proto.specs.declared.request.Request.{Request}
-use Rattle.lz_proto.specs.declared.reply.Reply.{Reply}
-use Rattle.lz_board.specs.declared.pass.Pass.{Pass}
-use Rattle.lz_board.specs.declared.view.Part.{Part}
-use Rattle.lz_board.specs.Seats.{BoardId, IsOf, part}
-use Rattle.lz_tie.specs.Answers.{Answers}
-use Rattle.lz_tie.specs.Counting.{Counts, CountsOn}
-use Rattle.lz_tie.specs.OneCaller.{IsPlainAnswer, keys_in}
-use Rattle.lz_set.specs.declared.fault.Fault.{Fault}
-use Rattle.lz_set.specs.Answers.{reply_of}
-use Rattle.lz_set.specs.Names.{MayCall}
-use Rattle.lz_serve.specs.Halts.{IsCalmAfter}
-use Rattle.lz_serve.specs.Replies.{AreAskedAgain, SeatAnswers, asks_again, client_reply, says_halted, told_of}
+use Rattle.lz_proto.specs.declared.{request.Request.{Request}, reply.Reply.{Reply}}
+use Rattle.lz_board.specs.{declared.{pass.Pass.{Pass}, view.Part.{Part}}, Seats.{BoardId, IsOf, part}}
+use Rattle.lz_tie.specs.{Answers.{Answers}, Counting.{Counts, CountsOn}, OneCaller.{IsPlainAnswer, keys_in}}
+use Rattle.lz_set.specs.{declared.fault.Fault.{Fault}, Answers.{reply_of}, Names.{MayCall}}
+use Rattle.lz_serve.specs.{Halts.{IsCalmAfter}, Replies.{AreAskedAgain, SeatAnswers, asks_again, client_reply, says_halted, told_of}}
+use Rattle.lz_serve.specs.{Clients.{Askers, AwaitsBeforeAt, IsHeardAt}, Grants.{Posed}, Askings.{Asked, HasAnswered, IsAnsweredAt, IsAnsweredWith, IsAnswering}}
+use Rattle.lz_serve.specs.{Askings.{IsCounting, IsMadeAgain, IsResting, IsSameQuestion, RestsOrAnswers}, Desks.{GoesAnew, IsReplied}}
 use Rattle.lz_serve.proofs.Seats.{AskedUpTo, one_more, saw_now, stays_calm}
-use Rattle.lz_serve.specs.Clients.{Askers, AwaitsBeforeAt, IsHeardAt}
-use Rattle.lz_serve.specs.Grants.{Posed}
-use Rattle.lz_serve.specs.Askings.{Asked, HasAnswered, IsAnsweredAt, IsAnsweredWith, IsAnswering, IsCounting, IsMadeAgain, IsResting, IsSameQuestion, RestsOrAnswers}
-use Rattle.lz_serve.specs.Desks.{GoesAnew, IsReplied}
 
 module _ (b : BoardId) (F : Format) (given : List Part) where
   -- what answers a question doesn't rest

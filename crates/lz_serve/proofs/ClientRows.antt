@@ -1,18 +1,11 @@
 -- Worked rows of clients and their questions, most of which must not hold.
 use Rattle.std.proofs.Common.{◌≡◌, ◌≢◌, ◌++◌, ℕ, false, All, List, [], ◌∷◌, Some, None, refl, ap, subst, arith, lit<, lit≤}
 use Rattle.std.proofs.lemmas.List.Elements.{All-head, All-nil}
-use Rattle.lz_list.specs.Traces.{Begins, Trace}
-use Rattle.lz_list.specs.declared.publishing.Publishing.{Publishing}
-use Rattle.lz_proto.specs.declared.request.Request.{Request}
-use Rattle.lz_proto.specs.declared.request.Request.TheVariants.{Add, Has}
-use Rattle.lz_proto.specs.declared.end.End.TheVariants.{Done}
-use Rattle.lz_proto.specs.declared.reply.Reply.TheVariants.{Yes}
+use Rattle.lz_list.specs.{Traces.{Begins, Trace}, declared.publishing.Publishing.{Publishing}}
+use Rattle.lz_proto.specs.declared.{request.Request.{Request, TheVariants.{Add, Has}}, end.End.TheVariants.{Done}, reply.Reply.TheVariants.{Yes}}
 use Rattle.lz_board.specs.declared.pass.Pass.{Pass}
 use Rattle.lz_serve.specs.Clients.{Asker, Askers, AwaitsBefore, HasLine, HasNoneAt, HasRepliedBefore, HasSeenIn, IsAwaited, IsHeard, IsOwn, TakesTurn}
-use Rattle.lz_serve.specs.declared.line.Line.{Line}
-use Rattle.lz_serve.specs.Grants.{Posed, key_asked}
-use Rattle.lz_serve.specs.Lines.{awaited, replied}
-use Rattle.lz_serve.specs.Queues.{queued}
+use Rattle.lz_serve.specs.{declared.line.Line.{Line}, Grants.{Posed, key_asked}, Lines.{awaited, replied}, Queues.{queued}}
 use Rattle.lz_serve.proofs.LinesUnderWay.{noted_heard}
 
 -- a client of connection 1 whose first line, for key 5, was put to this pass, and the question of such a line

@@ -1,39 +1,20 @@
 -- Worked conversations.
-use Rattle.std.specs.Prelude.{⊤}
-use Rattle.std.proofs.Common.{◌≡◌, inl, inr, ℕ, List, [], ◌∷◌, ◌++◌, ◌+◌, suc, length, Option, Some, None, false, refl, sym, ap, subst, ◌∙◌, arith, codes, length-append}
-use Rattle.std.proofs.lemmas.List.{append-nil, nil_from_length}
-use Rattle.std.specs.Fmt.{digits}
-use Rattle.lz_proto.specs.declared.request.Request.{Request}
-use Rattle.lz_proto.specs.declared.request.Request.TheVariants.{Add, Has, Quit}
-use Rattle.lz_proto.specs.declared.fault.Bad.TheVariants.{NoNumber}
-use Rattle.lz_proto.specs.declared.item.Item.{Item}
-use Rattle.lz_proto.specs.declared.item.Item.TheVariants.{Asks, Faulty}
-use Rattle.lz_proto.specs.declared.reply.Reply.{Reply}
-use Rattle.lz_proto.specs.declared.reply.Reply.TheVariants.{Yes, No, Full, Halted, Worn, OldFile}
-use Rattle.lz_proto.specs.declared.end.End.{End}
 use Rattle.lz_proto.specs.declared.end.End.TheVariants as ends
-use Rattle.lz_proto.specs.Lines.{line, nothing}
-use Rattle.lz_proto.specs.Pieces.{Reads}
-use Rattle.lz_proto.specs.Sessions.{Serves, session_text}
-use Rattle.lz_proto.proofs.LineReads.{item_read}
+use Rattle.lz_serve.specs.declared.reader.Reader.TheVariants as reader
+use Rattle.lz_serve.specs.declared.turn.Wording.TheVariants as wording
+use Rattle.lz_serve.specs.Exchanges as exchange
+use Rattle.std.{specs.{Prelude.{⊤}, Fmt.{digits}}, proofs.Common.{◌≡◌, inl, inr, ℕ, List, [], ◌∷◌, ◌++◌, ◌+◌, suc, length, Option, Some, None, false, refl}}
+use Rattle.std.proofs.{Common.{sym, ap, subst, ◌∙◌, arith, codes, length-append}, lemmas.List.{append-nil, nil_from_length}}
+use Rattle.lz_proto.specs.declared.{request.Request.{Request, TheVariants.{Add, Has, Quit}}, fault.Bad.TheVariants.{NoNumber}, item.Item.{Item}}
+use Rattle.lz_proto.specs.declared.{item.Item.TheVariants.{Asks, Faulty}, reply.Reply.{Reply, TheVariants.{Yes, No, Full, Halted, Worn, OldFile}}}
+use Rattle.lz_proto.{specs.{declared.end.End.{End}, Lines.{line, nothing}, Pieces.{Reads}, Sessions.{Serves, session_text}}, proofs.LineReads.{item_read}}
 use Rattle.lz_proto.proofs.Texts.{only}
 use Rattle.lz_board.specs.declared.pass.Pass.{Pass}
-use Rattle.lz_serve.specs.declared.line.Line.{Line}
-use Rattle.lz_serve.specs.Grants.{Grant, IsOfLine, key_asked}
-use Rattle.lz_serve.specs.Lines.{IsFree, awaited}
-use Rattle.lz_serve.specs.Listings.{Listing}
-use Rattle.lz_resp.specs.declared.form.Form.TheVariants.{Added}
-use Rattle.lz_resp.specs.declared.naming.Naming.{Naming}
-use Rattle.lz_serve.specs.declared.language.Language.TheVariants.{Lines, Frames}
-use Rattle.lz_serve.specs.declared.reader.Reader.TheVariants as reader
-use Rattle.lz_serve.specs.declared.turn.Turn.{Turn}
-use Rattle.lz_serve.specs.declared.turn.Turn.TheVariants.{Asks as asks, Says as says}
-use Rattle.lz_serve.specs.declared.turn.Wording.TheVariants as wording
-use Rattle.lz_serve.specs.Exchanges.{CameFrom, Exchange}
-use Rattle.lz_serve.specs.Exchanges as exchange
-use Rattle.lz_serve.specs.Conversations.{AreTold, IsAt, IsTold, Rests, Talk, more, nothing as none_told}
-use Rattle.lz_serve.specs.LineSessions.{IsGranted, IsSession}
+use Rattle.lz_serve.specs.declared.{line.Line.{Line}, language.Language.TheVariants.{Lines, Frames}, turn.Turn.{Turn, TheVariants.{Asks as asks, Says as says}}}
+use Rattle.lz_serve.specs.{Grants.{Grant, IsOfLine, key_asked}, Lines.{IsFree, awaited}, Listings.{Listing}, Exchanges.{CameFrom, Exchange}}
+use Rattle.lz_serve.specs.{Conversations.{AreTold, IsAt, IsTold, Rests, Talk, more, nothing as none_told}, LineSessions.{IsGranted, IsSession}}
 use Rattle.lz_serve.proofs.LineSessions.{lines_are_sessions}
+use Rattle.lz_resp.specs.declared.{form.Form.TheVariants.{Added}, naming.Naming.{Naming}}
 
 -- whatever is so of pages
 abbrev pub any : Listing → Type 0

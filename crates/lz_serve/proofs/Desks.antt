@@ -1,11 +1,9 @@
 -- A desk after each step.
-use Rattle.std.proofs.Common.{◌≡◌, ◌≤◌, ◌<◌, ◌+◌, ◌-◌, ◌≢◌, ◌↔◌, ℕ, All, List, [], ◌∷◌, ◌++◌, Option, Some, None, IfSome, length, map, option_map, option_to_list, set, slice_index_or, refl, sym, ap, ◌∙◌, subst, arith, length-append, length-set}
-use Rattle.std.proofs.lemmas.List.{append-nil, length-map}
-use Rattle.std.proofs.lemmas.List.Elements.{All-cons, All-head, All-nil, All-set, All-tail}
+use Rattle.std.proofs.Common.{◌≡◌, ◌≤◌, ◌<◌, ◌+◌, ◌-◌, ◌≢◌, ◌↔◌, ℕ, All, List, [], ◌∷◌, ◌++◌, Option, Some, None, IfSome, length, map, option_map}
+use Rattle.std.proofs.Common.{option_to_list, set, slice_index_or, refl, sym, ap, ◌∙◌, subst, arith, length-append, length-set}
+use Rattle.std.proofs.lemmas.List.{append-nil, length-map, Elements.{All-cons, All-head, All-nil, All-set, All-tail}}
 use Rattle.lz_list.specs.Traces.{Trace}
-use Rattle.lz_serve.specs.Askings.{Asked}
-use Rattle.lz_serve.specs.Clients.{Askers, HaveSeenIn, KeepsAwaited}
-use Rattle.lz_serve.specs.Desks.{AreJoined, IsCalled, IsDesk, Knows, count_of}
+use Rattle.lz_serve.specs.{Askings.{Asked}, Clients.{Askers, HaveSeenIn, KeepsAwaited}, Desks.{AreJoined, IsCalled, IsDesk, Knows, count_of}}
 use Rattle.lz_serve.proofs.Joins.{all_none, called_same, first_met, joined_answered, joined_back, joined_begun, joined_rested, joined_taken}
 
 -- a desk, whose passes are known by what they have seen

@@ -1,8 +1,7 @@
 -- Exchanges after others.
 use Rattle.std.proofs.Common.{◌≡◌, List, [], ◌∷◌, ◌++◌, map, refl, sym, ap, ◌∙◌, append_assoc}
 use Rattle.lz_proto.specs.declared.request.Request.{Request}
-use Rattle.lz_serve.specs.declared.turn.Turn.{Turn}
-use Rattle.lz_serve.specs.Exchanges.{Exchange, Pending, adding, asks, ends, lists, requests_in, says, tells, turn_of}
+use Rattle.lz_serve.specs.{declared.turn.Turn.{Turn}, Exchanges.{Exchange, Pending, adding, asks, ends, lists, requests_in, says, tells, turn_of}}
 
 pub map_more : {A B : Type 0} (f : A → B) (xs ys : List A) → map f (xs ++ ys) ≡ map f xs ++ map f ys
 map_more f [] ys = refl

@@ -2,14 +2,9 @@
 use Rattle.std.proofs.Common.{◌≡◌, false, List, sym, subst}
 use Rattle.lz_slot.specs.declared.format.Format.{Format}
 use Rattle.lz_list.specs.Traces.{Begins}
-use Rattle.lz_board.specs.declared.pass.Pass.{Pass}
-use Rattle.lz_board.specs.declared.view.Part.{Part}
-use Rattle.lz_board.specs.Seats.{BoardId, part}
+use Rattle.lz_board.specs.{declared.{pass.Pass.{Pass}, view.Part.{Part}}, Seats.{BoardId, part}}
 use Rattle.lz_set.specs.Names.{MayCall}
-use Rattle.lz_serve.specs.Grants.{Grant, IsGrant}
-use Rattle.lz_serve.specs.Halts.{IsCalm, IsCalmAfter, SawHalt}
-use Rattle.lz_serve.specs.Replies.{says_halted}
-use Rattle.lz_serve.proofs.Seats.{grows, saw_before, stays_calm}
+use Rattle.lz_serve.{specs.{Grants.{Grant, IsGrant}, Halts.{IsCalm, IsCalmAfter, SawHalt}, Replies.{says_halted}}, proofs.Seats.{grows, saw_before, stays_calm}}
 
 -- This pass was given, has answered, and is handed back.
 module _ (b : BoardId) (F : Format) (given back : Pass) (g : Grant) (is : IsGrant b F g) (from : g.question.before ≡ given) (to : g.after ≡ back) where

@@ -1,19 +1,10 @@
 -- Worked rows of what a pass's calls were told, computed on small cases.
-use Rattle.std.proofs.Common.{◌≡◌, true, false, List, [], ◌∷◌, Some, None, refl, arith}
+use Rattle.std.proofs.{Common.{◌≡◌, true, false, List, [], ◌∷◌, Some, None, refl, arith}, lemmas.List.Elements.{All-from_recursion}}
 use mathlib.Core.Bool.{true≢false}
-use Rattle.std.proofs.lemmas.List.Elements.{All-from_recursion}
-use Rattle.lz_slot.specs.declared.command.Command.TheVariants.{Add, Has}
-use Rattle.lz_slot.specs.declared.format.Format.TheVariants.{Two}
-use Rattle.lz_list.specs.declared.word.Word.TheVariants.{Head, Link, Key, Halt}
-use Rattle.lz_list.specs.Traces.{opening}
-use Rattle.lz_machine.specs.declared.event.Event.TheVariants.{Pin, Answer}
-use Rattle.lz_machine.specs.declared.event.Outcome.TheVariants.{Done}
-use Rattle.lz_machine.specs.declared.event.Reply.TheVariants.{Yes, Halted, Device}
-use Rattle.lz_board.specs.declared.view.Note.{Note}
-use Rattle.lz_board.specs.declared.view.Part.{Part}
-use Rattle.lz_list.specs.declared.layout.Sizes.{Sizes}
-use Rattle.lz_board.specs.declared.view.What.TheVariants.{Called, Played}
-use Rattle.lz_board.specs.Notes.{note_by, load_note, shape_of_sizes}
+use Rattle.lz_slot.specs.declared.{command.Command.TheVariants.{Add, Has}, format.Format.TheVariants.{Two}}
+use Rattle.lz_list.specs.{declared.{word.Word.TheVariants.{Head, Link, Key, Halt}, layout.Sizes.{Sizes}}, Traces.{opening}}
+use Rattle.lz_machine.specs.declared.event.{Event.TheVariants.{Pin, Answer}, Outcome.TheVariants.{Done}, Reply.TheVariants.{Yes, Halted, Device}}
+use Rattle.lz_board.specs.{declared.view.{Note.{Note}, Part.{Part}, What.TheVariants.{Called, Played}}, Notes.{note_by, load_note, shape_of_sizes}}
 use Rattle.lz_board.specs.Plays.{fresh}
 use Rattle.lz_tie.specs.OwnCalls.{told}
 use Rattle.lz_serve.specs.Halts.{IsCalm, was_cut}

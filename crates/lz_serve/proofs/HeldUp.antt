@@ -1,14 +1,9 @@
 -- A conversation whose first request is held up stays so, whatever comes behind it.
-use Rattle.std.proofs.Common.{◌≡◌, ◌≢◌, ◌+◌, ◌++◌, inl, inr, ℕ, Bool, true, false, List, [], ◌∷◌, drop, length, refl, sym, ap, ◌∙◌, subst}
-use Rattle.lz_proto.specs.declared.request.Request.{Request}
-use Rattle.lz_proto.specs.declared.end.End.TheVariants.{Done}
-use Rattle.lz_serve.specs.declared.line.Line.{Line}
-use Rattle.lz_serve.specs.declared.turn.Turn.{Turn}
 use Rattle.lz_serve.specs.declared.turn.Turn.TheVariants as turn
-use Rattle.lz_serve.specs.Conversations.{IsHeldUp, Paged, Rests, Talk, Told}
-use Rattle.lz_serve.specs.Grants.{key_asked}
-use Rattle.lz_serve.specs.Lines.{IsFree}
-use Rattle.lz_serve.specs.Listings.{Listing}
+use Rattle.std.proofs.Common.{◌≡◌, ◌≢◌, ◌+◌, ◌++◌, inl, inr, ℕ, Bool, true, false, List, [], ◌∷◌, drop, length, refl, sym, ap, ◌∙◌, subst}
+use Rattle.lz_proto.specs.declared.{request.Request.{Request}, end.End.TheVariants.{Done}}
+use Rattle.lz_serve.specs.{declared.{line.Line.{Line}, turn.Turn.{Turn}}, Conversations.{IsHeldUp, Paged, Rests, Talk, Told}, Grants.{key_asked}}
+use Rattle.lz_serve.specs.{Lines.{IsFree}, Listings.{Listing}}
 
 more_behind : (request : Request) (old more : List Request) → old ≡ request ∷ drop 1 old → old ++ more ≡ request ∷ drop 1 (old ++ more)
 more_behind request [] more is = absurd (cc)

@@ -1,12 +1,9 @@
 -- Grants in turn: what a loop and a thread's session promise, and worked rows of it.
-use Rattle.std.proofs.Common.{◌≡◌, List, [], ◌∷◌, ◌++◌, subst}
-use Rattle.std.proofs.lemmas.List.Elements.{All-head, All-nil, All-push, All-tail}
+use Rattle.std.proofs.{Common.{◌≡◌, List, [], ◌∷◌, ◌++◌, subst}, lemmas.List.Elements.{All-head, All-nil, All-push, All-tail}}
 use Rattle.lz_slot.specs.declared.format.Format.{Format}
-use Rattle.lz_list.specs.Traces.{Begins, Trace}
-use Rattle.lz_list.specs.declared.publishing.Publishing.{Publishing}
+use Rattle.lz_list.specs.{Traces.{Begins, Trace}, declared.publishing.Publishing.{Publishing}}
 use Rattle.lz_board.specs.Seats.{BoardId, part}
-use Rattle.lz_serve.specs.Grants.{AreGranted, AreInTurn, Grant, IsAfter, IsGrant, IsLater, Promises, key_asked}
-use Rattle.lz_serve.specs.Listings.{IsListing}
+use Rattle.lz_serve.specs.{Grants.{AreGranted, AreInTurn, Grant, IsAfter, IsGrant, IsLater, Promises, key_asked}, Listings.{IsListing}}
 
 -- grants in turn, and one that comes after them
 pub in_turn_more : (grants : List Grant) (g : Grant) → AreInTurn grants → IsLater grants g → AreInTurn (grants ++ g ∷ [])

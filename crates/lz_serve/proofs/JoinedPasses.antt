@@ -1,12 +1,8 @@
 -- Passes that threads hand back, one after the other.
 use Rattle.std.proofs.Common.{◌≡◌, ◌⊎◌, ⊎_elim, Bool, true, false, ◌||◌, All, ℕ, ◌<◌, List, [], ◌∷◌, ◌++◌, map, refl, sym, subst, append_assoc, arith}
+use Rattle.std.proofs.lemmas.List.{get_or-map, get_or_append_left, length-append, length-map, Elements.{All-append}, Quantifiers.{Any-push}}
 use Rattle.std.specs.List.{Any, list_any}
-use Rattle.std.proofs.lemmas.List.{get_or-map, get_or_append_left, length-append, length-map}
-use Rattle.std.proofs.lemmas.List.Elements.{All-append}
-use Rattle.std.proofs.lemmas.List.Quantifiers.{Any-push}
-use Rattle.lz_board.specs.declared.pass.Pass.{Pass}
-use Rattle.lz_board.specs.declared.view.Part.{Part}
-use Rattle.lz_board.specs.Seats.{part}
+use Rattle.lz_board.specs.{declared.{pass.Pass.{Pass}, view.Part.{Part}}, Seats.{part}}
 
 module _ {X : Type 0} (P : X → Type 0) (xs ys : List X) (x : X) (pushed : ys ≡ xs ++ x ∷ []) where
   -- what holds of each still does

@@ -1,17 +1,12 @@
 -- The calls and the passes of a loop, joined to its clients, after each step.
-use Rattle.std.proofs.Common.{◌≡◌, ◌≤◌, ◌||◌, Bool, ◌<◌, ◌+◌, ◌-◌, ◌≢◌, ◌⊎◌, inl, inr, ℕ, zero, suc, All, List, [], ◌∷◌, ◌++◌, Option, Some, None, IfSome, length, eqb, true, false, option_to_list, set, slice_index_or, refl, sym, ap, ◌∙◌, subst, arith, get_or-set_other, length-append, length-set}
-use Rattle.std.specs.List.{Any}
-use Rattle.std.proofs.lemmas.Bool.Decides.{eqb_tells}
-use Rattle.std.proofs.lemmas.List.{get_or_default}
-use Rattle.std.proofs.lemmas.List.Elements.{All-cons, All-head, All-nil, All-push, All-set, All-tail, All-weaker}
-use Rattle.lz_list.specs.Traces.{Trace, Begins}
-use Rattle.lz_list.proofs.Traces.WalkEnd.{begins_before}
+use Rattle.std.proofs.Common.{◌≡◌, ◌≤◌, ◌||◌, Bool, ◌<◌, ◌+◌, ◌-◌, ◌≢◌, ◌⊎◌, inl, inr, ℕ, zero, suc, All, List, [], ◌∷◌, ◌++◌, Option, Some, None, IfSome}
+use Rattle.std.proofs.Common.{length, eqb, true, false, option_to_list, set, slice_index_or, refl, sym, ap, ◌∙◌, subst, arith, get_or-set_other, length-append}
+use Rattle.std.proofs.{Common.{length-set}, lemmas.{Bool.Decides.{eqb_tells}, List.{get_or_default}}}
+use Rattle.std.{proofs.lemmas.List.Elements.{All-cons, All-head, All-nil, All-push, All-set, All-tail, All-weaker}, specs.List.{Any}}
+use Rattle.lz_list.{specs.Traces.{Trace, Begins}, proofs.Traces.WalkEnd.{begins_before}}
 use Rattle.lz_board.specs.Seats.{part}
-use Rattle.lz_serve.specs.Askings.{AnswersNoOther, Asked}
-use Rattle.lz_serve.specs.Clients.{Asker, Askers, HasSeenIn, HaveSeenIn, KeepsAwaited}
-use Rattle.lz_serve.specs.Desks.{AnswersOneOf, AreJoined, IsCalled, Knows, count_of}
-use Rattle.lz_serve.specs.Grants.{Posed}
-use Rattle.lz_serve.proofs.Crowds.{from_nothing}
+use Rattle.lz_serve.specs.{Askings.{AnswersNoOther, Asked}, Clients.{Asker, Askers, HasSeenIn, HaveSeenIn, KeepsAwaited}}
+use Rattle.lz_serve.{specs.{Desks.{AnswersOneOf, AreJoined, IsCalled, Knows, count_of}, Grants.{Posed}}, proofs.Crowds.{from_nothing}}
 
 -- what the clients have seen was seen here too
 pub seen_later : (a : Askers) (old new : Trace) → Begins old new → HaveSeenIn a old → HaveSeenIn a new

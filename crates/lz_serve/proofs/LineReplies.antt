@@ -1,9 +1,8 @@
 -- Requests under way: what they ask, and the replies that they have.
-use Rattle.std.proofs.Common.{◌≡◌, ◌<◌, ◌≤◌, ℕ, zero, suc, List, [], ◌∷◌, ◌++◌, take, length, Option, Some, None, slice_get, slice_set, option_and_then, option_map, refl, sym, ap, arith}
-use Rattle.lz_proto.specs.declared.request.Request.{Request}
-use Rattle.lz_proto.specs.declared.reply.Reply.{Reply}
-use Rattle.lz_serve.specs.declared.line.Line.{Line}
-use Rattle.lz_serve.specs.Lines.{asked_by, awaited, replied, replies_of}
+use Rattle.std.proofs.Common.{◌≡◌, ◌<◌, ◌≤◌, ℕ, zero, suc, List, [], ◌∷◌, ◌++◌, take, length, Option, Some, None, slice_get, slice_set, option_and_then}
+use Rattle.std.proofs.Common.{option_map, refl, sym, ap, arith}
+use Rattle.lz_proto.specs.declared.{request.Request.{Request}, reply.Reply.{Reply}}
+use Rattle.lz_serve.specs.{declared.line.Line.{Line}, Lines.{asked_by, awaited, replied, replies_of}}
 
 pub asked_more : (under more : List Line) → asked_by (under ++ more) ≡ asked_by under ++ asked_by more
 asked_more [] more = refl

@@ -1,28 +1,15 @@
 -- A conversation of lines is a session.
-use Rattle.std.proofs.Common.{◌≡◌, ◌≢◌, ℕ, suc, List, [], ◌∷◌, ◌++◌, length, map, Option, Some, None, refl, sym, ap, subst, ◌∙◌}
-use Rattle.std.proofs.lemmas.List.{append-nil}
-use Rattle.lz_proto.specs.declared.request.Request.{Request}
-use Rattle.lz_proto.specs.declared.request.Request.TheVariants.{Add, Remove, Has, Quit}
-use Rattle.lz_proto.specs.declared.item.Item.{Item}
-use Rattle.lz_proto.specs.declared.item.Item.TheVariants.{Asks, Faulty}
-use Rattle.lz_proto.specs.declared.reply.Reply.{Reply}
 use Rattle.lz_proto.specs.declared.reply.Reply.TheVariants as reply
-use Rattle.lz_proto.specs.declared.end.End.{End}
 use Rattle.lz_proto.specs.declared.end.End.TheVariants as ends
-use Rattle.lz_proto.specs.Sessions.{Answered, reply_text}
-use Rattle.lz_proto.specs.Steps.{end_after}
-use Rattle.lz_proto.proofs.Serving.{answered_more, fault_answered, request_answered}
-use Rattle.lz_serve.specs.declared.language.Language.{Language}
 use Rattle.lz_serve.specs.declared.language.Language.TheVariants as language
-use Rattle.lz_serve.specs.declared.reader.Reader.{Reader}
 use Rattle.lz_serve.specs.declared.reader.Reader.TheVariants as reader
-use Rattle.lz_serve.specs.declared.turn.Wording.TheVariants.{Line}
-use Rattle.lz_serve.specs.declared.turn.Turn.{Turn}
-use Rattle.lz_serve.specs.Exchanges.{CameFrom, Exchange, asks, end_by, of_line, turn_of}
-use Rattle.lz_serve.specs.Conversations.{AreTold, IsTold, more, nothing}
-use Rattle.lz_serve.specs.Grants.{Grant}
-use Rattle.lz_serve.specs.Listings.{Listing}
-use Rattle.lz_serve.specs.LineSessions.{IsGranted, LinesAreSessions, LinesCame}
+use Rattle.std.proofs.{Common.{◌≡◌, ◌≢◌, ℕ, suc, List, [], ◌∷◌, ◌++◌, length, map, Option, Some, None, refl, sym, ap, subst, ◌∙◌}, lemmas.List.{append-nil}}
+use Rattle.lz_proto.specs.declared.{request.Request.{Request, TheVariants.{Add, Remove, Has, Quit}}, item.Item.{Item, TheVariants.{Asks, Faulty}}}
+use Rattle.lz_proto.specs.{declared.{reply.Reply.{Reply}, end.End.{End}}, Sessions.{Answered, reply_text}, Steps.{end_after}}
+use Rattle.lz_proto.proofs.Serving.{answered_more, fault_answered, request_answered}
+use Rattle.lz_serve.specs.declared.{language.Language.{Language}, reader.Reader.{Reader}, turn.{Wording.TheVariants.{Line}, Turn.{Turn}}}
+use Rattle.lz_serve.specs.{Exchanges.{CameFrom, Exchange, asks, end_by, of_line, turn_of}, Conversations.{AreTold, IsTold, more, nothing}, Grants.{Grant}}
+use Rattle.lz_serve.specs.{Listings.{Listing}, LineSessions.{IsGranted, LinesAreSessions, LinesCame}}
 
 -- the items of a front of exchanges
 record Fronts (items : List Item) (xs ys : List Exchange) : Type 0 where

@@ -1,17 +1,11 @@
 -- Lines under way: the passes to which they were put, and the grants that their replies have.
-use Rattle.std.proofs.Common.{◌≡◌, ◌≢◌, ◌<◌, ◌≤◌, ◌+◌, ◌-◌, ℕ, zero, suc, All, List, [], ◌∷◌, ◌++◌, take, drop, length, Option, Some, None, IfSome, option_and_then, option_map, slice_get, slice_set, refl, sym, ap, subst, ◌∙◌, arith, append_assoc}
-use Rattle.std.proofs.lemmas.List.{append-nil}
-use Rattle.std.proofs.lemmas.List.Elements.{All-head, All-push, All-set, All-tail, All-weaker}
-use Rattle.lz_list.specs.Traces.{Trace, Begins}
-use Rattle.lz_list.proofs.Traces.WalkEnd.{begins_before}
-use Rattle.lz_board.specs.declared.pass.Pass.{Pass}
-use Rattle.std.specs.declared.snapshot.Snapshot.{Snapshot}
-use Rattle.lz_board.specs.Seats.{part}
-use Rattle.lz_proto.specs.declared.request.Request.{Request}
-use Rattle.lz_proto.specs.declared.reply.Reply.{Reply}
-use Rattle.lz_serve.specs.declared.line.Line.{Line}
-use Rattle.lz_serve.specs.Clients.{passes_of}
-use Rattle.lz_serve.specs.Grants.{Grant, IsLater, IsOfLine, key_asked}
+use Rattle.std.proofs.Common.{◌≡◌, ◌≢◌, ◌<◌, ◌≤◌, ◌+◌, ◌-◌, ℕ, zero, suc, All, List, [], ◌∷◌, ◌++◌, take, drop, length, Option, Some, None, IfSome}
+use Rattle.std.proofs.{Common.{option_and_then, option_map, slice_get, slice_set, refl, sym, ap, subst, ◌∙◌, arith, append_assoc}, lemmas.List.{append-nil}}
+use Rattle.std.{proofs.lemmas.List.Elements.{All-head, All-push, All-set, All-tail, All-weaker}, specs.declared.snapshot.Snapshot.{Snapshot}}
+use Rattle.lz_list.{specs.Traces.{Trace, Begins}, proofs.Traces.WalkEnd.{begins_before}}
+use Rattle.lz_board.specs.{declared.pass.Pass.{Pass}, Seats.{part}}
+use Rattle.lz_proto.specs.declared.{request.Request.{Request}, reply.Reply.{Reply}}
+use Rattle.lz_serve.specs.{declared.line.Line.{Line}, Clients.{passes_of}, Grants.{Grant, IsLater, IsOfLine, key_asked}}
 use Rattle.lz_serve.specs.Lines.{AreBefore, AreEarned, IsBefore, IsEarned, IsFree, IsOther, IsPast, asked_by, awaited, replied, replies_of}
 use Rattle.lz_serve.specs.Conversations.{AreFor, replies_in}
 

@@ -1,21 +1,10 @@
 -- What a pass has seen once it has listed.
 use Rattle.std.proofs.Common.{◌≡◌, ℕ, All, false, Result, Ok, Err, [], sym, subst}
-use Rattle.lz_list.specs.Traces.{Begins}
-use Rattle.lz_list.proofs.Traces.Absence.{begins_itself}
-use Rattle.lz_board.specs.declared.answer.GlanceFault.TheVariants.{Halted, Worn, BusyPass}
-use Rattle.lz_board.specs.declared.page.Page.{Page}
-use Rattle.lz_board.specs.declared.page.ListFault.{ListFault}
-use Rattle.lz_board.specs.declared.page.ListFault.TheVariants.{Memory, Glance}
-use Rattle.lz_board.specs.declared.pass.Pass.{Pass}
-use Rattle.lz_board.specs.declared.view.Part.{Part}
-use Rattle.lz_board.specs.Listings.{Lists}
-use Rattle.lz_board.specs.Notes.{shape_of_sizes}
-use Rattle.lz_board.specs.Seats.{part}
-use Rattle.lz_board.specs.Walkers.{KeepsCall}
-use Rattle.lz_board.proofs.Upkeep.Growth.{extends_of}
-use Rattle.lz_board.proofs.Walk.GlanceAnswer.{halt_since}
-use Rattle.lz_tie.proofs.Calls.PartAfter.{begins_changed}
-use Rattle.lz_tie.specs.OwnCalls.{told}
+use Rattle.lz_list.{specs.Traces.{Begins}, proofs.Traces.Absence.{begins_itself}}
+use Rattle.lz_board.specs.declared.{answer.GlanceFault.TheVariants.{Halted, Worn, BusyPass}, page.{Page.{Page}, ListFault.{ListFault}}}
+use Rattle.lz_board.specs.{declared.{page.ListFault.TheVariants.{Memory, Glance}, pass.Pass.{Pass}, view.Part.{Part}}, Listings.{Lists}, Notes.{shape_of_sizes}}
+use Rattle.lz_board.{specs.{Seats.{part}, Walkers.{KeepsCall}}, proofs.{Upkeep.Growth.{extends_of}, Walk.GlanceAnswer.{halt_since}}}
+use Rattle.lz_tie.{proofs.Calls.PartAfter.{begins_changed}, specs.OwnCalls.{told}}
 use Rattle.lz_serve.specs.Halts.{IsCalm, SawHalt, was_cut}
 
 -- it has seen all that it had

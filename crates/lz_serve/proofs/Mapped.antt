@@ -1,15 +1,8 @@
 -- A session over a service that is known by a part of it alone, and as what its answers imply of that.
-use Rattle.std.proofs.Common.{◌≡◌, ℕ, List, [], ◌∷◌, Option, Result, Ok, Err, ap, subst}
-use Rattle.lz_proto.specs.declared.request.Request.{Request}
-use Rattle.lz_proto.specs.declared.request.Request.TheVariants.{Quit}
-use Rattle.lz_proto.specs.declared.reply.Reply.{Reply}
-use Rattle.lz_proto.specs.declared.reply.Reply.TheVariants.{Halted}
-use Rattle.lz_proto.specs.declared.item.Item.{Item}
-use Rattle.lz_proto.specs.declared.item.Item.TheVariants.{Asks, Faulty}
-use Rattle.lz_proto.specs.declared.fault.SessionFault.{SessionFault}
-use Rattle.lz_proto.specs.declared.fault.SessionFault.TheVariants.{Read, Write, Memory}
-use Rattle.lz_proto.specs.declared.end.End.{End}
 use Rattle.lz_proto.specs.declared.end.End.TheVariants as ends
+use Rattle.std.proofs.Common.{◌≡◌, ℕ, List, [], ◌∷◌, Option, Result, Ok, Err, ap, subst}
+use Rattle.lz_proto.specs.declared.{request.Request.{Request, TheVariants.{Quit}}, reply.Reply.{Reply, TheVariants.{Halted}}, item.Item.{Item}}
+use Rattle.lz_proto.specs.declared.{item.Item.TheVariants.{Asks, Faulty}, fault.SessionFault.{SessionFault, TheVariants.{Read, Write, Memory}}, end.End.{End}}
 use Rattle.lz_proto.specs.Sessions.{Answered, CutOff, Serves, SessionTells}
 
 module _ {X Y : Type 0} (known : X → Y) (over : X → Request → Reply → X → Type 0) (answers : Y → Request → Reply → Y → Type 0)

@@ -1,14 +1,8 @@
 -- Passes that have met: what they have seen.
 use Rattle.std.proofs.Common.{Option, Some, None, IfSome, option_map, sym, subst}
 use Rattle.lz_list.specs.Traces.{Trace, Begins}
-use Rattle.lz_board.specs.declared.pass.Pass.{Pass}
-use Rattle.lz_board.specs.Seats.{part}
-use Rattle.lz_board.proofs.Upkeep.Growth.{extends_of}
-use Rattle.lz_board.proofs.Walk.GlanceAnswer.{halt_since}
-use Rattle.lz_serve.specs.Clients.{Askers, HaveSeenIn}
-use Rattle.lz_serve.specs.Desks.{Knows}
-use Rattle.lz_serve.specs.Halts.{IsCalm, SawHalt, SeesMore}
-use Rattle.lz_serve.proofs.Joins.{seen_later}
+use Rattle.lz_board.{specs.{declared.pass.Pass.{Pass}, Seats.{part}}, proofs.{Upkeep.Growth.{extends_of}, Walk.GlanceAnswer.{halt_since}}}
+use Rattle.lz_serve.{specs.{Clients.{Askers, HaveSeenIn}, Desks.{Knows}, Halts.{IsCalm, SawHalt, SeesMore}}, proofs.Joins.{seen_later}}
 
 pub sees_halt : (old new : Pass) → SeesMore old new → SawHalt old → SawHalt new
 sees_halt old new more seen = halt_since (part old).known (part new).known (extends_of (part old).known (part new).known more.grows) seen

@@ -1,32 +1,17 @@
 -- The calls of some grants, and what a plain set tells of their keys.
-use Rattle.std.proofs.Common.{◌≡◌, ◌⊎◌, inl, inr, ℕ, zero, suc, ◌==◌, if◌then◌else◌, All, Bool, true, false, List, [], ◌∷◌, ◌++◌, Result, Ok, Err, Some, refl, sym, ap, ◌∙◌, subst, append_assoc, slice_index_or}
-use mathlib.Core.Bool.{true≢false}
-use Rattle.std.proofs.lemmas.Bool.Decides.{eqb_tells}
-use Rattle.std.proofs.lemmas.List.Elements.{All-head, All-tail}
-use Rattle.lz_slot.specs.declared.command.Command.{Command}
-use Rattle.lz_slot.specs.declared.format.Format.{Format}
-use Rattle.lz_slot.specs.Sets.{key_of}
-use Rattle.lz_list.specs.declared.publishing.Publishing.{Publishing}
-use Rattle.lz_list.specs.Traces.{Trace, Begins}
-use Rattle.lz_list.proofs.Traces.Absence.{begins_itself}
-use Rattle.lz_list.proofs.Traces.WalkEnd.{begins_before}
-use Rattle.lz_proto.specs.declared.request.Request.{Request}
-use Rattle.lz_proto.specs.declared.request.Request.TheVariants.{Add, Remove, Has, Quit}
-use Rattle.lz_board.specs.declared.pass.Pass.{Pass}
-use Rattle.lz_board.specs.Seats.{BoardId, part}
-use Rattle.lz_board.proofs.Upkeep.Growth.{begins_of}
-use Rattle.lz_tie.specs.KeyByKey.{ServedKey}
-use Rattle.lz_tie.specs.LoneClient.{AreMade, InTurn, IsInCall, MadeCall, SomeCall, naming, told_in}
-use Rattle.lz_tie.specs.Sessions.{AnsweredCalls}
-use Rattle.lz_tie.proofs.Replies.KeyByKey.{own_keys}
-use Rattle.lz_tie.proofs.Replies.KeyChanges.{no_sooner, sooner}
-use Rattle.lz_tie.proofs.Replies.LoneClient.{serve, told_naming}
-use Rattle.lz_tie.proofs.Replies.SeenMore.{seen_more}
-use Rattle.lz_set.specs.declared.fault.Fault.{Fault}
 use Rattle.lz_set.specs.declared.fault.Fault.TheVariants as fault
-use Rattle.lz_set.specs.Answers.{reply_of}
-use Rattle.lz_serve.specs.Grants.{AreInTurn, Grant, IsAfter, IsGrant, key_asked}
-use Rattle.lz_serve.specs.OwnLines.{AreFull, IsFor, IsIn, OwnLinesArePlain, SomeFor, TellOf}
+use Rattle.std.proofs.Common.{◌≡◌, ◌⊎◌, inl, inr, ℕ, zero, suc, ◌==◌, if◌then◌else◌, All, Bool, true, false, List, [], ◌∷◌, ◌++◌, Result, Ok, Err, Some, refl}
+use Rattle.std.proofs.{Common.{sym, ap, ◌∙◌, subst, append_assoc, slice_index_or}, lemmas.{Bool.Decides.{eqb_tells}, List.Elements.{All-head, All-tail}}}
+use mathlib.Core.Bool.{true≢false}
+use Rattle.lz_slot.specs.{declared.{command.Command.{Command}, format.Format.{Format}}, Sets.{key_of}}
+use Rattle.lz_list.{specs.{declared.publishing.Publishing.{Publishing}, Traces.{Trace, Begins}}, proofs.Traces.Absence.{begins_itself}}
+use Rattle.lz_list.proofs.Traces.WalkEnd.{begins_before}
+use Rattle.lz_proto.specs.declared.request.Request.{Request, TheVariants.{Add, Remove, Has, Quit}}
+use Rattle.lz_board.{specs.{declared.pass.Pass.{Pass}, Seats.{BoardId, part}}, proofs.Upkeep.Growth.{begins_of}}
+use Rattle.lz_tie.specs.{KeyByKey.{ServedKey}, LoneClient.{AreMade, InTurn, IsInCall, MadeCall, SomeCall, naming, told_in}, Sessions.{AnsweredCalls}}
+use Rattle.lz_tie.proofs.Replies.{KeyByKey.{own_keys}, KeyChanges.{no_sooner, sooner}, LoneClient.{serve, told_naming}, SeenMore.{seen_more}}
+use Rattle.lz_set.specs.{declared.fault.Fault.{Fault}, Answers.{reply_of}}
+use Rattle.lz_serve.specs.{Grants.{AreInTurn, Grant, IsAfter, IsGrant, key_asked}, OwnLines.{AreFull, IsFor, IsIn, OwnLinesArePlain, SomeFor, TellOf}}
 use Rattle.lz_serve.specs.Replies.{AreAskedAgain, IsCallAnswered, asks_again, client_reply, command_of}
 
 -- lists of calls

@@ -1,16 +1,13 @@
 -- Worked rows of grants that come in turn and of what they tell, most of which must not hold.
-use Rattle.std.proofs.Common.{◌≡◌, [], ◌∷◌, ◌++◌, ap, sym, ◌∙◌, subst}
-use Rattle.std.proofs.lemmas.List.Elements.{All-cons, All-nil}
+use Rattle.std.proofs.{Common.{◌≡◌, [], ◌∷◌, ◌++◌, ap, sym, ◌∙◌, subst}, lemmas.List.Elements.{All-cons, All-nil}}
 use Rattle.lz_slot.specs.declared.command.Command.{Command}
-use Rattle.lz_list.specs.declared.publishing.Publishing.{Publishing}
-use Rattle.lz_list.specs.Traces.{Trace, Begins}
+use Rattle.lz_list.specs.{declared.publishing.Publishing.{Publishing}, Traces.{Trace, Begins}}
 use Rattle.lz_proto.specs.declared.request.Request.TheVariants.{Add, Has}
 use Rattle.lz_machine.specs.declared.event.Reply.{Reply}
 use Rattle.lz_board.specs.Seats.{part}
 use Rattle.lz_tie.specs.Sessions.{AnsweredCalls}
 use Rattle.lz_set.specs.Answers.{reply_of}
-use Rattle.lz_serve.specs.Grants.{AreInTurn, Grant, IsAfter, key_asked}
-use Rattle.lz_serve.specs.OwnLines.{TellOf}
+use Rattle.lz_serve.specs.{Grants.{AreInTurn, Grant, IsAfter, key_asked}, OwnLines.{TellOf}}
 
 module _ (e g : Grant) where
   -- those for other keys come in any order

@@ -1,22 +1,15 @@
 -- Worked exchanges that ask for a page.
+use Rattle.lz_board.specs.declared.answer.GlanceFault.TheVariants as fault
+use Rattle.lz_serve.specs.declared.turn.Turn.TheVariants as turn
 use Rattle.std.proofs.Common.{◌≡◌, ℕ, zero, suc, true, false, List, [], ◌∷◌, All, Ok, Err, Some, None, refl, sym, ap, ◌∙◌, subst, arith, codes, lit<}
 use Rattle.std.specs.Fmt.{digits}
-use Rattle.lz_list.specs.Traces.{Begins}
-use Rattle.lz_list.specs.declared.publishing.Publishing.{Publishing}
+use Rattle.lz_list.specs.{Traces.{Begins}, declared.publishing.Publishing.{Publishing}}
 use Rattle.lz_proto.specs.declared.end.End.TheVariants.{Done, Quit}
 use Rattle.lz_resp.specs.declared.scan.Scan.{Scan}
-use Rattle.lz_board.specs.declared.answer.GlanceFault.TheVariants as fault
-use Rattle.lz_board.specs.declared.page.Page.{Page}
-use Rattle.lz_board.specs.declared.pass.Pass.{Pass}
-use Rattle.lz_board.specs.Seats.{part}
-use Rattle.lz_serve.specs.Clients.{Asker, Askers, AwaitsNoPage, AwaitsNoneAt, AwaitsPage, AwaitsPageAt, ChangesAt, MayTellPage, TakesScan, TellsPage, TellsPageAt, left, listed, nobody}
-use Rattle.lz_serve.specs.Conversations.{IsPageFor, IsTold}
-use Rattle.lz_serve.specs.Exchanges.{lists}
-use Rattle.lz_serve.specs.Grants.{Grant}
-use Rattle.lz_serve.specs.Listings.{Listing, listing_text, told_text}
-use Rattle.lz_serve.specs.declared.turn.Turn.{Turn}
-use Rattle.lz_serve.specs.declared.turn.Turn.TheVariants as turn
-use Rattle.lz_serve.proofs.ConversationRows.{any}
+use Rattle.lz_board.specs.{declared.{page.Page.{Page}, pass.Pass.{Pass}}, Seats.{part}}
+use Rattle.lz_serve.specs.Clients.{Asker, Askers, AwaitsNoPage, AwaitsNoneAt, AwaitsPage, AwaitsPageAt, ChangesAt, MayTellPage, TakesScan, TellsPage}
+use Rattle.lz_serve.specs.{Clients.{TellsPageAt, left, listed, nobody}, Conversations.{IsPageFor, IsTold}, Exchanges.{lists}, Grants.{Grant}}
+use Rattle.lz_serve.{specs.{Listings.{Listing, listing_text, told_text}, declared.turn.Turn.{Turn}}, proofs.ConversationRows.{any}}
 
 abbrev first : Scan
 first = record { room = 3; from = 0; most = 10 }

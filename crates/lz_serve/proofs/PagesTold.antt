@@ -1,16 +1,14 @@
 -- Pages that were told, and the clients that awaited them.
-use Rattle.std.proofs.Common.{◌≡◌, ◌<◌, ◌≤◌, ◌++◌, ℕ, zero, suc, Bool, true, false, IfSome, IsSomeAnd, List, [], ◌∷◌, Option, Some, None, drop, get_or, length, map, slice_get, refl, sym, ap, ◌∙◌, subst, arith}
-use Rattle.std.proofs.lemmas.Option.{slice_get_past, slice_get_read}
+use Rattle.lz_serve.specs.declared.turn.Turn.TheVariants as turn
+use Rattle.std.proofs.Common.{◌≡◌, ◌<◌, ◌≤◌, ◌++◌, ℕ, zero, suc, Bool, true, false, IfSome, IsSomeAnd, List, [], ◌∷◌, Option, Some, None, drop, get_or, length}
+use Rattle.std.proofs.{Common.{map, slice_get, refl, sym, ap, ◌∙◌, subst, arith}, lemmas.Option.{slice_get_past, slice_get_read}}
 use mathlib.Core.Bool.{true≢false}
 use Rattle.lz_list.specs.Traces.{Trace}
 use Rattle.lz_proto.specs.declared.end.End.TheVariants.{Done}
 use Rattle.lz_board.specs.declared.pass.Pass.{Pass}
 use Rattle.lz_resp.specs.declared.scan.Scan.{Scan}
-use Rattle.lz_serve.specs.declared.turn.Turn.TheVariants as turn
-use Rattle.lz_serve.specs.Clients.{Asker, Askers, AwaitsNoPage, AwaitsPage, AwaitsPageAt, ChangesAt, MayTellPage, OnlyLeave, TakesScan, TellsPage, TellsPageAt, TellsPageOf, listed}
-use Rattle.lz_serve.specs.Conversations.{Paged, Talk}
-use Rattle.lz_serve.specs.Listings.{Listing}
-use Rattle.lz_serve.proofs.Crowds.{client_there, leave_so}
+use Rattle.lz_serve.specs.Clients.{Asker, Askers, AwaitsNoPage, AwaitsPage, AwaitsPageAt, ChangesAt, MayTellPage, OnlyLeave, TakesScan, TellsPage, TellsPageAt}
+use Rattle.lz_serve.{specs.{Clients.{TellsPageOf, listed}, Conversations.{Paged, Talk}, Listings.{Listing}}, proofs.Crowds.{client_there, leave_so}}
 
 -- a page that was listed for the first exchange is told, and fewer wait
 pub page_told : (told : Bool) (l : Listing) (old new : Talk) → (told ≡ true → (old.turns ≡ turn.Lists l.scan ∷ drop 1 old.turns) × (old.ended ≡ Done) × Paged l old new)

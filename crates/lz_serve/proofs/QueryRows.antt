@@ -1,16 +1,9 @@
 -- Worked exchanges that ask the service itself.
-use Rattle.std.proofs.Common.{◌≡◌, ℕ, Bool, true, false, List, [], ◌∷◌, if◌then◌else◌, refl, codes}
-use Rattle.std.specs.Fmt.{digits}
-use Rattle.lz_proto.specs.declared.reply.Reply.TheVariants.{Yes}
-use Rattle.lz_proto.specs.declared.end.End.{End}
-use Rattle.lz_proto.specs.declared.end.End.TheVariants.{Done, Quit}
-use Rattle.lz_resp.specs.declared.query.Query.TheVariants.{Size, Shutdown}
-use Rattle.lz_resp.specs.Commands.{error}
-use Rattle.lz_resp.proofs.QueryRows.{seen}
+use Rattle.std.{proofs.Common.{◌≡◌, ℕ, Bool, true, false, List, [], ◌∷◌, if◌then◌else◌, refl, codes}, specs.Fmt.{digits}}
+use Rattle.lz_proto.specs.declared.{reply.Reply.TheVariants.{Yes}, end.End.{End, TheVariants.{Done, Quit}}}
+use Rattle.lz_resp.{specs.{declared.query.Query.TheVariants.{Size, Shutdown}, Commands.{error}}, proofs.QueryRows.{seen}}
 use Rattle.lz_board.specs.declared.pass.Pass.{Pass}
-use Rattle.lz_serve.specs.Conversations.{IsTold}
-use Rattle.lz_serve.specs.Exchanges.{tells}
-use Rattle.lz_serve.proofs.ConversationRows.{any, gets}
+use Rattle.lz_serve.{specs.{Conversations.{IsTold}, Exchanges.{tells}}, proofs.ConversationRows.{any, gets}}
 
 size : IsTold any 1 [] (tells Size) [] (codes ":3\r\n") Done
 unfolding digits

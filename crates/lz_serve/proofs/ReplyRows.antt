@@ -1,22 +1,15 @@
 -- Worked rows of what the reply of a seat means, most of which must not hold.
+use Rattle.lz_slot.specs.declared.command.Command.TheVariants as command
+use Rattle.lz_machine.specs.declared.event.Reply.TheVariants as given
+use Rattle.lz_set.specs.declared.fault.Fault.TheVariants as fault
 use Rattle.std.proofs.Common.{◌≡◌, ◌==◌, ℕ, Bool, true, false, not, if◌then◌else◌, None, Some, Result, Ok, Err, refl, sym, ap, ◌∙◌, subst}
 use mathlib.Core.Bool.{true≢false}
-use Rattle.lz_slot.specs.declared.command.Command.{Command}
-use Rattle.lz_slot.specs.declared.command.Command.TheVariants as command
-use Rattle.lz_slot.specs.declared.format.Format.{Format}
+use Rattle.lz_slot.specs.declared.{command.Command.{Command}, format.Format.{Format}}
 use Rattle.lz_machine.specs.declared.event.Reply.{Reply as Given}
-use Rattle.lz_machine.specs.declared.event.Reply.TheVariants as given
-use Rattle.lz_proto.specs.declared.request.Request.TheVariants.{Add, Has}
-use Rattle.lz_proto.specs.declared.reply.Reply.{Reply}
-use Rattle.lz_proto.specs.declared.reply.Reply.TheVariants.{Yes, Full, Halted}
-use Rattle.lz_board.specs.declared.pass.Pass.{Pass}
-use Rattle.lz_board.specs.declared.view.Part.{Part}
-use Rattle.lz_board.specs.Seats.{BoardId, part}
-use Rattle.lz_set.specs.declared.fault.Fault.{Fault}
-use Rattle.lz_set.specs.declared.fault.Fault.TheVariants as fault
-use Rattle.lz_set.specs.Answers.{reply_of}
-use Rattle.lz_tie.specs.Answers.{Answers}
-use Rattle.lz_tie.specs.OneCaller.{IsPlainAnswer, keys_in}
+use Rattle.lz_proto.specs.declared.{request.Request.TheVariants.{Add, Has}, reply.Reply.{Reply, TheVariants.{Yes, Full, Halted}}}
+use Rattle.lz_board.specs.{declared.{pass.Pass.{Pass}, view.Part.{Part}}, Seats.{BoardId, part}}
+use Rattle.lz_set.specs.{declared.fault.Fault.{Fault}, Answers.{reply_of}}
+use Rattle.lz_tie.specs.{Answers.{Answers}, OneCaller.{IsPlainAnswer, keys_in}}
 use Rattle.lz_serve.specs.Replies.{AreAskedAgain, IsAskedAgain, SeatAnswers, asks_again, client_reply, told_of}
 use Rattle.lz_serve.proofs.Seats.{alone_once, only_call, told_at_last, told_full}
 

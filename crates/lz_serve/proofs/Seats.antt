@@ -1,36 +1,20 @@
 -- What a seat answers, call after call, and its session.
-use Rattle.std.proofs.Common.{◌≡◌, ◌==◌, ℕ, zero, suc, ◌+◌, nat_lt, All, Bool, true, false, not, ◌&&◌, ◌||◌, List, Option, Some, Result, Ok, Err, refl, sym, ap, ◌∙◌, subst, arith}
-use mathlib.Core.Bool.{true≢false}
-use Rattle.std.proofs.lemmas.List.Elements.{All-cons, All-same}
-use Rattle.lz_slot.specs.declared.command.Command.{Command}
-use Rattle.lz_slot.specs.declared.format.Format.{Format}
-use Rattle.lz_list.specs.Traces.{Begins, halt_word}
-use Rattle.lz_list.proofs.Traces.Absence.{begins_itself}
-use Rattle.lz_list.proofs.Traces.WalkEnd.{begins_before}
-use Rattle.lz_machine.specs.declared.event.Reply.{Reply as Given}
-use Rattle.lz_proto.specs.declared.request.Request.{Request}
-use Rattle.lz_proto.specs.declared.reply.Reply.{Reply}
 use Rattle.lz_proto.specs.declared.reply.Reply.TheVariants as reply
-use Rattle.lz_proto.specs.declared.fault.SessionFault.{SessionFault}
-use Rattle.lz_proto.specs.declared.end.End.{End}
-use Rattle.lz_proto.specs.Sessions.{SessionTells}
-use Rattle.lz_board.specs.declared.pass.Pass.{Pass}
-use Rattle.lz_list.specs.declared.layout.Sizes.{Sizes}
-use Rattle.lz_board.specs.Notes.{shape_of_sizes}
-use Rattle.lz_board.specs.Seats.{BoardId, part}
-use Rattle.lz_board.proofs.Upkeep.Growth.{begins_of}
-use Rattle.lz_board.proofs.Walk.GlanceAnswer.{halt_since}
-use Rattle.lz_set.specs.declared.fault.Fault.{Fault}
 use Rattle.lz_set.specs.declared.fault.Fault.TheVariants as fault
-use Rattle.lz_set.specs.Answers.{reply_of}
-use Rattle.lz_tie.specs.OwnCalls.{told}
-use Rattle.lz_tie.specs.Sessions.{cuts_off}
-use Rattle.lz_tie.proofs.Marks.ToldCalls.{answers_told}
-use Rattle.lz_tie.proofs.Replies.SeenMore.{seen_more}
+use Rattle.std.proofs.Common.{◌≡◌, ◌==◌, ℕ, zero, suc, ◌+◌, nat_lt, All, Bool, true, false, not, ◌&&◌, ◌||◌, List, Option, Some, Result, Ok, Err, refl, sym, ap}
+use Rattle.std.proofs.{Common.{◌∙◌, subst, arith}, lemmas.List.Elements.{All-cons, All-same}}
+use mathlib.Core.Bool.{true≢false}
+use Rattle.lz_slot.specs.declared.{command.Command.{Command}, format.Format.{Format}}
+use Rattle.lz_list.{specs.{Traces.{Begins, halt_word}, declared.layout.Sizes.{Sizes}}, proofs.Traces.{Absence.{begins_itself}, WalkEnd.{begins_before}}}
+use Rattle.lz_machine.specs.declared.event.Reply.{Reply as Given}
+use Rattle.lz_proto.specs.{declared.{request.Request.{Request}, reply.Reply.{Reply}, fault.SessionFault.{SessionFault}, end.End.{End}}, Sessions.{SessionTells}}
+use Rattle.lz_board.{specs.{declared.pass.Pass.{Pass}, Notes.{shape_of_sizes}, Seats.{BoardId, part}}, proofs.Upkeep.Growth.{begins_of}}
+use Rattle.lz_board.proofs.Walk.GlanceAnswer.{halt_since}
+use Rattle.lz_set.specs.{declared.fault.Fault.{Fault}, Answers.{reply_of}}
+use Rattle.lz_tie.{specs.{OwnCalls.{told}, Sessions.{cuts_off}}, proofs.{Marks.ToldCalls.{answers_told}, Replies.SeenMore.{seen_more}}}
 use Rattle.lz_serve.specs.Halts.{IsCalm, was_cut}
 use Rattle.lz_serve.specs.Replies.{AreAskedAgain, IsCallAnswered, SeatAnswers, asks_again, client_reply, command_of, most_tries, says_halted}
-use Rattle.lz_serve.proofs.Halting.{answer_word}
-use Rattle.lz_serve.proofs.Mapped.{known_session}
+use Rattle.lz_serve.proofs.{Halting.{answer_word}, Mapped.{known_session}}
 
 -- an answer of which a client isn't told that the service halted doesn't cut its call off
 uncut : (answer : Result Bool Fault) → says_halted (client_reply answer) ≡ false → cuts_off (reply_of answer) ≡ false

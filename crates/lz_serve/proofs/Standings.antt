@@ -1,31 +1,19 @@
 -- Where a conversation stands after each step.
-use Rattle.std.proofs.Common.{◌≡◌, ℕ, zero, suc, List, [], ◌∷◌, ◌++◌, ◌+◌, ◌≤◌, take, drop, length, map, slice_set, Some, None, refl, sym, ap, subst, ◌∙◌, append_assoc, length-append, arith}
-use Rattle.std.proofs.lemmas.List.{append-nil, take-append-drop}
-use Rattle.lz_proto.specs.declared.request.Request.{Request}
-use Rattle.lz_proto.specs.declared.reply.Reply.{Reply}
-use Rattle.lz_proto.specs.declared.end.End.{End}
-use Rattle.lz_proto.specs.declared.end.End.TheVariants.{Done, Quit}
-use Rattle.lz_proto.specs.Pieces.{faults_of}
-use Rattle.lz_proto.specs.Lines.{Items as LineItems}
 use Rattle.lz_proto.proofs.Texts as lines
-use Rattle.lz_resp.specs.declared.query.Query.{Query}
-use Rattle.lz_resp.specs.Keys.{at_first}
-use Rattle.lz_resp.specs.Queries.{query_text}
 use Rattle.lz_resp.proofs.Texts as frames
-use Rattle.lz_serve.specs.declared.language.Language.{Language}
 use Rattle.lz_serve.specs.declared.language.Language.TheVariants as language
-use Rattle.lz_serve.specs.declared.line.Line.{Line}
-use Rattle.lz_serve.specs.declared.reader.Reader.{Reader}
 use Rattle.lz_serve.specs.declared.reader.Reader.TheVariants as reader
-use Rattle.lz_serve.specs.declared.turn.Turn.{Turn}
 use Rattle.lz_serve.specs.declared.turn.Turn.TheVariants as turn
-use Rattle.lz_serve.specs.declared.turn.Wording.{Wording}
-use Rattle.lz_serve.specs.Exchanges.{CameFrom, EndsWith, Exchange, ReadsMore, asks, end_by, ends, lists, of_frame, of_line, requests_in, says, tells, turn_of, worded}
-use Rattle.lz_serve.specs.Grants.{Grant}
-use Rattle.lz_serve.specs.Listings.{Listing, listing_end, listing_text}
-use Rattle.lz_serve.specs.Lines.{asked_by, awaited, replies_of}
-use Rattle.lz_serve.specs.Conversations.{AreFor, AreTold, Fed, Finished, IsAt, IsPageFor, IsTold, Noted, Paged, Talk, Told, more, nothing_yet, query_end, replies_in, nothing as none_told}
-use Rattle.lz_serve.proofs.ExchangesMore.{map_more, requests_more}
+use Rattle.std.proofs.Common.{◌≡◌, ℕ, zero, suc, List, [], ◌∷◌, ◌++◌, ◌+◌, ◌≤◌, take, drop, length, map, slice_set, Some, None, refl, sym, ap, subst, ◌∙◌}
+use Rattle.std.proofs.{Common.{append_assoc, length-append, arith}, lemmas.List.{append-nil, take-append-drop}}
+use Rattle.lz_proto.specs.{declared.{request.Request.{Request}, reply.Reply.{Reply}, end.End.{End, TheVariants.{Done, Quit}}}, Pieces.{faults_of}}
+use Rattle.lz_proto.specs.Lines.{Items as LineItems}
+use Rattle.lz_resp.specs.{declared.query.Query.{Query}, Keys.{at_first}, Queries.{query_text}}
+use Rattle.lz_serve.specs.declared.{language.Language.{Language}, line.Line.{Line}, reader.Reader.{Reader}, turn.{Turn.{Turn}, Wording.{Wording}}}
+use Rattle.lz_serve.specs.Exchanges.{CameFrom, EndsWith, Exchange, ReadsMore, asks, end_by, ends, lists, of_frame, of_line, requests_in, says, tells, turn_of}
+use Rattle.lz_serve.specs.{Exchanges.{worded}, Grants.{Grant}, Listings.{Listing, listing_end, listing_text}, Lines.{asked_by, awaited, replies_of}}
+use Rattle.lz_serve.specs.Conversations.{AreFor, AreTold, Fed, Finished, IsAt, IsPageFor, IsTold, Noted, Paged, Talk, Told, more, nothing_yet, query_end}
+use Rattle.lz_serve.{specs.Conversations.{replies_in, nothing as none_told}, proofs.ExchangesMore.{map_more, requests_more}}
 use Rattle.lz_serve.proofs.LineReplies.{asked_more, asked_noted}
 
 -- a piece more has come

@@ -1,22 +1,13 @@
 -- Worked rows of what a stream gives and takes, most of which must not hold.
-use Rattle.std.proofs.Common.{◌≡◌, ℕ, true, false, List, [], ◌∷◌, ◌++◌, Option, Some, None, is_none, refl, sym, ◌∙◌}
-use mathlib.Core.Bool.{true≢false}
-use Rattle.lz_proto.specs.declared.item.Item.{Item}
-use Rattle.lz_proto.specs.declared.end.End.{End}
-use Rattle.lz_proto.specs.Lines.{nothing}
-use Rattle.lz_proto.specs.Pieces.{Reads}
-use Rattle.lz_proto.specs.Sessions.{Answered}
-use Rattle.lz_proto.proofs.Texts.{only, some_items}
-use Rattle.lz_serve.specs.Grants.{Grant}
-use Rattle.lz_serve.specs.Listings.{Listing}
 use Rattle.lz_serve.specs.declared.stream.Received.TheVariants as received
 use Rattle.lz_serve.specs.declared.stream.Taken.TheVariants as taken
-use Rattle.lz_serve.specs.declared.language.Language.TheVariants.{Lines}
-use Rattle.lz_serve.specs.declared.reader.Reader.{Reader}
 use Rattle.lz_serve.specs.declared.reader.Reader.TheVariants as reader
-use Rattle.lz_serve.specs.LineSessions.{IsGranted, LinesCame}
+use Rattle.std.proofs.Common.{◌≡◌, ℕ, true, false, List, [], ◌∷◌, ◌++◌, Option, Some, None, is_none, refl, sym, ◌∙◌}
+use mathlib.Core.Bool.{true≢false}
+use Rattle.lz_proto.{specs.{declared.{item.Item.{Item}, end.End.{End}}, Lines.{nothing}, Pieces.{Reads}, Sessions.{Answered}}, proofs.Texts.{only, some_items}}
+use Rattle.lz_serve.specs.{Grants.{Grant}, Listings.{Listing}, declared.{language.Language.TheVariants.{Lines}, reader.Reader.{Reader}}}
+use Rattle.lz_serve.specs.{LineSessions.{IsGranted, LinesCame}, Streams.{IsFresh, MayTake, Receives, Takes, Traffic}}
 use Rattle.lz_serve.proofs.LineSessions.{lines_are_sessions}
-use Rattle.lz_serve.specs.Streams.{IsFresh, MayTake, Receives, Takes, Traffic}
 
 abbrev traffic : List ℕ → List ℕ → Traffic
 traffic received taken = record { spoken = Lines; received = received; ended = false; taken = taken }

@@ -1,28 +1,18 @@
 -- A conversation on its stream: it stays the stream's, whatever comes and goes.
-use Rattle.std.proofs.Common.{◌≡◌, ℕ, Bool, true, false, List, [], ◌∷◌, ◌++◌, ◌+◌, ◌-◌, ◌≤◌, take, drop, length, length-drop, Option, Some, None, IfSome, is_none, refl, sym, ap, ◌∙◌, subst, arith}
-use Rattle.std.proofs.lemmas.List.{append-nil}
-use Rattle.std.proofs.lemmas.List.Elements.{All-weaker}
-use Rattle.lz_proto.specs.declared.request.Request.{Request}
-use Rattle.lz_proto.specs.declared.reply.Reply.{Reply}
-use Rattle.lz_proto.specs.declared.end.End.TheVariants.{Done}
-use Rattle.lz_serve.specs.declared.language.Language.{Language}
-use Rattle.lz_serve.specs.declared.line.Line.{Line}
-use Rattle.lz_serve.specs.declared.reader.Reader.{Reader}
-use Rattle.lz_serve.specs.declared.turn.Turn.{Turn}
 use Rattle.lz_serve.specs.declared.turn.Turn.TheVariants as turn
-use Rattle.lz_serve.specs.Grants.{Grant}
-use Rattle.lz_serve.specs.Listings.{Listing}
-use Rattle.lz_list.specs.Traces.{Begins, Trace}
-use Rattle.lz_list.proofs.Traces.WalkEnd.{begins_before}
-use Rattle.lz_board.specs.declared.pass.Pass.{Pass}
-use Rattle.lz_board.specs.Seats.{part}
-use Rattle.lz_serve.specs.Lines.{AreBefore, AreEarned, IsBefore, awaited}
 use Rattle.lz_serve.specs.declared.stream.Received.TheVariants as received
 use Rattle.lz_serve.specs.declared.stream.Taken.TheVariants as taken
+use Rattle.lz_serve.proofs.Standings as stands
+use Rattle.std.proofs.Common.{◌≡◌, ℕ, Bool, true, false, List, [], ◌∷◌, ◌++◌, ◌+◌, ◌-◌, ◌≤◌, take, drop, length, length-drop, Option, Some, None, IfSome}
+use Rattle.std.proofs.{Common.{is_none, refl, sym, ap, ◌∙◌, subst, arith}, lemmas.List.{append-nil, Elements.{All-weaker}}}
+use Rattle.lz_proto.specs.declared.{request.Request.{Request}, reply.Reply.{Reply}, end.End.TheVariants.{Done}}
+use Rattle.lz_serve.specs.{declared.{language.Language.{Language}, line.Line.{Line}, reader.Reader.{Reader}, turn.Turn.{Turn}}, Grants.{Grant}}
+use Rattle.lz_serve.specs.{Listings.{Listing}, Lines.{AreBefore, AreEarned, IsBefore, awaited}}
 use Rattle.lz_serve.specs.Conversations.{Fed, Finished, IsAt, Noted, Paged, Talk, Told, nothing_yet}
 use Rattle.lz_serve.specs.Streams.{IsFresh, IsTalkOf, MayTake, Receives, Takes, Traffic}
 use Rattle.lz_serve.proofs.LinesUnderWay.{before_same, earned_after, earned_same, granted_of}
-use Rattle.lz_serve.proofs.Standings as stands
+use Rattle.lz_list.{specs.Traces.{Begins, Trace}, proofs.Traces.WalkEnd.{begins_before}}
+use Rattle.lz_board.specs.{declared.pass.Pass.{Pass}, Seats.{part}}
 
 abbrev pub IfSpoken : Option Traffic → Language → Type 0
 IfSpoken s spoken = IfSome s (λ t. spoken ≡ t.spoken)

@@ -1,10 +1,8 @@
 -- Texts that ask for nothing are told at once.
+use Rattle.lz_serve.specs.declared.turn.Turn.TheVariants as turn
 use Rattle.std.proofs.Common.{◌≡◌, Bool, false, List, ◌∷◌, IfOk, Result, Ok, Err, drop}
 use Rattle.lz_proto.specs.declared.end.End.TheVariants.{Done}
-use Rattle.lz_serve.specs.declared.line.Line.{Line}
-use Rattle.lz_serve.specs.declared.turn.Turn.{Turn}
-use Rattle.lz_serve.specs.declared.turn.Turn.TheVariants as turn
-use Rattle.lz_serve.specs.Conversations.{IsReady, IsText, Talk}
+use Rattle.lz_serve.specs.{declared.{line.Line.{Line}, turn.Turn.{Turn}}, Conversations.{IsReady, IsText, Talk}}
 
 text_ready : (t : Turn) (under : List Line) → IsText t → IsReady t under
 text_ready (turn.Asks wording count) under text = absurd text

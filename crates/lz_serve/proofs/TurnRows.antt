@@ -1,23 +1,13 @@
 -- Worked rows of turns, and of what a client has told and keeps, most of which must not hold.
-use Rattle.std.proofs.Common.{◌≡◌, ◌≢◌, ◌∷◌, ℕ, zero, suc, false, List, [], inl, inr, Some, None, refl, sym, subst, arith, lit≤}
-use Rattle.lz_proto.specs.declared.request.Request.TheVariants.{Add, Has}
-use Rattle.lz_proto.specs.declared.reply.Reply.TheVariants.{Yes}
-use Rattle.lz_resp.specs.declared.query.Query.{Query}
-use Rattle.lz_resp.specs.declared.scan.Scan.{Scan}
-use Rattle.lz_slot.specs.declared.format.Format.{Format}
-use Rattle.lz_board.specs.declared.pass.Pass.{Pass}
-use Rattle.lz_board.specs.Seats.{BoardId}
-use Rattle.lz_serve.specs.Askings.{Asked}
-use Rattle.lz_serve.specs.Clients.{Asker, Askers, ComesAfter, HasNoneAt, HasTold, HasToldTexts, IsInTurn, KeepsLinesOf, Remains, Turned}
-use Rattle.lz_serve.specs.Desks.{GoesAnew}
-use Rattle.lz_serve.specs.Grants.{Posed}
-use Rattle.lz_serve.specs.Conversations.{IsReady, IsText}
-use Rattle.lz_serve.specs.Lines.{awaited, replied}
-use Rattle.lz_serve.specs.Queues.{is_in}
-use Rattle.lz_serve.specs.declared.turn.Turn.{Turn}
 use Rattle.lz_serve.specs.declared.turn.Turn.TheVariants as turn
-use Rattle.lz_serve.specs.declared.turn.Wording.TheVariants.{Line}
-use Rattle.lz_serve.proofs.ClientRows.{asks, asks_on, has_line, its_own, posed, two}
+use Rattle.std.proofs.Common.{◌≡◌, ◌≢◌, ◌∷◌, ℕ, zero, suc, false, List, [], inl, inr, Some, None, refl, sym, subst, arith, lit≤}
+use Rattle.lz_proto.specs.declared.{request.Request.TheVariants.{Add, Has}, reply.Reply.TheVariants.{Yes}}
+use Rattle.lz_resp.specs.declared.{query.Query.{Query}, scan.Scan.{Scan}}
+use Rattle.lz_slot.specs.declared.format.Format.{Format}
+use Rattle.lz_board.specs.{declared.pass.Pass.{Pass}, Seats.{BoardId}}
+use Rattle.lz_serve.specs.{Askings.{Asked}, Clients.{Asker, Askers, ComesAfter, HasNoneAt, HasTold, HasToldTexts, IsInTurn, KeepsLinesOf, Remains, Turned}}
+use Rattle.lz_serve.specs.{Desks.{GoesAnew}, Grants.{Posed}, Conversations.{IsReady, IsText}, Lines.{awaited, replied}, Queues.{is_in}}
+use Rattle.lz_serve.{specs.declared.turn.{Turn.{Turn}, Wording.TheVariants.{Line}}, proofs.ClientRows.{asks, asks_on, has_line, its_own, posed, two}}
 
 -- the first client has no line left
 abbrev one : Pass → Askers

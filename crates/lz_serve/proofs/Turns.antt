@@ -1,10 +1,7 @@
 -- Whose turn it is, and who waits for it.
-use Rattle.std.proofs.Common.{◌≡◌, ◌≢◌, ◌⊎◌, ◌==◌, ◌++◌, inl, inr, ℕ, Bool, true, false, All, List, [], ◌∷◌, Option, Some, None, IfSome, slice_get, refl, sym, ap, ◌∙◌, subst, append_assoc}
-use Rattle.std.proofs.lemmas.Bool.{cond-false, eqb-false, or_parts}
-use Rattle.std.proofs.lemmas.List.Elements.{All-push, All-weaker}
-use Rattle.lz_serve.specs.Clients.{Asker, Askers, HasLine, HasNone, HasNoneAt, IsInTurn, OnlyLeave, Turned}
-use Rattle.lz_serve.specs.Grants.{Posed}
-use Rattle.lz_serve.specs.Queues.{is_in, queued}
+use Rattle.std.proofs.Common.{◌≡◌, ◌≢◌, ◌⊎◌, ◌==◌, ◌++◌, inl, inr, ℕ, Bool, true, false, All, List, [], ◌∷◌, Option, Some, None, IfSome, slice_get, refl, sym}
+use Rattle.std.proofs.{Common.{ap, ◌∙◌, subst, append_assoc}, lemmas.{Bool.{cond-false, eqb-false, or_parts}, List.Elements.{All-push, All-weaker}}}
+use Rattle.lz_serve.specs.{Clients.{Asker, Askers, HasLine, HasNone, HasNoneAt, IsInTurn, OnlyLeave, Turned}, Grants.{Posed}, Queues.{is_in, queued}}
 use Rattle.lz_serve.proofs.Crowds.{leave_so}
 
 -- who is in turn

@@ -1,21 +1,12 @@
 -- A pass of a loop, and the request that it answers, if it answers one.
 use Rattle.std.specs.Prelude.{◌≡◌, ◌⊎◌, ◌↔◌, ◌+◌, ◌<◌, ◌&&◌, ℕ, Bool, true, false, List, Option, Some, None, Result, IfSome, IsSomeAnd, IsTrue, is_none, nat_lt}
-use Rattle.lz_slot.specs.declared.command.Command.{Command}
-use Rattle.lz_slot.specs.declared.format.Format.{Format}
-use Rattle.lz_machine.specs.Orders.{Calling}
-use Rattle.lz_machine.specs.Yards.{Yard}
+use Rattle.lz_slot.specs.declared.{command.Command.{Command}, format.Format.{Format}}
+use Rattle.lz_machine.specs.{Orders.{Calling}, Yards.{Yard}}
 use Rattle.lz_proto.specs.declared.reply.Reply.{Reply}
-use Rattle.lz_board.specs.declared.pass.Pass.{Pass}
-use Rattle.lz_board.specs.declared.view.Part.{Part}
-use Rattle.lz_board.specs.Seats.{BoardId, IsOf, part}
+use Rattle.lz_board.specs.{declared.{pass.Pass.{Pass}, view.Part.{Part}}, Seats.{BoardId, IsOf, part}}
 use Rattle.lz_tie.specs.Counting.{Counts}
-use Rattle.lz_set.specs.declared.fault.Fault.{Fault}
-use Rattle.lz_set.specs.declared.underway.Stage.{Stage}
-use Rattle.lz_set.specs.Names.{MayCall}
-use Rattle.lz_set.specs.Stages.{StandsAt, StandsBefore}
-use Rattle.lz_serve.specs.Clients.{Askers, AwaitsBeforeAt}
-use Rattle.lz_serve.specs.Grants.{Posed}
-use Rattle.lz_serve.specs.Halts.{IsCalmAfter, SawHalt}
+use Rattle.lz_set.specs.{declared.{fault.Fault.{Fault}, underway.Stage.{Stage}}, Names.{MayCall}, Stages.{StandsAt, StandsBefore}}
+use Rattle.lz_serve.specs.{Clients.{Askers, AwaitsBeforeAt}, Grants.{Posed}, Halts.{IsCalmAfter, SawHalt}}
 use Rattle.lz_serve.specs.Replies.{AreAskedAgain, IsCallAnswered, command_of, told_of}
 
 -- The question that it answers, if it answers one, and the token of its client; the pass as it is now, and whether its last reply told that the service halted; the call

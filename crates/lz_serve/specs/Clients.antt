@@ -1,21 +1,13 @@
 -- Clients as their owner sees them, and which questions are those of their lines.
-use Rattle.std.specs.Prelude.{◌≡◌, ◌≢◌, ◌⊎◌, ⊤, ◌-◌, ◌<◌, ◌≤◌, ◌++◌, ℕ, suc, All, Bool, true, false, List, [], ◌∷◌, drop, length, map, Option, Some, None, IfSome, IsSomeAnd, slice_get, take}
-use Rattle.std.specs.declared.snapshot.Snapshot.{Snapshot}
-use Rattle.lz_list.specs.Traces.{Trace, Begins}
-use Rattle.lz_board.specs.declared.pass.Pass.{Pass}
-use Rattle.lz_board.specs.Seats.{part}
-use Rattle.lz_resp.specs.declared.query.Query.{Query}
-use Rattle.lz_resp.specs.declared.scan.Scan.{Scan}
-use Rattle.lz_serve.specs.declared.line.Line.{Line}
-use Rattle.lz_serve.specs.declared.turn.Turn.{Turn}
 use Rattle.lz_serve.specs.declared.turn.Turn.TheVariants as turn
-use Rattle.lz_proto.specs.declared.request.Request.{Request}
-use Rattle.lz_proto.specs.declared.end.End.{End}
-use Rattle.lz_proto.specs.declared.end.End.TheVariants.{Done}
-use Rattle.lz_serve.specs.Conversations.{IsReady, IsText}
-use Rattle.lz_serve.specs.Grants.{Posed, key_asked}
-use Rattle.lz_serve.specs.Lines.{AreReplied, IsFree, StandsAt}
-use Rattle.lz_serve.specs.Queues.{is_in}
+use Rattle.std.specs.Prelude.{◌≡◌, ◌≢◌, ◌⊎◌, ⊤, ◌-◌, ◌<◌, ◌≤◌, ◌++◌, ℕ, suc, All, Bool, true, false, List, [], ◌∷◌, drop, length, map, Option, Some, None}
+use Rattle.std.specs.{Prelude.{IfSome, IsSomeAnd, slice_get, take}, declared.snapshot.Snapshot.{Snapshot}}
+use Rattle.lz_list.specs.Traces.{Trace, Begins}
+use Rattle.lz_board.specs.{declared.pass.Pass.{Pass}, Seats.{part}}
+use Rattle.lz_resp.specs.declared.{query.Query.{Query}, scan.Scan.{Scan}}
+use Rattle.lz_serve.specs.{declared.{line.Line.{Line}, turn.Turn.{Turn}}, Conversations.{IsReady, IsText}, Grants.{Posed, key_asked}}
+use Rattle.lz_serve.specs.{Lines.{AreReplied, IsFree, StandsAt}, Queues.{is_in}}
+use Rattle.lz_proto.specs.declared.{request.Request.{Request}, end.End.{End, TheVariants.{Done}}}
 
 -- The number of its connection; how many lines were handed out, and how many of them were told their replies; the others; the pass to which
 -- each of these was put, as it was then; what the passes had seen that answered it; the turns of the exchanges that weren't told, and the

@@ -1,23 +1,14 @@
 -- Where a conversation stands.
-use Rattle.std.specs.Prelude.{◌≡◌, ◌≢◌, ◌⊎◌, ◌≤◌, ⊤, All, ℕ, if◌then◌else◌, List, [], ◌∷◌, ◌++◌, drop, length, map, slice_set, suc, ◌+◌, ◌-◌, take, Option, None, Some}
+use Rattle.lz_serve.specs.declared.turn.Turn.TheVariants as turn
+use Rattle.std.specs.Prelude.{◌≡◌, ◌≢◌, ◌⊎◌, ◌≤◌, ⊤, All, ℕ, if◌then◌else◌, List, [], ◌∷◌, ◌++◌, drop, length, map, slice_set, suc, ◌+◌, ◌-◌, take, Option}
+use Rattle.std.specs.Prelude.{None, Some}
 use Rattle.lz_list.specs.Traces.{Begins}
 use Rattle.lz_board.specs.Seats.{part}
-use Rattle.lz_proto.specs.declared.request.Request.{Request}
-use Rattle.lz_proto.specs.declared.reply.Reply.{Reply}
-use Rattle.lz_proto.specs.declared.end.End.{End}
-use Rattle.lz_proto.specs.declared.end.End.TheVariants.{Done, Quit}
-use Rattle.lz_resp.specs.declared.figures.Figures.{Figures}
-use Rattle.lz_resp.specs.declared.query.Query.{Query}
-use Rattle.lz_resp.specs.declared.scan.Scan.{Scan}
-use Rattle.lz_resp.specs.Queries.{ends_service, query_text}
-use Rattle.lz_serve.specs.declared.language.Language.{Language}
-use Rattle.lz_serve.specs.declared.line.Line.{Line}
-use Rattle.lz_serve.specs.declared.reader.Reader.{Reader}
-use Rattle.lz_serve.specs.declared.turn.Turn.{Turn}
-use Rattle.lz_serve.specs.declared.turn.Turn.TheVariants as turn
-use Rattle.lz_serve.specs.Exchanges.{CameFrom, EndsWith, Exchange, Pending, ReadsMore, adding, asks, says, lists, tells, ends, end_by, requests_in, turn_of, unread, worded}
-use Rattle.lz_serve.specs.Grants.{Grant, IsOfLine, key_asked}
-use Rattle.lz_serve.specs.Listings.{Listing, listing_end, listing_text}
+use Rattle.lz_proto.specs.declared.{request.Request.{Request}, reply.Reply.{Reply}, end.End.{End, TheVariants.{Done, Quit}}}
+use Rattle.lz_resp.specs.{declared.{figures.Figures.{Figures}, query.Query.{Query}, scan.Scan.{Scan}}, Queries.{ends_service, query_text}}
+use Rattle.lz_serve.specs.{declared.{language.Language.{Language}, line.Line.{Line}, reader.Reader.{Reader}, turn.Turn.{Turn}}, Exchanges.{CameFrom, EndsWith}}
+use Rattle.lz_serve.specs.Exchanges.{Exchange, Pending, ReadsMore, adding, asks, says, lists, tells, ends, end_by, requests_in, turn_of, unread, worded}
+use Rattle.lz_serve.specs.{Grants.{Grant, IsOfLine, key_asked}, Listings.{Listing, listing_end, listing_text}}
 use Rattle.lz_serve.specs.Lines.{IsFree, StandsAt, asked_by, replied, replies_of}
 
 -- What a conversation holds: its language; what reads the client's text, none once that has ended; the turns of the exchanges that came and

@@ -1,12 +1,9 @@
 -- What a loop works at: its clients, its passes, and the calls under way. One of several passes makes no call, and meets the others.
-use Rattle.std.specs.Prelude.{◌≡◌, ◌⊎◌, ◌+◌, ◌≤◌, ℕ, All, Bool, List, [], Option, Some, None, IfSome, length}
-use Rattle.std.specs.List.{Any}
+use Rattle.std.specs.{Prelude.{◌≡◌, ◌⊎◌, ◌+◌, ◌≤◌, ℕ, All, Bool, List, [], Option, Some, None, IfSome, length}, List.{Any}}
 use Rattle.lz_slot.specs.declared.format.Format.{Format}
 use Rattle.lz_list.specs.Traces.{Trace}
 use Rattle.lz_board.specs.Seats.{BoardId, part}
-use Rattle.lz_serve.specs.Askings.{Asked, HasAnswered, IsAnother, IsMadeAgain}
-use Rattle.lz_serve.specs.Clients.{Askers, HaveSeenIn, IsAwaited, IsHeardAt}
-use Rattle.lz_serve.specs.Grants.{Posed}
+use Rattle.lz_serve.specs.{Askings.{Asked, HasAnswered, IsAnother, IsMadeAgain}, Clients.{Askers, HaveSeenIn, IsAwaited, IsHeardAt}, Grants.{Posed}}
 
 -- How many passes were taken in, for how many there is room, and how many answer nothing; the calls under way; and whether no further line
 -- is to be begun.

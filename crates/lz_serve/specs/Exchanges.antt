@@ -1,33 +1,16 @@
 -- What a client's text comes to: exchanges, each of which is some requests and the one text that replies to them.
-use Rattle.std.specs.Prelude.{◌≡◌, ℕ, List, [], ◌∷◌, ◌++◌, length, map, Option, Some, None, if◌then◌else◌}
-use Rattle.std.specs.List.{flat_map, list_any}
-use Rattle.lz_proto.specs.declared.request.Request.{Request}
-use Rattle.lz_proto.specs.declared.request.Request.TheVariants.{Quit}
-use Rattle.lz_proto.specs.declared.reply.Reply.{Reply}
-use Rattle.lz_proto.specs.declared.item.Item.{Item as LineItem}
 use Rattle.lz_proto.specs.declared.item.Item.TheVariants as line
-use Rattle.lz_proto.specs.declared.end.End.{End}
-use Rattle.lz_proto.specs.declared.end.End.TheVariants.{Done, Halted}
-use Rattle.lz_proto.specs.Lines.{Items as LineItems}
-use Rattle.lz_proto.specs.Pieces.{Ends, Feeds as FeedsLines, Reads as ReadsLines, faults_of}
-use Rattle.lz_proto.specs.Sessions.{bad_text, reply_text}
-use Rattle.lz_proto.specs.declared.fault.Bad.{Bad}
-use Rattle.lz_resp.specs.declared.item.Item.{Item as FrameItem}
 use Rattle.lz_resp.specs.declared.item.Item.TheVariants as frame
-use Rattle.lz_resp.specs.declared.naming.Naming.{Naming}
-use Rattle.lz_resp.specs.declared.query.Query.{Query}
-use Rattle.lz_resp.specs.declared.scan.Scan.{Scan}
-use Rattle.lz_resp.specs.Keys.{at_first}
-use Rattle.lz_resp.specs.Pieces.{Feeds as FeedsFrames, Items as FrameItems, Reads as ReadsFrames, start}
-use Rattle.lz_resp.specs.Replies.{is_halted, text_of}
-use Rattle.lz_serve.specs.declared.language.Language.{Language}
 use Rattle.lz_serve.specs.declared.language.Language.TheVariants as language
-use Rattle.lz_serve.specs.declared.turn.Wording.{Wording}
-use Rattle.lz_serve.specs.declared.turn.Wording.TheVariants.{Line, Frame}
-use Rattle.lz_serve.specs.declared.turn.Turn.{Turn}
 use Rattle.lz_serve.specs.declared.turn.Turn.TheVariants as turn
-use Rattle.lz_serve.specs.declared.reader.Reader.{Reader}
 use Rattle.lz_serve.specs.declared.reader.Reader.TheVariants as reader
+use Rattle.std.specs.{Prelude.{◌≡◌, ℕ, List, [], ◌∷◌, ◌++◌, length, map, Option, Some, None, if◌then◌else◌}, List.{flat_map, list_any}}
+use Rattle.lz_proto.specs.declared.{request.Request.{Request, TheVariants.{Quit}}, reply.Reply.{Reply}, item.Item.{Item as LineItem}, end.End.{End}}
+use Rattle.lz_proto.specs.{declared.{end.End.TheVariants.{Done, Halted}, fault.Bad.{Bad}}, Lines.{Items as LineItems}}
+use Rattle.lz_proto.specs.{Pieces.{Ends, Feeds as FeedsLines, Reads as ReadsLines, faults_of}, Sessions.{bad_text, reply_text}}
+use Rattle.lz_resp.specs.{declared.{item.Item.{Item as FrameItem}, naming.Naming.{Naming}, query.Query.{Query}, scan.Scan.{Scan}}, Keys.{at_first}}
+use Rattle.lz_resp.specs.{Pieces.{Feeds as FeedsFrames, Items as FrameItems, Reads as ReadsFrames, start}, Replies.{is_halted, text_of}}
+use Rattle.lz_serve.specs.declared.{language.Language.{Language}, turn.{Wording.{Wording, TheVariants.{Line, Frame}}, Turn.{Turn}}, reader.Reader.{Reader}}
 
 -- Requests whose replies are worded so; a text, and nothing is asked; a page that is asked for; what is asked of the service itself; or a text after which nothing comes.
 pub data Exchange : Type 0 where

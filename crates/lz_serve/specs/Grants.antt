@@ -2,13 +2,9 @@
 use Rattle.std.specs.Prelude.{◌≡◌, ℕ, Bool, All, List, [], ◌∷◌, ◌++◌, Option, Some, None, ⊤}
 use Rattle.lz_slot.specs.declared.format.Format.{Format}
 use Rattle.lz_list.specs.Traces.{Begins}
-use Rattle.lz_proto.specs.declared.request.Request.{Request}
-use Rattle.lz_proto.specs.declared.request.Request.TheVariants.{Add, Remove, Has, Quit}
-use Rattle.lz_proto.specs.declared.reply.Reply.{Reply}
-use Rattle.lz_board.specs.declared.pass.Pass.{Pass}
-use Rattle.lz_board.specs.Seats.{BoardId, part}
-use Rattle.lz_serve.specs.Listings.{IsListing, Listing}
-use Rattle.lz_serve.specs.Replies.{SeatAnswers}
+use Rattle.lz_proto.specs.declared.{request.Request.{Request, TheVariants.{Add, Remove, Has, Quit}}, reply.Reply.{Reply}}
+use Rattle.lz_board.specs.{declared.pass.Pass.{Pass}, Seats.{BoardId, part}}
+use Rattle.lz_serve.specs.{Listings.{IsListing, Listing}, Replies.{SeatAnswers}}
 
 -- A request as it was put: the numbers of its connection and of the line there, the pass that is to answer as it was then, and whether an
 -- earlier line of its connection wasn't answered then.

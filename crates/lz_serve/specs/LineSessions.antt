@@ -1,16 +1,8 @@
 -- A conversation of lines is a session.
-use Rattle.std.specs.Prelude.{◌≡◌, ℕ, suc, List, [], ◌∷◌, ◌++◌, length, Option, Some, None}
-use Rattle.lz_proto.specs.declared.request.Request.{Request}
-use Rattle.lz_proto.specs.declared.item.Item.{Item}
-use Rattle.lz_proto.specs.declared.reply.Reply.{Reply}
-use Rattle.lz_proto.specs.Lines.{Items}
-use Rattle.lz_proto.specs.Pieces.{Reads}
-use Rattle.lz_proto.specs.Sessions.{Answered}
-use Rattle.lz_serve.specs.declared.language.Language.TheVariants.{Lines}
-use Rattle.lz_serve.specs.declared.reader.Reader.{Reader}
 use Rattle.lz_serve.specs.declared.reader.Reader.TheVariants as reader
-use Rattle.lz_serve.specs.Conversations.{IsAt, Talk}
-use Rattle.lz_serve.specs.Grants.{Grant, IsOfLine}
+use Rattle.std.specs.Prelude.{◌≡◌, ℕ, suc, List, [], ◌∷◌, ◌++◌, length, Option, Some, None}
+use Rattle.lz_proto.specs.{declared.{request.Request.{Request}, item.Item.{Item}, reply.Reply.{Reply}}, Lines.{Items}, Pieces.{Reads}, Sessions.{Answered}}
+use Rattle.lz_serve.specs.{declared.{language.Language.TheVariants.{Lines}, reader.Reader.{Reader}}, Conversations.{IsAt, Talk}, Grants.{Grant, IsOfLine}}
 use Rattle.lz_serve.specs.Listings.{Listing}
 
 -- One reply more was granted: this one, to this request, which is the line after as many as were granted replies before, on this connection.

@@ -1,12 +1,9 @@
 -- The lines of a connection that are under way.
 use Rattle.std.specs.Prelude.{◌≡◌, ◌≢◌, ◌-◌, ◌<◌, ℕ, suc, All, List, [], ◌∷◌, ◌++◌, Option, Some, None, IfSome, map, option_and_then, option_map, slice_get, ⊤}
-use Rattle.lz_proto.specs.declared.request.Request.{Request}
-use Rattle.lz_proto.specs.declared.reply.Reply.{Reply}
+use Rattle.lz_proto.specs.declared.{request.Request.{Request}, reply.Reply.{Reply}}
 use Rattle.lz_list.specs.Traces.{Trace, Begins}
-use Rattle.lz_board.specs.declared.pass.Pass.{Pass}
-use Rattle.lz_board.specs.Seats.{part}
-use Rattle.lz_serve.specs.declared.line.Line.{Line}
-use Rattle.lz_serve.specs.Grants.{Grant, IsLater, IsOfLine, key_asked}
+use Rattle.lz_board.specs.{declared.pass.Pass.{Pass}, Seats.{part}}
+use Rattle.lz_serve.specs.{declared.line.Line.{Line}, Grants.{Grant, IsLater, IsOfLine, key_asked}}
 
 -- a line whose reply is awaited, and one whose reply was granted
 abbrev pub awaited : Request → Line

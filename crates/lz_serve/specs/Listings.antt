@@ -1,21 +1,10 @@
 -- Pages that passes list.
-use Rattle.std.specs.Prelude.{ℕ, List, [], ◌∷◌, max, Result, Ok, Err}
-use Rattle.lz_proto.specs.declared.end.End.{End}
-use Rattle.lz_proto.specs.declared.end.End.TheVariants.{Done}
-use Rattle.lz_proto.specs.declared.reply.Reply.{Reply}
 use Rattle.lz_proto.specs.declared.reply.Reply.TheVariants as said
-use Rattle.lz_resp.specs.declared.form.Form.TheVariants.{Each}
-use Rattle.lz_resp.specs.declared.scan.Scan.{Scan}
-use Rattle.lz_resp.specs.Replies.{text_of}
-use Rattle.lz_resp.specs.Scans.{page_text}
-use Rattle.lz_board.specs.declared.answer.GlanceFault.{GlanceFault}
-use Rattle.lz_board.specs.declared.answer.GlanceFault.TheVariants.{Worn}
-use Rattle.lz_board.specs.declared.page.Page.{Page}
-use Rattle.lz_board.specs.declared.page.ListFault.{ListFault}
-use Rattle.lz_board.specs.declared.page.ListFault.TheVariants.{Glance}
-use Rattle.lz_board.specs.declared.pass.Pass.{Pass}
-use Rattle.lz_board.specs.Listings.{Lists}
-use Rattle.lz_board.specs.Seats.{BoardId, part}
+use Rattle.std.specs.Prelude.{ℕ, List, [], ◌∷◌, max, Result, Ok, Err}
+use Rattle.lz_proto.specs.declared.{end.End.{End, TheVariants.{Done}}, reply.Reply.{Reply}}
+use Rattle.lz_resp.specs.{declared.{form.Form.TheVariants.{Each}, scan.Scan.{Scan}}, Replies.{text_of}, Scans.{page_text}}
+use Rattle.lz_board.specs.declared.{answer.GlanceFault.{GlanceFault, TheVariants.{Worn}}, page.{Page.{Page}, ListFault.{ListFault, TheVariants.{Glance}}}}
+use Rattle.lz_board.specs.{declared.pass.Pass.{Pass}, Listings.{Lists}, Seats.{BoardId, part}}
 use Rattle.lz_set.specs.Names.{MayCall}
 use Rattle.lz_serve.specs.Exchanges.{end_by}
 

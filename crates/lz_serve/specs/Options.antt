@@ -1,7 +1,5 @@
 -- The numbers with which a set is served.
-use Rattle.std.specs.Prelude.{◌≡◌, ℕ, zero, suc, ◌*◌, Option, None, IsSomeAnd}
-use Rattle.std.specs.Duration.{as_nanos}
-use Rattle.std.specs.declared.time.Duration.{Duration}
+use Rattle.std.specs.{Prelude.{◌≡◌, ℕ, zero, suc, ◌*◌, Option, None, IsSomeAnd}, Duration.{as_nanos}, declared.time.Duration.{Duration}}
 
 -- the most connections that loops serve at once
 abbrev pub most_connections : ℕ

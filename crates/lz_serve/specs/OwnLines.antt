@@ -1,19 +1,12 @@
 -- What a connection is told of keys that nobody else changes is what a plain set tells, in the order of its lines. Traces stand newest first.
 use Rattle.std.specs.Prelude.{◌≡◌, ◌⊎◌, ℕ, All, Bool, List, [], ◌∷◌, ◌++◌, Result, Some, ⊤}
-use Rattle.lz_slot.specs.declared.command.Command.{Command}
-use Rattle.lz_slot.specs.declared.format.Format.{Format}
-use Rattle.lz_list.specs.declared.publishing.Publishing.{Publishing}
-use Rattle.lz_list.specs.Traces.{Trace, Begins, member}
-use Rattle.lz_machine.specs.declared.event.Reply.{Reply}
-use Rattle.lz_machine.specs.declared.event.Reply.TheVariants.{Full}
+use Rattle.lz_slot.specs.declared.{command.Command.{Command}, format.Format.{Format}}
+use Rattle.lz_list.specs.{declared.publishing.Publishing.{Publishing}, Traces.{Trace, Begins, member}}
+use Rattle.lz_machine.specs.declared.event.Reply.{Reply, TheVariants.{Full}}
 use Rattle.lz_board.specs.Seats.{BoardId, part}
-use Rattle.lz_tie.specs.KeyByKey.{PlainCalls}
-use Rattle.lz_tie.specs.LoneClient.{IsChange}
-use Rattle.lz_tie.specs.Sessions.{AnsweredCalls}
-use Rattle.lz_set.specs.declared.fault.Fault.{Fault}
-use Rattle.lz_set.specs.Answers.{reply_of}
-use Rattle.lz_serve.specs.Grants.{AreGranted, Grant, key_asked}
-use Rattle.lz_serve.specs.Replies.{client_reply, command_of}
+use Rattle.lz_tie.specs.{KeyByKey.{PlainCalls}, LoneClient.{IsChange}, Sessions.{AnsweredCalls}}
+use Rattle.lz_set.specs.{declared.fault.Fault.{Fault}, Answers.{reply_of}}
+use Rattle.lz_serve.specs.{Grants.{AreGranted, Grant, key_asked}, Replies.{client_reply, command_of}}
 
 -- the grant is for key k
 abbrev pub IsFor : ℕ → Grant → Type 0

@@ -1,6 +1,5 @@
 -- How many passes the loops that run are to hand back.
-use Rattle.std.specs.Prelude.{ℕ, ◌+◌, List, [], ◌∷◌}
-use Rattle.std.specs.declared.thread.PromisedHandle.{PromisedHandle}
+use Rattle.std.specs.{Prelude.{ℕ, ◌+◌, List, [], ◌∷◌}, declared.thread.PromisedHandle.{PromisedHandle}}
 use Rattle.lz_serve.specs.declared.shares.HandsBack.{HandsBack}
 
 -- that many, all together

@@ -1,6 +1,5 @@
 -- A queue of tokens.
-use Rattle.std.specs.Prelude.{◌≡◌, ◌==◌, ◌++◌, ⊤, ℕ, Bool, false, List, [], ◌∷◌, if◌then◌else◌, slice_index_or}
-use Rattle.std.specs.List.{list_any}
+use Rattle.std.specs.{Prelude.{◌≡◌, ◌==◌, ◌++◌, ⊤, ℕ, Bool, false, List, [], ◌∷◌, if◌then◌else◌, slice_index_or}, List.{list_any}}
 
 -- whether the token stands in it
 abbrev pub is_in : ℕ → List ℕ → Bool

@@ -1,19 +1,12 @@
 -- What the service of one pass replies.
-use Rattle.std.specs.Prelude.{◌≡◌, ◌==◌, ℕ, zero, suc, nat_lt, Bool, true, false, not, ◌&&◌, ◌||◌, if◌then◌else◌, Result, Ok, Err, Option, Some, None}
-use Rattle.lz_slot.specs.declared.command.Command.{Command}
-use Rattle.lz_slot.specs.declared.format.Format.{Format}
 use Rattle.lz_slot.specs.declared.command.Command.TheVariants as command
-use Rattle.lz_proto.specs.declared.request.Request.{Request}
-use Rattle.lz_proto.specs.declared.request.Request.TheVariants.{Add, Remove, Has, Quit}
-use Rattle.lz_proto.specs.declared.reply.Reply.{Reply}
 use Rattle.lz_proto.specs.declared.reply.Reply.TheVariants as said
-use Rattle.lz_set.specs.declared.fault.Fault.{Fault}
-use Rattle.lz_set.specs.declared.fault.Fault.TheVariants.{Full, Halted, Worn, Device, OldFile}
-use Rattle.lz_board.specs.declared.pass.Pass.{Pass}
-use Rattle.lz_board.specs.Seats.{BoardId, part}
-use Rattle.lz_tie.specs.Answers.{Answers}
-use Rattle.lz_tie.specs.OneCaller.{IsPlainAnswer, keys_in}
-use Rattle.lz_set.specs.Answers.{reply_of}
+use Rattle.std.specs.Prelude.{◌≡◌, ◌==◌, ℕ, zero, suc, nat_lt, Bool, true, false, not, ◌&&◌, ◌||◌, if◌then◌else◌, Result, Ok, Err, Option, Some, None}
+use Rattle.lz_slot.specs.declared.{command.Command.{Command}, format.Format.{Format}}
+use Rattle.lz_proto.specs.declared.{request.Request.{Request, TheVariants.{Add, Remove, Has, Quit}}, reply.Reply.{Reply}}
+use Rattle.lz_set.specs.{declared.fault.Fault.{Fault, TheVariants.{Full, Halted, Worn, Device, OldFile}}, Answers.{reply_of}}
+use Rattle.lz_board.specs.{declared.pass.Pass.{Pass}, Seats.{BoardId, part}}
+use Rattle.lz_tie.specs.{Answers.{Answers}, OneCaller.{IsPlainAnswer, keys_in}}
 
 -- the reply that tells what a call answered: of a device that failed, now or before, a client is told that the service halted
 abbrev pub client_reply : Result Bool Fault → Reply

@@ -1,13 +1,9 @@
 -- What a stream has given and taken, and what it may be given to take.
-use Rattle.std.specs.Prelude.{◌≡◌, ℕ, Bool, true, false, List, [], ◌++◌, take, ⊤, Option, None, Some, is_none}
-use Rattle.lz_serve.specs.declared.language.Language.{Language}
-use Rattle.lz_serve.specs.Grants.{Grant}
-use Rattle.lz_serve.specs.Listings.{Listing}
-use Rattle.lz_serve.specs.Conversations.{IsAt, Talk}
-use Rattle.lz_serve.specs.declared.stream.Received.{Received}
 use Rattle.lz_serve.specs.declared.stream.Received.TheVariants as received
-use Rattle.lz_serve.specs.declared.stream.Taken.{Taken}
 use Rattle.lz_serve.specs.declared.stream.Taken.TheVariants as taken
+use Rattle.std.specs.Prelude.{◌≡◌, ℕ, Bool, true, false, List, [], ◌++◌, take, ⊤, Option, None, Some, is_none}
+use Rattle.lz_serve.specs.{declared.{language.Language.{Language}, stream.{Received.{Received}, Taken.{Taken}}}, Grants.{Grant}, Listings.{Listing}}
+use Rattle.lz_serve.specs.Conversations.{IsAt, Talk}
 
 -- The language of a client, all that it has sent of its text and whether that has ended, and all that was sent to it.
 pub record Traffic : Type 0 where

@@ -1,7 +1,6 @@
 -- What an operator is told of a service.
 use Rattle.std.specs.Prelude.{ℕ, List, ◌++◌, codes, decimal, Option, None, Some}
-use Rattle.lz_serve.specs.declared.observer.Loops.{Loops}
-use Rattle.lz_serve.specs.declared.observer.Serving.{Serving}
+use Rattle.lz_serve.specs.declared.observer.{Loops.{Loops}, Serving.{Serving}}
 
 -- the text of the number of passes, and of the loops, if there are any
 abbrev pub passes_text : ℕ → Option Loops → List ℕ

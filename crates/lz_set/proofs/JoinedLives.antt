@@ -1,25 +1,12 @@
 -- The lives of sets that follow on one another are a chain.
-use Rattle.std.proofs.Common.{◌≡◌, ⊎_elim, List, [], ◌∷◌, ◌++◌, refl, sym, ◌∙◌, subst, arith}
-use Rattle.std.proofs.lemmas.List.{append-nil}
-use Rattle.std.specs.Prelude.{IsTrue}
-use Rattle.lz_slot.specs.Bytes.{Holds}
-use Rattle.lz_slot.specs.Histories.{Life, ChainTo}
-use Rattle.lz_slot.specs.Sets.{Keys, Same}
-use Rattle.lz_disk.specs.Devices.{Device}
-use Rattle.lz_disk.specs.Images.{Medium, IsImage, IsSound}
-use Rattle.lz_machine.specs.Runs.{State, disk_of}
-use Rattle.lz_machine.specs.Yards.{Yard}
-use Rattle.lz_machine.proofs.Open.FirstPoint.{fits_same, one_set}
-use Rattle.lz_machine.proofs.Theorem.OneAdd.{run_sound}
-use Rattle.lz_board.specs.declared.view.Note.{Note}
+use Rattle.std.{proofs.{Common.{◌≡◌, ⊎_elim, List, [], ◌∷◌, ◌++◌, refl, sym, ◌∙◌, subst, arith}, lemmas.List.{append-nil}}, specs.Prelude.{IsTrue}}
+use Rattle.lz_slot.specs.{Bytes.{Holds}, Histories.{Life, ChainTo}, Sets.{Keys, Same}}
+use Rattle.lz_disk.specs.{Devices.{Device}, Images.{Medium, IsImage, IsSound}}
+use Rattle.lz_machine.{specs.{Runs.{State, disk_of}, Yards.{Yard}}, proofs.{Open.FirstPoint.{fits_same, one_set}, Theorem.OneAdd.{run_sound}}}
+use Rattle.lz_board.specs.{declared.view.Note.{Note}, Seats.{BoardId}}
 use Rattle.lz_list.specs.Addresses.{sizes_in}
-use Rattle.lz_board.specs.Seats.{BoardId}
-use Rattle.lz_tie.specs.Holds.{IsLocked}
-use Rattle.lz_tie.specs.Moments.{ExplainsBegun, ExplainsFrom, GrowsTo, IsReply, RepliesStay, Stays}
-use Rattle.lz_tie.specs.RunningSets.{members_of}
-use Rattle.lz_tie.proofs.Marks.RunningSet.{history_of}
-use Rattle.lz_tie.proofs.Moments.GrownNotes.{grows_on, same_grows}
-use Rattle.lz_tie.proofs.Start.FirstSets.{begins_with_read}
+use Rattle.lz_tie.specs.{Holds.{IsLocked}, Moments.{ExplainsBegun, ExplainsFrom, GrowsTo, IsReply, RepliesStay, Stays}, RunningSets.{members_of}}
+use Rattle.lz_tie.proofs.{Marks.RunningSet.{history_of}, Moments.GrownNotes.{grows_on, same_grows}, Start.FirstSets.{begins_with_read}}
 use Rattle.lz_tie.proofs.Start.OpenedYard.{opened_locked, opened_sizes}
 use Rattle.lz_set.specs.JoinedLives.{AfterReply, IsSeen, Lived, LivesJoin, MayLeave, life_of}
 

@@ -1,21 +1,13 @@
 -- Worked rows: what no closed set has left, for each promise of it.
 use Rattle.std.proofs.Common.{◌≡◌, inl, ⊎_elim, ℕ, ◌<◌, true, false, List, [], ◌∷◌, None, IsTrue, refl, sym, ◌∙◌, arith}
 use mathlib.Core.Bool.{false≢true}
-use Rattle.lz_slot.specs.declared.command.Command.TheVariants.{Add}
-use Rattle.lz_slot.specs.declared.format.Format.TheVariants.{Two}
-use Rattle.lz_slot.specs.Bytes.{Holds}
-use Rattle.lz_disk.specs.Devices.{Device}
-use Rattle.lz_disk.specs.Images.{IsImage}
+use Rattle.lz_slot.specs.{declared.{command.Command.TheVariants.{Add}, format.Format.TheVariants.{Two}}, Bytes.{Holds}}
+use Rattle.lz_disk.specs.{Devices.{Device}, Images.{IsImage}}
 use Rattle.lz_vault.specs.Vaults.{last_sync}
 use Rattle.lz_list.specs.Traces.{halt_word}
-use Rattle.lz_machine.specs.Halts.{told_device}
-use Rattle.lz_machine.proofs.Open.FirstPoint.{one_set}
-use Rattle.lz_board.specs.declared.view.Note.{Note}
-use Rattle.lz_board.specs.declared.view.What.TheVariants.{Called}
-use Rattle.lz_board.specs.Notes.{note_by, shape_of_sizes, trace_of}
-use Rattle.lz_board.specs.Seats.{BoardId}
-use Rattle.lz_tie.specs.Marks.{marks_in}
-use Rattle.lz_tie.proofs.MomentRows.{S0, board, has_still, later, reply_lost}
+use Rattle.lz_machine.{specs.Halts.{told_device}, proofs.Open.FirstPoint.{one_set}}
+use Rattle.lz_board.specs.{declared.view.{Note.{Note}, What.TheVariants.{Called}}, Notes.{note_by, shape_of_sizes, trace_of}, Seats.{BoardId}}
+use Rattle.lz_tie.{specs.Marks.{marks_in}, proofs.MomentRows.{S0, board, has_still, later, reply_lost}}
 use Rattle.lz_set.specs.Left.{IsLeft}
 
 -- Pass 1 has added 12, which was answered. A text that lacks it isn't left now, nor since the reply.

@@ -1,27 +1,15 @@
 -- With how many members a set that was just opened begins.
 use Rattle.std.proofs.Common.{◌≡◌, ℕ, zero, suc, false, List, [], ◌∷◌, map, length, cond, count_by, refl, sym, ap, ◌∙◌, le_refl, arith}
-use Rattle.std.specs.Prelude.{nat_eq}
-use Rattle.std.specs.List.{IsDistinct, AllByRecursion}
-use Rattle.std.proofs.lemmas.Bool.Decides.{nat_tests}
-use Rattle.std.proofs.lemmas.List.{length-append, length-map, map-append}
-use Rattle.std.proofs.lemmas.List.Sums.{sum_by_push}
-use Rattle.std.proofs.lemmas.Map.Keys.{IsDistinct-cons}
-use Rattle.lz_slot.specs.declared.slot.SlotRead.{SlotRead}
-use Rattle.lz_slot.specs.declared.slot.SlotRead.TheVariants.{Closed, Torn, Member, BadKey}
-use Rattle.lz_slot.specs.Sets.{HasMembers}
-use Rattle.lz_slot.specs.Bytes.{slot_at, held, held_key}
+use Rattle.std.proofs.lemmas.{Bool.Decides.{nat_tests}, List.{length-append, length-map, map-append, Sums.{sum_by_push}}, Map.Keys.{IsDistinct-cons}}
+use Rattle.std.specs.{Prelude.{nat_eq}, List.{IsDistinct, AllByRecursion}}
+use Rattle.lz_slot.specs.{declared.slot.SlotRead.{SlotRead, TheVariants.{Closed, Torn, Member, BadKey}}, Sets.{HasMembers}, Bytes.{slot_at, held, held_key}}
 use Rattle.lz_disk.specs.Devices.{Device}
 use Rattle.lz_allot.specs.Uses.{counts, is_taken}
-use Rattle.lz_list.specs.Traces.{Chain, IsFound, has_key, member}
-use Rattle.lz_list.proofs.Traces.OpeningTrace.{opening_members}
-use Rattle.lz_machine.specs.Yards.{Yard, first_trace, slots_read, use_read}
-use Rattle.lz_machine.proofs.Open.FirstNodes.{held_found}
-use Rattle.lz_machine.proofs.Open.ListedKeys.{any_key}
+use Rattle.lz_list.{specs.Traces.{Chain, IsFound, has_key, member}, proofs.Traces.OpeningTrace.{opening_members}}
+use Rattle.lz_machine.{specs.Yards.{Yard, first_trace, slots_read, use_read}, proofs.Open.{FirstNodes.{held_found}, ListedKeys.{any_key}}}
 use Rattle.lz_machine.proofs.Alone.Size.{none_distinct}
 use Rattle.lz_yard.specs.Filling.{OpensYard}
-use Rattle.lz_board.specs.Opened.{opened_by}
-use Rattle.lz_board.specs.Seats.{BoardId}
-use Rattle.lz_board.proofs.Start.FirstWords.{opens_text}
+use Rattle.lz_board.{specs.{Opened.{opened_by}, Seats.{BoardId}}, proofs.Start.FirstWords.{opens_text}}
 use Rattle.lz_tie.specs.RunningSets.{members_of}
 
 -- an open takes a slot for each key that the text holds

@@ -2,20 +2,12 @@
 use Rattle.std.proofs.Common.{◌≡◌, ◌≤◌, [], ℕ, All, List, length, map, refl, sym, ap, ◌∙◌, subst}
 use Rattle.lz_slot.specs.Limits.{most_buckets, most_passes}
 use Rattle.lz_disk.specs.Devices.{Device}
-use Rattle.lz_list.specs.Words.{Words}
+use Rattle.lz_list.specs.{Words.{Words}, declared.layout.Sizes.{Sizes}, Addresses.{sizes_in}}
 use Rattle.lz_machine.specs.Yards.{Yard}
 use Rattle.lz_yard.specs.Filling.{OpensYard}
-use Rattle.lz_board.specs.declared.board.Pen.{Pen}
-use Rattle.lz_board.specs.declared.pass.Pass.{Pass}
-use Rattle.lz_list.specs.declared.layout.Sizes.{Sizes}
-use Rattle.lz_list.specs.Addresses.{sizes_in}
-use Rattle.lz_board.specs.Opened.{opened_by}
-use Rattle.lz_board.specs.Plays.{parts_from}
-use Rattle.lz_board.specs.Seats.{BoardId, IsNew, IsPenOf, notes, part}
-use Rattle.lz_tie.specs.Holds.{sizes_of}
-use Rattle.lz_tie.proofs.Start.OpenedYard.{opened_locked, opened_sizes}
-use Rattle.lz_set.specs.Blanks.{IsBlank}
-use Rattle.lz_set.proofs.Members.{begins_with}
+use Rattle.lz_board.specs.{declared.{board.Pen.{Pen}, pass.Pass.{Pass}}, Opened.{opened_by}, Plays.{parts_from}, Seats.{BoardId, IsNew, IsPenOf, notes, part}}
+use Rattle.lz_tie.{specs.Holds.{sizes_of}, proofs.Start.OpenedYard.{opened_locked, opened_sizes}}
+use Rattle.lz_set.{specs.Blanks.{IsBlank}, proofs.Members.{begins_with}}
 
 pub blank : (b : BoardId) (p : Pen) (before after : Device) (B S : ℕ) (y : Yard) (w : Words) (ps : List Pass) → OpensYard before after B S y → w ≡ y.words
     → b.sizes ≡ sizes_in w → b.opened ≡ opened_by w → IsPenOf b p → notes p ≡ []

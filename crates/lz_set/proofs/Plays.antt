@@ -1,38 +1,17 @@
 -- What a hold has played.
 use Rattle.std.proofs.Common.{◌≡◌, ◌≢◌, ℕ, IsSomeAnd, List, [], ◌∷◌, ◌++◌, map, Option, Some, refl, sym, ap, ◌∙◌, subst, append_assoc}
 use Rattle.std.proofs.lemmas.Option.{none-some, same_Some}
-use Rattle.lz_slot.specs.declared.command.Command.{Command}
-use Rattle.lz_slot.specs.declared.format.Format.{Format}
-use Rattle.lz_list.specs.declared.publishing.Publishing.{Publishing}
-use Rattle.lz_list.specs.Words.{Words}
-use Rattle.lz_machine.specs.declared.caller.Progress.{Progress}
-use Rattle.lz_machine.specs.declared.caller.Progress.TheVariants.{Playing, LoadsHalt, Walking, Reserving, SeeingPins, Claiming, Checking, Answering}
-use Rattle.lz_machine.specs.declared.event.Event.{Event}
-use Rattle.lz_machine.specs.declared.event.Event.TheVariants.{SeePin, Sync as SyncOf}
-use Rattle.lz_machine.specs.declared.event.Outcome.{Outcome}
-use Rattle.lz_machine.specs.declared.event.Outcome.TheVariants.{OldFile, Fault}
-use Rattle.lz_machine.specs.declared.event.Reply.{Reply}
-use Rattle.lz_machine.specs.Calls.{event_at, loaded}
-use Rattle.lz_machine.specs.declared.kind.Kind.{Kind}
-use Rattle.lz_machine.specs.declared.kind.Kind.TheVariants.{Hop, Invoke, Sync}
-use Rattle.lz_machine.specs.Kinds.{kind_of}
-use Rattle.lz_machine.specs.Orders.{Calling, shape_with}
-use Rattle.lz_machine.specs.Runs.{reply_at}
-use Rattle.lz_machine.specs.Yards.{Shape, Yard}
+use Rattle.lz_slot.specs.declared.{command.Command.{Command}, format.Format.{Format}}
+use Rattle.lz_list.specs.{declared.publishing.Publishing.{Publishing}, Words.{Words}}
+use Rattle.lz_machine.specs.declared.caller.Progress.{Progress, TheVariants.{Playing, LoadsHalt, Walking, Reserving, SeeingPins, Claiming, Checking, Answering}}
+use Rattle.lz_machine.specs.declared.event.{Event.{Event, TheVariants.{SeePin, Sync as SyncOf}}, Outcome.{Outcome, TheVariants.{OldFile, Fault}}, Reply.{Reply}}
+use Rattle.lz_machine.specs.{declared.kind.Kind.{Kind, TheVariants.{Hop, Invoke, Sync}}, Calls.{event_at, loaded}, Kinds.{kind_of}}
+use Rattle.lz_machine.specs.{Orders.{Calling, shape_with}, Runs.{reply_at}, Yards.{Shape, Yard}}
 use Rattle.lz_caller.specs.Begun.{begun_after}
-use Rattle.lz_board.specs.declared.view.Note.{Note}
-use Rattle.lz_board.specs.declared.view.Part.{Part}
-use Rattle.lz_board.specs.declared.view.Load.{Load}
-use Rattle.lz_board.specs.declared.view.What.{What}
-use Rattle.lz_board.specs.declared.view.What.TheVariants.{Called, Played, Found}
-use Rattle.lz_board.specs.Notes.{load_note, note_by, stamped}
-use Rattle.lz_board.specs.Seats.{BoardId}
-use Rattle.lz_tie.specs.declared.playing.Turn.{Turn}
-use Rattle.lz_tie.specs.Held.{Advanced}
-use Rattle.lz_tie.specs.Counting.{Counts, CountsOn}
-use Rattle.lz_tie.specs.Holds.{LockedOver}
-use Rattle.lz_set.specs.declared.underway.Stage.{Stage}
-use Rattle.lz_set.specs.declared.underway.Stage.TheVariants.{Syncs, Busy, Answers}
+use Rattle.lz_board.specs.declared.view.{Note.{Note}, Part.{Part}, Load.{Load}, What.{What, TheVariants.{Called, Played, Found}}}
+use Rattle.lz_board.specs.{Notes.{load_note, note_by, stamped}, Seats.{BoardId}}
+use Rattle.lz_tie.specs.{declared.playing.Turn.{Turn}, Held.{Advanced}, Counting.{Counts, CountsOn}, Holds.{LockedOver}}
+use Rattle.lz_set.specs.declared.underway.Stage.{Stage, TheVariants.{Syncs, Busy, Answers}}
 use Rattle.lz_set.specs.Stages.{NoneOf, PlaysOne, StandsAt, StandsBefore, StepsBut, StepsUnfailed, StepsWithout, StopsBefore, kind_of_failed, kind_of_step}
 
 -- neither a loaded pin word nor the yard's shape makes it another kind of event

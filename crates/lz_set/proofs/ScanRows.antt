@@ -1,9 +1,7 @@
 -- Worked rows of scans: one that holds, and what is none, and what none tells.
 use Rattle.std.proofs.Common.{inl, None, Some, [], ◌∷◌, refl, sym, subst, arith}
 use Rattle.lz_list.specs.Traces.{Trace, SettledYes}
-use Rattle.lz_board.specs.Glances.{Between}
-use Rattle.lz_board.proofs.GlanceRows.{E2, only_E2}
-use Rattle.lz_board.proofs.ListRows.{both_slots}
+use Rattle.lz_board.{specs.Glances.{Between}, proofs.{GlanceRows.{E2, only_E2}, ListRows.{both_slots}}}
 use Rattle.lz_set.specs.Scans.{Told, Scans, TellsMembers}
 
 -- after E2 the one member is 12, in slot 0 of two: one page of both slots

@@ -1,19 +1,11 @@
 -- A scan tells the members.
-use Rattle.std.proofs.Common.{inl, inr, ℕ, ◌<◌, ◌≤◌, true, Option, Some, None, List, [], ◌∷◌, All, Contains, arith}
-use Rattle.std.proofs.lemmas.Bool.{cases_lt}
+use Rattle.std.proofs.{Common.{inl, inr, ℕ, ◌<◌, ◌≤◌, true, Option, Some, None, List, [], ◌∷◌, All, Contains, arith}, lemmas.Bool.{cases_lt}}
 use Rattle.std.proofs.lemmas.List.Elements.{All-append, Contains-append_left, Contains-append_right}
 use Rattle.lz_slot.specs.Limits.{largest_key}
-use Rattle.lz_list.specs.Traces.{Trace, bucket_of}
-use Rattle.lz_list.proofs.Traces.Absence.{begins_itself}
-use Rattle.lz_list.proofs.Traces.Hindsight.{lawful_begins}
-use Rattle.lz_list.proofs.Traces.WalkEnd.{begins_before}
+use Rattle.lz_list.{specs.Traces.{Trace, bucket_of}, proofs.Traces.{Absence.{begins_itself}, Hindsight.{lawful_begins}, WalkEnd.{begins_before}}}
 use Rattle.lz_machine.proofs.Frames.Ranges.{on_range}
-use Rattle.lz_board.specs.Glances.{Between, Glanced}
-use Rattle.lz_board.specs.Listings.{reached, IsDurableIn}
-use Rattle.lz_board.proofs.Walk.GlanceAnswer.{between_longer}
-use Rattle.lz_board.proofs.Walk.ListedMore.{glanced_longer}
-use Rattle.lz_board.proofs.Walk.ListedSlot.{its_node}
-use Rattle.lz_board.proofs.Walk.OneSlot.{one_slot, some_slot}
+use Rattle.lz_board.{specs.{Glances.{Between, Glanced}, Listings.{reached, IsDurableIn}}, proofs.Walk.GlanceAnswer.{between_longer}}
+use Rattle.lz_board.proofs.Walk.{ListedMore.{glanced_longer}, ListedSlot.{its_node}, OneSlot.{one_slot, some_slot}}
 use Rattle.lz_set.specs.Scans.{Told, keys_of, Scans, ScansTellMembers}
 
 module _ (slots : ℕ) (P Q : Trace) where

@@ -1,26 +1,16 @@
 -- Worked rows: where calls stand that stopped.
+use Rattle.lz_vault.specs.declared.vault.Stage.TheVariants as cell
+use Rattle.lz_machine.specs.declared.event.Outcome.TheVariants as found
+use Rattle.lz_machine.specs.declared.kind.Kind.TheVariants as kind
 use Rattle.std.proofs.Common.{◌≡◌, ◌≢◌, ℕ, Bool, true, false, List, [], ◌∷◌, ◌++◌, length, Option, Some, None, is_some, refl, sym, ap, arith, length-append}
 use Rattle.std.proofs.lemmas.Option.{none-some, same_Some}
 use mathlib.Core.Bool.{false≢true}
-use Rattle.lz_slot.specs.declared.command.Command.TheVariants.{Add}
-use Rattle.lz_slot.specs.declared.format.Format.TheVariants.{One}
-use Rattle.lz_vault.specs.declared.vault.Stage.TheVariants as cell
+use Rattle.lz_slot.specs.declared.{command.Command.TheVariants.{Add}, format.Format.TheVariants.{One}}
 use Rattle.lz_list.specs.declared.place.Place.TheVariants.{Bucket}
-use Rattle.lz_machine.specs.declared.caller.Progress.{Progress}
-use Rattle.lz_machine.specs.declared.caller.Progress.TheVariants.{Playing, LoadsHalt, Claiming, Checking, Answering}
-use Rattle.lz_machine.specs.declared.caller.Sequence.TheVariants.{Adding}
-use Rattle.lz_machine.specs.declared.event.Event.TheVariants.{Claim, Sync, WriteOpen}
-use Rattle.lz_machine.specs.declared.event.Outcome.TheVariants as found
-use Rattle.lz_machine.specs.declared.event.Reply.TheVariants.{No}
-use Rattle.lz_machine.specs.declared.kind.Kind.{Kind}
-use Rattle.lz_machine.specs.declared.kind.Kind.TheVariants as kind
-use Rattle.lz_machine.specs.Orders.{Calling}
-use Rattle.lz_machine.specs.Yards.{Yard}
-use Rattle.lz_board.specs.declared.view.Note.{Note}
-use Rattle.lz_board.specs.declared.view.Part.{Part}
-use Rattle.lz_board.specs.declared.view.What.TheVariants.{Called, Played}
-use Rattle.lz_board.specs.Notes.{note_by}
-use Rattle.lz_board.specs.Plays.{no_sizes}
+use Rattle.lz_machine.specs.declared.caller.Progress.{Progress, TheVariants.{Playing, LoadsHalt, Claiming, Checking, Answering}}
+use Rattle.lz_machine.specs.declared.{caller.Sequence.TheVariants.{Adding}, event.{Event.TheVariants.{Claim, Sync, WriteOpen}, Reply.TheVariants.{No}}}
+use Rattle.lz_machine.specs.{declared.kind.Kind.{Kind}, Orders.{Calling}, Yards.{Yard}}
+use Rattle.lz_board.specs.{declared.view.{Note.{Note}, Part.{Part}, What.TheVariants.{Called, Played}}, Notes.{note_by}, Plays.{no_sizes}}
 use Rattle.lz_tie.proofs.CoveredRows.{yard_at}
 use Rattle.lz_set.specs.declared.underway.Stage.TheVariants.{Syncs, Busy, Answers}
 use Rattle.lz_set.specs.Stages.{HasPlayed, NoneOf, PlaysOne, StandsAt, StepsUnfailed, StepsWithout, StopsBefore, kind_of_failed, kind_of_step}

@@ -1,14 +1,9 @@
 -- Passes join the pen one after the other.
 use Rattle.std.proofs.Common.{◌≡◌, ◌<◌, ◌≤◌, ◌∷◌, [], arith, ℕ, zero, suc, All, List, length, map, slice_index_or, slice_set, refl, ap, ◌∙◌, subst}
-use Rattle.lz_list.specs.Traces.{Trace}
-use Rattle.lz_board.specs.declared.pass.Pass.{Pass}
-use Rattle.lz_board.specs.declared.view.Note.{Note}
-use Rattle.lz_board.specs.declared.view.Part.{Part}
-use Rattle.lz_board.specs.Notes.{Extends}
-use Rattle.lz_board.specs.Plays.{knowing}
-use Rattle.lz_board.specs.Seats.{BoardId, part}
-use Rattle.lz_set.specs.Left.{IsWelcome}
 use Rattle.std.proofs.lemmas.List.Elements.{All-nil, All-cons}
+use Rattle.lz_list.specs.Traces.{Trace}
+use Rattle.lz_board.specs.{declared.{pass.Pass.{Pass}, view.{Note.{Note}, Part.{Part}}}, Notes.{Extends}, Plays.{knowing}, Seats.{BoardId, part}}
+use Rattle.lz_set.specs.Left.{IsWelcome}
 
 -- a part that has seen the trace, of which it had seen a beginning, or is as before
 abbrev pub HasCome : BoardId → List Note → Trace → ℕ → Part → Part → Type 0

@@ -1,9 +1,8 @@
 -- What a call answers.
+use Rattle.lz_machine.specs.declared.event.Reply.TheVariants as reply
 use Rattle.std.specs.Prelude.{ℕ, Bool, true, false, Result, Ok, Err}
 use Rattle.lz_machine.specs.declared.event.Reply.{Reply}
-use Rattle.lz_machine.specs.declared.event.Reply.TheVariants as reply
-use Rattle.lz_set.specs.declared.fault.Fault.{Fault}
-use Rattle.lz_set.specs.declared.fault.Fault.TheVariants.{Full, Halted, Worn, Device, OldFile}
+use Rattle.lz_set.specs.declared.fault.Fault.{Fault, TheVariants.{Full, Halted, Worn, Device, OldFile}}
 
 -- the number by which a program tells a fault
 abbrev pub fault_number : Fault → ℕ

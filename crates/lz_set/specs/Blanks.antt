@@ -1,19 +1,11 @@
 -- A set that was opened and has no name yet.
 use Rattle.std.specs.Prelude.{◌≡◌, ◌≤◌, ℕ, All, List, [], length, map}
-use Rattle.lz_slot.specs.declared.format.Format.{Format}
-use Rattle.lz_slot.specs.Sets.{HasMembers}
-use Rattle.lz_slot.specs.Limits.{most_buckets, most_passes}
+use Rattle.lz_slot.specs.{declared.format.Format.{Format}, Sets.{HasMembers}, Limits.{most_buckets, most_passes}}
 use Rattle.lz_disk.specs.Devices.{Device}
 use Rattle.lz_allot.specs.Uses.{counts}
 use Rattle.lz_machine.specs.Yards.{Yard}
-use Rattle.lz_board.specs.declared.board.Pen.{Pen}
-use Rattle.lz_board.specs.declared.pass.Pass.{Pass}
-use Rattle.lz_board.specs.Plays.{parts_from}
-use Rattle.lz_board.specs.Seats.{BoardId, IsNew, IsPenOf, notes as notes_of, part}
-use Rattle.lz_tie.specs.Holds.{IsLocked}
-use Rattle.lz_tie.specs.Lives.{LivesOn}
-use Rattle.lz_tie.specs.Moments.{LeftSince}
-use Rattle.lz_tie.specs.RunningSets.{members_of}
+use Rattle.lz_board.specs.{declared.{board.Pen.{Pen}, pass.Pass.{Pass}}, Plays.{parts_from}, Seats.{BoardId, IsNew, IsPenOf, notes as notes_of, part}}
+use Rattle.lz_tie.specs.{Holds.{IsLocked}, Lives.{LivesOn}, Moments.{LeftSince}, RunningSets.{members_of}}
 
 -- The board that its name will have, its yard and its disk.
 pub record BlankOver (D : Type 0) : Type 0 where

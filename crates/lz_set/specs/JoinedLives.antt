@@ -1,21 +1,11 @@
 -- Lives of sets follow on one another: each set was opened on a text that the life before it left.
 use Rattle.std.specs.Prelude.{◌≡◌, ◌⊎◌, ℕ, IsTrue, List, [], ◌∷◌, ◌++◌}
-use Rattle.lz_slot.specs.Bytes.{Holds}
-use Rattle.lz_slot.specs.Histories.{Life, ChainTo}
-use Rattle.lz_slot.specs.Sets.{Keys}
-use Rattle.lz_disk.specs.Devices.{Device}
-use Rattle.lz_disk.specs.Images.{IsImage}
+use Rattle.lz_slot.specs.{Bytes.{Holds}, Histories.{Life, ChainTo}, Sets.{Keys}}
+use Rattle.lz_disk.specs.{Devices.{Device}, Images.{IsImage}}
 use Rattle.lz_yard.specs.Filling.{OpensYard}
-use Rattle.lz_board.specs.declared.view.Note.{Note}
-use Rattle.lz_board.specs.Notes.{shape_of_sizes}
-use Rattle.lz_board.specs.Opened.{opened_by}
-use Rattle.lz_board.specs.Seats.{BoardId}
-use Rattle.lz_tie.specs.Holds.{sizes_of}
-use Rattle.lz_tie.specs.Marks.{marks_in}
-use Rattle.lz_tie.specs.Moments.{GrowsTo, IsReply}
-use Rattle.lz_tie.specs.RunningSets.{members_of}
-use Rattle.lz_set.specs.Blanks.{BlankOver}
-use Rattle.lz_set.specs.Left.{IsLeft}
+use Rattle.lz_board.specs.{declared.view.Note.{Note}, Notes.{shape_of_sizes}, Opened.{opened_by}, Seats.{BoardId}}
+use Rattle.lz_tie.specs.{Holds.{sizes_of}, Marks.{marks_in}, Moments.{GrowsTo, IsReply}, RunningSets.{members_of}}
+use Rattle.lz_set.specs.{Blanks.{BlankOver}, Left.{IsLeft}}
 
 -- A closed set leaves a text: what is read then, or what a crash leaves of its disk.
 abbrev pub MayLeave : Device → List ℕ → Type 0

@@ -3,19 +3,9 @@ use Rattle.std.specs.Prelude.{◌≡◌, ◌⊎◌, ◌+◌, ◌≤◌, ◌<◌,
 use Rattle.lz_disk.specs.Devices.{Device}
 use Rattle.lz_vault.specs.Vaults.{last_sync}
 use Rattle.lz_list.specs.Traces.{halt_word}
-use Rattle.lz_machine.specs.Halts.{HaltLasts, told_device}
-use Rattle.lz_machine.specs.Marks.{IsTold}
-use Rattle.lz_machine.specs.Yards.{Yard}
-use Rattle.lz_board.specs.declared.view.Note.{Note}
-use Rattle.lz_board.specs.declared.view.Part.{Part}
-use Rattle.lz_board.specs.Notes.{Extends, shape_of_sizes, steps_of, trace_of}
-use Rattle.lz_board.specs.Plays.{knowing}
-use Rattle.lz_board.specs.Seats.{BoardId}
-use Rattle.lz_tie.specs.Holds.{IsLocked}
-use Rattle.lz_tie.specs.Marks.{AreOfPasses, marks_in}
-use Rattle.lz_tie.specs.Moments.{ExplainedSince, RepliesStay}
-use Rattle.lz_tie.specs.OwnCalls.{TellsOwn}
-use Rattle.lz_tie.specs.RunningSets.{HasHistory}
+use Rattle.lz_machine.specs.{Halts.{HaltLasts, told_device}, Marks.{IsTold}, Yards.{Yard}}
+use Rattle.lz_board.specs.{declared.view.{Note.{Note}, Part.{Part}}, Notes.{Extends, shape_of_sizes, steps_of, trace_of}, Plays.{knowing}, Seats.{BoardId}}
+use Rattle.lz_tie.specs.{Holds.{IsLocked}, Marks.{AreOfPasses, marks_in}, Moments.{ExplainedSince, RepliesStay}, OwnCalls.{TellsOwn}, RunningSets.{HasHistory}}
 use Rattle.lz_tie.specs.Sessions.{TellsAlone}
 
 -- Whatever a crash leaves of the disk now explains what these notes show of calls and answers, and each text that a crash might

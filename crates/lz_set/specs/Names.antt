@@ -1,6 +1,5 @@
 -- Which passes may call a set. A set is named by its board.
-use Rattle.lz_board.specs.declared.pass.Pass.{Pass}
-use Rattle.lz_board.specs.Seats.{BoardId, IsOf, part}
+use Rattle.lz_board.specs.{declared.pass.Pass.{Pass}, Seats.{BoardId, IsOf, part}}
 use Rattle.lz_tie.specs.Holds.{IsIdle}
 
 -- the pass is one of this set, and outside: no call of it is under way

@@ -2,8 +2,7 @@
 use Rattle.std.specs.Prelude.{ℕ, ◌≤◌, true, Option, Some, None, List, [], ◌∷◌, ◌++◌, All, Contains}
 use Rattle.lz_slot.specs.Limits.{largest_key}
 use Rattle.lz_list.specs.Traces.{Trace, Begins, Lawful, SettledYes}
-use Rattle.lz_board.specs.Glances.{Between, Glanced}
-use Rattle.lz_board.specs.Listings.{IsPage}
+use Rattle.lz_board.specs.{Glances.{Between, Glanced}, Listings.{IsPage}}
 
 -- A page as it was told: how many keys were asked for, the keys, the slot to go on from, and what the pass had seen before it and after it.
 pub record Told : Type 0 where

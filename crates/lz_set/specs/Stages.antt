@@ -1,27 +1,11 @@
 -- How a call under way is played on.
 use Rattle.std.specs.Prelude.{◌≡◌, ◌≢◌, ℕ, false, true, List, [], ◌∷◌, ◌++◌, map, Option, Some, None}
-use Rattle.lz_list.specs.declared.place.Place.{Place}
-use Rattle.lz_list.specs.declared.publishing.Publishing.{Publishing}
-use Rattle.lz_machine.specs.declared.event.Event.{Event}
-use Rattle.lz_machine.specs.declared.event.Event.TheVariants.{Claim, Sync}
-use Rattle.lz_machine.specs.declared.event.Outcome.{Outcome}
-use Rattle.lz_machine.specs.declared.event.Outcome.TheVariants.{Fault}
-use Rattle.lz_machine.specs.declared.event.Reply.{Reply}
-use Rattle.lz_machine.specs.declared.kind.Kind.{Kind}
-use Rattle.lz_machine.specs.declared.kind.Kind.TheVariants.{Invoke}
-use Rattle.lz_machine.specs.Calls.{event_at}
-use Rattle.lz_machine.specs.Kinds.{kind_of}
-use Rattle.lz_machine.specs.Orders.{Calling, shape_with}
-use Rattle.lz_machine.specs.Runs.{reply_at}
-use Rattle.lz_machine.specs.Table.{is_sure, is_taken}
-use Rattle.lz_machine.specs.Yards.{Yard}
-use Rattle.lz_board.specs.declared.view.Note.{Note}
-use Rattle.lz_board.specs.declared.view.Part.{Part}
-use Rattle.lz_board.specs.declared.view.What.{What}
-use Rattle.lz_board.specs.declared.view.What.TheVariants.{Called, Played, Found}
-use Rattle.lz_board.specs.Notes.{load_note, note_by, stamped}
-use Rattle.lz_set.specs.declared.underway.Stage.{Stage}
-use Rattle.lz_set.specs.declared.underway.Stage.TheVariants.{Syncs, Busy, Answers}
+use Rattle.lz_list.specs.declared.{place.Place.{Place}, publishing.Publishing.{Publishing}}
+use Rattle.lz_machine.specs.declared.{event.{Event.{Event, TheVariants.{Claim, Sync}}, Outcome.{Outcome, TheVariants.{Fault}}, Reply.{Reply}}, kind.Kind.{Kind}}
+use Rattle.lz_machine.specs.{declared.kind.Kind.TheVariants.{Invoke}, Calls.{event_at}, Kinds.{kind_of}, Orders.{Calling, shape_with}, Runs.{reply_at}}
+use Rattle.lz_machine.specs.{Table.{is_sure, is_taken}, Yards.{Yard}}
+use Rattle.lz_board.specs.{declared.view.{Note.{Note}, Part.{Part}, What.{What, TheVariants.{Called, Played, Found}}}, Notes.{load_note, note_by, stamped}}
+use Rattle.lz_set.specs.declared.underway.Stage.{Stage, TheVariants.{Syncs, Busy, Answers}}
 
 -- where a call stands that stopped at this stage: before a Sync, before a Claim, or with its reply
 abbrev pub StandsAt : Stage → Calling → Type 0

@@ -1,14 +1,9 @@
 -- Rows that the definitions refuse: lists that fit no history, and texts that hold no set.
 use Rattle.std.proofs.Common.{◌≡◌, inl, inr, ⊎_elim, ℕ, ◌+◌, ◌*◌, ◌≤◌, ◌<◌, suc, true, false, List, [], ◌∷◌, ◌++◌, replicate, refl, sym, subst, arith}
 use Rattle.std.proofs.lemmas.Bool.{true≢false}
-use Rattle.lz_slot.specs.Sets.{Keys, members}
-use Rattle.lz_slot.specs.Histories.{History, Fits, IsCalled, ChainTo, lives, count_of}
-use Rattle.lz_slot.specs.Bytes.{Holds, header_body, slot_body}
-use Rattle.lz_slot.specs.declared.command.Command.{Command}
-use Rattle.lz_slot.specs.declared.command.Command.TheVariants.{Add}
-use Rattle.lz_slot.specs.declared.history.Mark.TheVariants.{Call, Answer, Refused, Crash, Opened}
-use Rattle.lz_slot.specs.declared.history.Refusal.TheVariants.{Full}
-use Rattle.lz_slot.specs.declared.format.Format.TheVariants.{One}
+use Rattle.lz_slot.specs.{Sets.{Keys, members}, Histories.{History, Fits, IsCalled, ChainTo, lives, count_of}, Bytes.{Holds, header_body, slot_body}}
+use Rattle.lz_slot.specs.declared.{command.Command.{Command, TheVariants.{Add}}, history.Mark.TheVariants.{Call, Answer, Refused, Crash, Opened}}
+use Rattle.lz_slot.specs.declared.{history.Refusal.TheVariants.{Full}, format.Format.TheVariants.{One}}
 
 -- one answered call
 abbrev added : History

@@ -1,16 +1,9 @@
 -- The slots of format 4: what is read of one is what was written, and no mixture of zeros with one is another.
-use Rattle.std.proofs.Common.{◌≡◌, ◌⊎◌, inl, inr, ⊎_elim, ℕ, zero, suc, ◌+◌, ◌*◌, ◌/◌, ◌%◌, ◌<◌, ◌≤◌, Bool, true, false, List, [], ◌∷◌, length, get_or, refl, sym, ap, ◌∙◌, arith}
-use Rattle.std.specs.Prelude.{◌&&◌, ◌==◌, nat_le, replicate, if◌then◌else◌}
-use Rattle.std.specs.List.{list_all}
-use Rattle.std.proofs.lemmas.Bool.{cases_Bool}
-use Rattle.std.proofs.lemmas.Bool.Decides.{nat_tests, eqb_tells}
-use Rattle.byteorder.specs.Endian.{big_bytes, big_number}
-use Rattle.byteorder.specs.Numbers.{big_number-reads_back}
-use Rattle.std.proofs.lemmas.Nat.{be_bytes_8}
-use Rattle.std.specs.Int.{w64, from_be_bytes}
-use Rattle.lz_slot.specs.Limits.{largest_key}
-use Rattle.lz_slot.specs.declared.slot.SlotRead.{SlotRead}
-use Rattle.lz_slot.specs.declared.slot.SlotRead.TheVariants.{Closed, Torn, Member, BadKey}
+use Rattle.std.proofs.Common.{◌≡◌, ◌⊎◌, inl, inr, ⊎_elim, ℕ, zero, suc, ◌+◌, ◌*◌, ◌/◌, ◌%◌, ◌<◌, ◌≤◌, Bool, true, false, List, [], ◌∷◌, length, get_or, refl}
+use Rattle.std.proofs.{Common.{sym, ap, ◌∙◌, arith}, lemmas.{Bool.{cases_Bool, Decides.{nat_tests, eqb_tells}}, Nat.{be_bytes_8}}}
+use Rattle.std.specs.{Prelude.{◌&&◌, ◌==◌, nat_le, replicate, if◌then◌else◌}, List.{list_all}, Int.{w64, from_be_bytes}}
+use Rattle.byteorder.specs.{Endian.{big_bytes, big_number}, Numbers.{big_number-reads_back}}
+use Rattle.lz_slot.specs.{Limits.{largest_key}, declared.slot.SlotRead.{SlotRead, TheVariants.{Closed, Torn, Member, BadKey}}}
 use Rattle.lz_slot.specs.Whole.{spelled, spells, whole_slot, is_paired, is_shut, whole_read, IsPartOf, MixturesAreWhole, ShutStaysShut}
 
 -- a mixture of zeros with a list, one byte after the other

@@ -1,8 +1,6 @@
 -- Worked rows: the bytes of slots of format 4, what is read of them, and what isn't.
 use Rattle.std.proofs.Common.{◌≡◌, ◌⊎◌, inl, inr, ℕ, [], ◌∷◌, ◌++◌, replicate, refl, arith}
-use Rattle.lz_slot.specs.declared.slot.SlotRead.{SlotRead}
-use Rattle.lz_slot.specs.declared.slot.SlotRead.TheVariants.{Closed, Torn, Member, BadKey}
-use Rattle.lz_slot.specs.Limits.{largest_key}
+use Rattle.lz_slot.specs.{declared.slot.SlotRead.{SlotRead, TheVariants.{Closed, Torn, Member, BadKey}}, Limits.{largest_key}}
 use Rattle.lz_slot.specs.Whole.{whole_slot, whole_read, IsPartOf}
 
 -- the highest four bits come first

@@ -1,14 +1,7 @@
 -- What is seen of a service, as lines.
 use Rattle.std.specs.Prelude.{ℕ, Bool, true, false, List, [], ◌∷◌, ◌++◌, codes, decimal}
-use Rattle.lz_slot.specs.Sets.{key_of}
-use Rattle.lz_slot.specs.Texts.{key_text}
-use Rattle.lz_slot.specs.declared.command.Command.{Command}
-use Rattle.lz_slot.specs.declared.command.Command.TheVariants.{Add, Remove, Has}
-use Rattle.lz_slot.specs.declared.history.Refusal.{Refusal}
-use Rattle.lz_slot.specs.declared.history.Refusal.TheVariants.{Full, Worn, OldFile}
-use Rattle.lz_slot.specs.declared.history.Cut.{Cut}
-use Rattle.lz_slot.specs.declared.history.Cut.TheVariants.{Halted, Device}
-use Rattle.lz_slot.specs.declared.history.Mark.{Mark}
+use Rattle.lz_slot.specs.{Sets.{key_of}, Texts.{key_text}, declared.{command.Command.{Command, TheVariants.{Add, Remove, Has}}, history.Refusal.{Refusal}}}
+use Rattle.lz_slot.specs.declared.history.{Refusal.TheVariants.{Full, Worn, OldFile}, Cut.{Cut, TheVariants.{Halted, Device}}, Mark.{Mark}}
 use Rattle.lz_slot.specs.declared.history.Mark.TheVariants.{Call, Answer, Refused, Cut as CutOff, Stop, Crash, Opened, OpenFailed}
 
 abbrev pub command_word : Command → List ℕ

@@ -1,7 +1,6 @@
 -- Numbers as texts. A text is a list of bytes.
-use Rattle.std.specs.Prelude.{◌≡◌, ◌↔◌, ℕ, ◌≤◌, ◌==◌, ◌&&◌, Bool, not, nat_lt, nat_le, if◌then◌else◌, List, length, slice_index, decimal, Option, None, Some, option_and_then}
-use Rattle.std.specs.List.{list_all}
-use Rattle.std.specs.Str.Parse.{digits_value}
+use Rattle.std.specs.Prelude.{◌≡◌, ◌↔◌, ℕ, ◌≤◌, ◌==◌, ◌&&◌, Bool, not, nat_lt, nat_le, if◌then◌else◌, List, length, slice_index, decimal, Option, None, Some}
+use Rattle.std.specs.{Prelude.{option_and_then}, List.{list_all}, Str.Parse.{digits_value}}
 
 -- the byte is a decimal digit
 abbrev pub is_digit : ℕ → Bool

@@ -1,10 +1,7 @@
 -- Keys as texts: a number, after its room and a colon or, in room 0, alone.
 use Rattle.std.specs.Prelude.{◌≡◌, ◌⊎◌, ◌↔◌, ℕ, ◌≤◌, ◌==◌, nat_eq, if◌then◌else◌, List, [], ◌∷◌, ◌++◌, decimal, Option, None, Some, option_map, Result, Ok, Err}
-use Rattle.lz_slot.specs.Limits.{largest_key, largest_number, last_room}
-use Rattle.lz_slot.specs.Rooms.{rank, room_of, number_of}
-use Rattle.lz_slot.specs.Numerals.{is_number, number_in}
-use Rattle.lz_slot.specs.declared.spelling.KeyFault.{KeyFault}
-use Rattle.lz_slot.specs.declared.spelling.KeyFault.TheVariants.{NoRoom, NoNumber, TooLarge}
+use Rattle.lz_slot.specs.{Limits.{largest_key, largest_number, last_room}, Rooms.{rank, room_of, number_of}, Numerals.{is_number, number_in}}
+use Rattle.lz_slot.specs.declared.spelling.KeyFault.{KeyFault, TheVariants.{NoRoom, NoNumber, TooLarge}}
 
 -- what parts a room from a number
 abbrev pub colon : ℕ

@@ -2,9 +2,7 @@
 use Rattle.std.specs.Prelude.{◌≡◌, ◌⊎◌, ℕ, ◌+◌, ◌*◌, ◌/◌, ◌%◌, ◌<◌, Bool, true, ◌&&◌, ◌==◌, nat_le, List, [], ◌∷◌, length, slice_index, if◌then◌else◌}
 use Rattle.std.specs.List.{list_all, list_any}
 use Rattle.byteorder.specs.Endian.{big_number, big_bytes}
-use Rattle.lz_slot.specs.Limits.{largest_key}
-use Rattle.lz_slot.specs.declared.slot.SlotRead.{SlotRead}
-use Rattle.lz_slot.specs.declared.slot.SlotRead.TheVariants.{Closed, Torn, Member, BadKey}
+use Rattle.lz_slot.specs.{Limits.{largest_key}, declared.slot.SlotRead.{SlotRead, TheVariants.{Closed, Torn, Member, BadKey}}}
 
 -- the bytes of which each spells half a byte of these: 15 * (h + 1) is 16 * h and, below it, 15 - h
 abbrev pub spelled : List ℕ → List ℕ

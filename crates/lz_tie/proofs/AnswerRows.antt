@@ -1,18 +1,15 @@
 -- Worked rows: the definitions computed on small cases.
 use Rattle.std.proofs.Common.{◌≡◌, ◌==◌, ◌&&◌, ◌||◌, Bool, true, false, inl, inr, List, [], ◌∷◌, ⊎_elim, Some, None, refl, arith}
 use mathlib.Core.Bool.{false≢true}
-use Rattle.lz_slot.specs.declared.command.Command.TheVariants.{Add, Has}
-use Rattle.lz_slot.specs.declared.format.Format.TheVariants.{Two}
-use Rattle.lz_list.specs.declared.word.Word.TheVariants.{Head, Link, Key, Halt}
-use Rattle.lz_list.specs.declared.publishing.Change.TheVariants.{Added as as_added, Removed as as_removed}
-use Rattle.lz_list.specs.declared.publishing.Publishing.TheVariants.{Linked as linked, Marked as marked, Unlinked as unlinked, Settled as settled, KeyPrepared as key_prepared, LinkPrepared as link_prepared}
-use Rattle.lz_tie.proofs.Vocabulary.{Trace, Begins, linking_in, opening, Shape, IsLateReply, Note, Load, Part, Sizes, note_by, load_note, splice}
-use Rattle.lz_tie.proofs.Vocabulary.{pin_after, index, word_at, Glanced, GlancedUnsettled, fresh, knowing}
-use Rattle.lz_machine.specs.declared.event.Event.TheVariants.{Pin, Reserve, Answer}
-use Rattle.lz_machine.specs.declared.event.Outcome.TheVariants.{Done}
-use Rattle.lz_machine.specs.declared.event.Reply.TheVariants.{Yes, Worn, Device}
-use Rattle.lz_board.specs.declared.view.What.TheVariants.{Called, Played, Found}
+use Rattle.lz_slot.specs.declared.{command.Command.TheVariants.{Add, Has}, format.Format.TheVariants.{Two}}
+use Rattle.lz_list.specs.declared.{word.Word.TheVariants.{Head, Link, Key, Halt}, publishing.Change.TheVariants.{Added as as_added, Removed as as_removed}}
+use Rattle.lz_list.specs.declared.publishing.Publishing.TheVariants.{Linked as linked, Marked as marked, Unlinked as unlinked, Settled as settled}
+use Rattle.lz_list.specs.declared.publishing.Publishing.TheVariants.{KeyPrepared as key_prepared, LinkPrepared as link_prepared}
+use Rattle.lz_tie.proofs.Vocabulary.{Trace, Begins, linking_in, opening, Shape, IsLateReply, Note, Load, Part, Sizes, note_by, load_note, splice, pin_after}
+use Rattle.lz_tie.proofs.Vocabulary.{index, word_at, Glanced, GlancedUnsettled, fresh, knowing}
 use Rattle.lz_tie.specs.Answers.{Added, AreWithin, IsOneCall, Met, Promises, Removed, WasFull}
+use Rattle.lz_machine.specs.declared.event.{Event.TheVariants.{Pin, Reserve, Answer}, Outcome.TheVariants.{Done}, Reply.TheVariants.{Yes, Worn, Device}}
+use Rattle.lz_board.specs.declared.view.What.TheVariants.{Called, Played, Found}
 
 -- key 9 was found in slot 0
 abbrev P0 : Trace

@@ -1,12 +1,9 @@
 -- Worked rows: when a Sync spares the device.
 use Rattle.std.proofs.Common.{false, [], ◌∷◌, refl, arith}
 use Rattle.lz_slot.specs.declared.format.Format.TheVariants.{One}
-use Rattle.lz_tie.proofs.Vocabulary.{Device, Stage, Yard}
+use Rattle.lz_tie.{proofs.Vocabulary.{Device, Stage, Yard}, specs.{Held.{SparesDevice}, Moments.{no_device}}}
 use Rattle.lz_vault.specs.declared.vault.Stage.TheVariants.{KeyLoose, Keyed}
-use Rattle.lz_machine.specs.declared.event.Event.TheVariants.{Sync, WriteOpen}
-use Rattle.lz_machine.specs.declared.event.Outcome.TheVariants.{Done, Fault}
-use Rattle.lz_tie.specs.Held.{SparesDevice}
-use Rattle.lz_tie.specs.Moments.{no_device}
+use Rattle.lz_machine.specs.declared.event.{Event.TheVariants.{Sync, WriteOpen}, Outcome.TheVariants.{Done, Fault}}
 
 -- a yard of one slot, at this stage
 abbrev pub yard_at : Stage → Yard

@@ -1,15 +1,12 @@
 -- Worked rows of keys that nobody else changes, computed on small cases.
-use Rattle.std.proofs.Common.{◌≡◌, true, false, inl, inr, [], ◌∷◌, ◌++◌, refl, sym, ◌∙◌, subst, arith}
-use mathlib.Core.Bool.{false≢true, true≢false}
-use Rattle.std.proofs.lemmas.Bool.Decides.{nat_tests}
+use Rattle.std.proofs.{Common.{◌≡◌, true, false, inl, inr, [], ◌∷◌, ◌++◌, refl, sym, ◌∙◌, subst, arith}, lemmas.Bool.Decides.{nat_tests}}
 use Rattle.std.proofs.lemmas.List.{append_cancel_right}
-use Rattle.lz_slot.specs.declared.command.Command.TheVariants.{Add, Remove, Has}
-use Rattle.lz_slot.specs.declared.format.Format.TheVariants.{One, Two}
-use Rattle.lz_tie.proofs.Vocabulary.{Keys, members, Counts, Trace, opening}
+use mathlib.Core.Bool.{false≢true, true≢false}
+use Rattle.lz_slot.specs.declared.{command.Command.TheVariants.{Add, Remove, Has}, format.Format.TheVariants.{One, Two}}
+use Rattle.lz_tie.proofs.{Vocabulary.{Keys, members, Counts, Trace, opening}, SessionRows.{before, after, answers}}
+use Rattle.lz_tie.specs.KeyByKey.{AreFor, OnlyOwnOf, Untouched, KeyRow, IsKeyAnswer, ServedKey, about, PlainCalls, answered_in}
 use Rattle.lz_list.specs.declared.publishing.Publishing.TheVariants.{Linked as linked, Marked as marked}
 use Rattle.lz_machine.specs.declared.event.Reply.TheVariants.{Yes, No, Full, Worn, OldFile, Halted}
-use Rattle.lz_tie.specs.KeyByKey.{AreFor, OnlyOwnOf, Untouched, KeyRow, IsKeyAnswer, ServedKey, about, PlainCalls, answered_in}
-use Rattle.lz_tie.proofs.SessionRows.{before, after, answers}
 
 -- key 9 was found in slot 0; pass 2 has changed it since, while pass 1 has linked 12
 abbrev P0 : Trace

@@ -1,14 +1,10 @@
 -- Worked rows of all calls of a set, computed on small cases.
-use Rattle.std.proofs.Common.{◌≡◌, inl, ℕ, ◌==◌, if◌then◌else◌, true, false, [], ◌∷◌, ◌++◌, refl, sym, subst}
-use Rattle.std.proofs.lemmas.List.{append_cancel_right}
-use Rattle.lz_slot.specs.declared.command.Command.TheVariants.{Has}
-use Rattle.lz_slot.specs.declared.format.Format.TheVariants.{Two}
+use Rattle.std.proofs.{Common.{◌≡◌, inl, ℕ, ◌==◌, if◌then◌else◌, true, false, [], ◌∷◌, ◌++◌, refl, sym, subst}, lemmas.List.{append_cancel_right}}
+use Rattle.lz_slot.specs.declared.{command.Command.TheVariants.{Has}, format.Format.TheVariants.{Two}}
 use Rattle.lz_list.specs.declared.publishing.Publishing.TheVariants.{Linked as linked, Marked as marked}
-use Rattle.lz_tie.proofs.Vocabulary.{Trace, opening, Since, own, knowing}
-use Rattle.lz_machine.specs.declared.event.Reply.TheVariants.{Yes}
+use Rattle.lz_tie.proofs.{Vocabulary.{Trace, opening, Since, own, knowing}, Replies.KeyChanges.{no_sooner}, SessionRows.{before, after, answers}}
 use Rattle.lz_tie.specs.LoneClient.{MadeCall, PublishedIn, InTurn, AreAll}
-use Rattle.lz_tie.proofs.Replies.KeyChanges.{no_sooner}
-use Rattle.lz_tie.proofs.SessionRows.{before, after, answers}
+use Rattle.lz_machine.specs.declared.event.Reply.TheVariants.{Yes}
 
 -- key 9 was found in slot 0, and pass 1 looked for it
 abbrev P0 : Trace

@@ -1,25 +1,19 @@
 -- Worked rows of what a late crash may leave: not a text that lacks what an answered call did.
 use Rattle.std.proofs.Common.{◌≡◌, inl, ⊎_elim, ℕ, true, List, [], ◌∷◌, ◌++◌, Some, None, refl, sym, ap, ◌∙◌, subst, append_assoc, arith, IsTrue}
-use mathlib.Core.Bool.{false≢true}
 use Rattle.std.proofs.lemmas.List.{append_cancel_right}
-use Rattle.lz_slot.specs.declared.command.Command.TheVariants.{Add, Remove, Has}
-use Rattle.lz_slot.specs.declared.format.Format.TheVariants.{Two}
+use mathlib.Core.Bool.{false≢true}
+use Rattle.lz_slot.specs.declared.{command.Command.TheVariants.{Add, Remove, Has}, format.Format.TheVariants.{Two}}
 use Rattle.lz_slot.specs.declared.history.Mark.TheVariants.{Call, Answer as answer}
-use Rattle.lz_tie.proofs.Vocabulary.{Holds, History, Fits, IsUnderWay, Keys, Device, Trace, IsPlain, Note, Sizes, note_by, load_note, shape_of_sizes}
-use Rattle.lz_tie.proofs.Vocabulary.{stamped, BoardId}
-use Rattle.lz_list.specs.declared.publishing.Change.TheVariants.{Added as as_added}
-use Rattle.lz_list.specs.declared.publishing.Publishing.TheVariants.{Linked as linked, Settled as settled, KeyPrepared as key_prepared, LinkPrepared as link_prepared}
-use Rattle.lz_list.specs.declared.word.Word.TheVariants.{Head, Halt}
-use Rattle.lz_list.specs.declared.place.Place.TheVariants.{Bucket}
+use Rattle.lz_tie.proofs.Vocabulary.{Holds, History, Fits, IsUnderWay, Keys, Device, Trace, IsPlain, Note, Sizes, note_by, load_note, shape_of_sizes, stamped}
+use Rattle.lz_tie.{proofs.Vocabulary.{BoardId}, specs.{Holds.{no_board}, Marks.{marks_in}, Moments.{GrowsTo, ExplainsFrom, RepliesStay}}}
+use Rattle.lz_tie.specs.RunningSets.{members_of, Explains}
+use Rattle.lz_list.specs.declared.publishing.{Change.TheVariants.{Added as as_added}, Publishing.TheVariants.{Linked as linked, Settled as settled}}
+use Rattle.lz_list.specs.declared.publishing.Publishing.TheVariants.{KeyPrepared as key_prepared, LinkPrepared as link_prepared}
+use Rattle.lz_list.specs.declared.{word.Word.TheVariants.{Head, Halt}, place.Place.TheVariants.{Bucket}}
 use Rattle.lz_machine.specs.declared.event.Event.TheVariants.{Pin, Reserve, WriteKey, Sync, Claim, Check, WriteOpen, Link, Release, Settle, Answer}
-use Rattle.lz_machine.specs.declared.event.Outcome.TheVariants.{Done, Slot, Taken, True}
-use Rattle.lz_machine.proofs.Alone.Service.{served, served_open}
+use Rattle.lz_machine.{specs.declared.event.Outcome.TheVariants.{Done, Slot, Taken, True}, proofs.Alone.Service.{served, served_open}}
 use Rattle.lz_machine.proofs.Open.FirstPoint.{one_set}
 use Rattle.lz_board.specs.declared.view.What.TheVariants.{Called, Played}
-use Rattle.lz_tie.specs.Holds.{no_board}
-use Rattle.lz_tie.specs.Marks.{marks_in}
-use Rattle.lz_tie.specs.Moments.{GrowsTo, ExplainsFrom, RepliesStay}
-use Rattle.lz_tie.specs.RunningSets.{members_of, Explains}
 
 abbrev sizes : Sizes
 sizes = record { slots = 1; buckets = 1; passes = 1 }

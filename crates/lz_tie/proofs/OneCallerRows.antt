@@ -1,21 +1,13 @@
 -- Worked rows of what one caller is told, computed on small cases.
-use Rattle.std.proofs.Common.{◌≡◌, ℕ, ◌≤◌, inr, [], ◌∷◌, ◌++◌, refl, sym, ◌∙◌, subst, arith}
-use Rattle.std.specs.Cmp.{nat_eq_equiv}
+use Rattle.std.proofs.{Common.{◌≡◌, ℕ, ◌≤◌, inr, [], ◌∷◌, ◌++◌, refl, sym, ◌∙◌, subst, arith}, lemmas.{Bool.Decides.{nat_tests}, List.{append_cancel_right}}}
+use Rattle.std.{proofs.lemmas.Map.{Keys.{IsDistinct-push}, Made.{length-le_from_is_member}}, specs.Cmp.{nat_eq_equiv}}
 use mathlib.Core.Bool.{false≢true, true≢false}
-use Rattle.std.proofs.lemmas.Bool.Decides.{nat_tests}
-use Rattle.std.proofs.lemmas.List.{append_cancel_right}
-use Rattle.std.proofs.lemmas.Map.Keys.{IsDistinct-push}
-use Rattle.std.proofs.lemmas.Map.Made.{length-le_from_is_member}
-use Rattle.lz_slot.specs.declared.command.Command.TheVariants.{Add, Has}
-use Rattle.lz_slot.specs.declared.format.Format.TheVariants.{One, Two}
-use Rattle.lz_tie.proofs.Vocabulary.{members, HasMembers, Counts, Trace, opening, member}
-use Rattle.lz_slot.proofs.Sets.{members_among}
-use Rattle.lz_list.specs.declared.publishing.Change.TheVariants.{Added as as_added}
-use Rattle.lz_list.specs.declared.publishing.Publishing.TheVariants.{Linked as linked, Settled as settled, KeyPrepared as key_prepared, LinkPrepared as link_prepared}
-use Rattle.lz_machine.specs.declared.event.Reply.TheVariants.{Yes, No, Full, OldFile, Halted}
-use Rattle.lz_machine.proofs.Alone.Size.{none_distinct}
-use Rattle.lz_tie.specs.OnePass.{AreOwn, OnlyOwn}
+use Rattle.lz_slot.{specs.declared.{command.Command.TheVariants.{Add, Has}, format.Format.TheVariants.{One, Two}}, proofs.Sets.{members_among}}
+use Rattle.lz_tie.{proofs.Vocabulary.{members, HasMembers, Counts, Trace, opening, member}, specs.OnePass.{AreOwn, OnlyOwn}}
 use Rattle.lz_tie.specs.OneCaller.{keys_in, IsPlainAnswer}
+use Rattle.lz_list.specs.declared.publishing.{Change.TheVariants.{Added as as_added}, Publishing.TheVariants.{Linked as linked, Settled as settled}}
+use Rattle.lz_list.specs.declared.publishing.Publishing.TheVariants.{KeyPrepared as key_prepared, LinkPrepared as link_prepared}
+use Rattle.lz_machine.{specs.declared.event.Reply.TheVariants.{Yes, No, Full, OldFile, Halted}, proofs.Alone.Size.{none_distinct}}
 
 -- key 9 was found in slot 0, and pass 1 has linked 12 in slot 1 since
 abbrev P0 : Trace

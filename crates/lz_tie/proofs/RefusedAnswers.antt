@@ -1,15 +1,13 @@
 -- Worked rows of answers that must not hold, for each part of what an answer promises.
-use Rattle.std.proofs.Common.{◌≡◌, ⊎_elim, ℕ, None, List, [], ◌∷◌, ◌++◌, sym, ap, ◌∙◌, arith}
+use Rattle.std.proofs.{Common.{◌≡◌, ⊎_elim, ℕ, None, List, [], ◌∷◌, ◌++◌, sym, ap, ◌∙◌, arith}, lemmas.List.{append-nil, append_cancel_right}}
 use mathlib.Core.Bool.{false≢true}
-use Rattle.std.proofs.lemmas.List.{append-nil, append_cancel_right}
 use Rattle.lz_tie.proofs.Vocabulary.{Command, Counts, Trace, halt_word, member, Shape, Note, Part, note_by, own}
-use Rattle.lz_slot.specs.declared.command.Command.TheVariants.{Add, Has}
-use Rattle.lz_slot.specs.declared.format.Format.TheVariants.{Two}
+use Rattle.lz_tie.specs.Answers.{Added, Answers, IsOneCall, Promises, Removed, WasCut, WasFull}
+use Rattle.lz_slot.specs.declared.{command.Command.TheVariants.{Add, Has}, format.Format.TheVariants.{Two}}
 use Rattle.lz_list.specs.declared.publishing.Change.TheVariants.{Added as as_added}
 use Rattle.lz_list.specs.declared.publishing.Publishing.TheVariants.{Linked as linked, Marked as marked, Settled as settled, Halted as halted}
 use Rattle.lz_machine.specs.declared.event.Reply.TheVariants.{Yes, No, OldFile}
 use Rattle.lz_board.specs.declared.view.What.TheVariants.{Called}
-use Rattle.lz_tie.specs.Answers.{Added, Answers, IsOneCall, Promises, Removed, WasCut, WasFull}
 
 abbrev shape : Shape
 shape = record { slots = 2; buckets = 1; passes = 2 }

@@ -1,20 +1,13 @@
 -- Worked rows of one caller's session, computed on small cases.
-use Rattle.std.proofs.Common.{◌≡◌, true, false, inl, inr, List, [], ◌∷◌, ◌++◌, Some, None, refl, arith}
+use Rattle.std.proofs.{Common.{◌≡◌, true, false, inl, inr, List, [], ◌∷◌, ◌++◌, Some, None, refl, arith}, lemmas.Bool.Decides.{nat_tests}}
 use mathlib.Core.Bool.{false≢true, true≢false}
-use Rattle.std.proofs.lemmas.Bool.Decides.{nat_tests}
-use Rattle.lz_slot.specs.declared.command.Command.TheVariants.{Add, Remove, Has}
-use Rattle.lz_slot.specs.declared.format.Format.TheVariants.{Two}
+use Rattle.lz_slot.specs.declared.{command.Command.TheVariants.{Add, Remove, Has}, format.Format.TheVariants.{Two}}
 use Rattle.lz_slot.specs.declared.history.Mark.TheVariants.{Call, Answer as answer}
 use Rattle.lz_list.specs.declared.word.Word.TheVariants.{Head, Link, Key, Halt}
-use Rattle.lz_tie.proofs.Vocabulary.{Trace, Lawful, opening, Part, Note, Sizes, note_by, load_note, fresh, BoardId}
-use Rattle.lz_machine.specs.declared.event.Event.TheVariants.{Pin, Answer}
-use Rattle.lz_machine.specs.declared.event.Outcome.TheVariants.{Done}
-use Rattle.lz_machine.specs.declared.event.Reply.TheVariants.{Yes, No, Halted}
+use Rattle.lz_tie.{proofs.Vocabulary.{Trace, Lawful, opening, Part, Note, Sizes, note_by, load_note, fresh, BoardId}, specs.Answers.{Answers}}
+use Rattle.lz_tie.specs.{Holds.{no_board}, OneCaller.{keys_in}, Sessions.{PlainRun, CutLast, marks_alone, IsSession, MayHaveNext}}
+use Rattle.lz_machine.specs.declared.event.{Event.TheVariants.{Pin, Answer}, Outcome.TheVariants.{Done}, Reply.TheVariants.{Yes, No, Halted}}
 use Rattle.lz_board.specs.declared.view.What.TheVariants.{Called, Played, Found}
-use Rattle.lz_tie.specs.Answers.{Answers}
-use Rattle.lz_tie.specs.Holds.{no_board}
-use Rattle.lz_tie.specs.OneCaller.{keys_in}
-use Rattle.lz_tie.specs.Sessions.{PlainRun, CutLast, marks_alone, IsSession, MayHaveNext}
 
 -- key 9 was found in slot 0
 abbrev P0 : Trace

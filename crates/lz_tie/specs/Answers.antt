@@ -1,30 +1,15 @@
 -- What each answer promises a pass: P is what it had seen before its call, Q what it has seen after. Traces and steps stand
 -- newest first. A pass's own changes are the linkings, markings and unlinkings made for it.
 use Rattle.std.specs.Prelude.{◌≡◌, ◌⊎◌, ℕ, suc, ◌+◌, true, false, List, [], ◌∷◌, ◌++◌, length, Option, Some, None}
-use Rattle.lz_slot.specs.declared.command.Command.{Command}
-use Rattle.lz_slot.specs.declared.command.Command.TheVariants.{Add, Remove, Has}
-use Rattle.lz_slot.specs.declared.format.Format.{Format}
+use Rattle.lz_slot.specs.{declared.{command.Command.{Command, TheVariants.{Add, Remove, Has}}, format.Format.{Format}}, Sets.{HasMembers}}
 use Rattle.lz_allot.specs.declared.counts.Counts.{Counts}
 use Rattle.lz_list.specs.declared.publishing.Publishing.TheVariants.{Linked as linked, Marked as marked, Unlinked as unlinked}
 use Rattle.lz_list.specs.Traces.{Trace, Begins, Lawful, member, linking_in, is_settled, is_removed, halt_word}
-use Rattle.lz_machine.specs.declared.event.Event.TheVariants.{Reserve, Answer}
-use Rattle.lz_machine.specs.declared.event.Outcome.{Outcome}
-use Rattle.lz_machine.specs.declared.event.Outcome.TheVariants.{Done, NoSlot}
-use Rattle.lz_machine.specs.declared.event.Reply.{Reply}
-use Rattle.lz_machine.specs.declared.event.Reply.TheVariants.{Yes, No, Full, Worn, OldFile, Halted, Device}
-use Rattle.lz_machine.specs.declared.caller.Progress.TheVariants.{Answering}
-use Rattle.lz_machine.specs.Halts.{IsLateReply}
-use Rattle.lz_machine.specs.Yards.{Shape}
-use Rattle.lz_machine.specs.Table.{last_pin, is_old}
-use Rattle.lz_slot.specs.Sets.{HasMembers}
-use Rattle.lz_board.specs.declared.view.What.{What}
-use Rattle.lz_board.specs.declared.view.What.TheVariants.{Called, Played, Found}
-use Rattle.lz_board.specs.declared.view.Note.{Note}
-use Rattle.lz_board.specs.declared.view.Part.{Part}
-use Rattle.lz_board.specs.Notes.{note_by, own, place, shape_of_sizes, stamped}
-use Rattle.lz_board.specs.Glances.{Changes, Between}
-use Rattle.lz_board.specs.Plays.{knowing}
-use Rattle.lz_board.specs.Ways.{Rests}
+use Rattle.lz_machine.specs.declared.event.{Event.TheVariants.{Reserve, Answer}, Outcome.{Outcome, TheVariants.{Done, NoSlot}}, Reply.{Reply}}
+use Rattle.lz_machine.specs.declared.{event.Reply.TheVariants.{Yes, No, Full, Worn, OldFile, Halted, Device}, caller.Progress.TheVariants.{Answering}}
+use Rattle.lz_machine.specs.{Halts.{IsLateReply}, Yards.{Shape}, Table.{last_pin, is_old}}
+use Rattle.lz_board.specs.declared.view.{What.{What, TheVariants.{Called, Played, Found}}, Note.{Note}, Part.{Part}}
+use Rattle.lz_board.specs.{Notes.{note_by, own, place, shape_of_sizes, stamped}, Glances.{Changes, Between}, Plays.{knowing}, Ways.{Rests}}
 use Rattle.lz_tie.specs.OnePass.{OnlyOwn}
 
 -- its own adding of k in slot s, which was settled since

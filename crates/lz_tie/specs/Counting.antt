@@ -1,16 +1,9 @@
 -- A call under way with the caller that counts its events, and one hold of it.
 use Rattle.std.specs.Prelude.{◌≡◌}
-use Rattle.lz_slot.specs.declared.command.Command.{Command}
-use Rattle.lz_slot.specs.declared.format.Format.{Format}
-use Rattle.lz_slot.specs.Sets.{key_of}
-use Rattle.lz_list.specs.Traces.{Trace}
-use Rattle.lz_machine.specs.declared.caller.Progress.{Progress}
-use Rattle.lz_machine.specs.declared.caller.Progress.TheVariants.{Walking}
-use Rattle.lz_machine.specs.Orders.{Calling}
-use Rattle.lz_list.specs.declared.layout.Sizes.{Sizes}
-use Rattle.lz_board.specs.declared.view.Part.{Part}
-use Rattle.lz_board.specs.Seats.{BoardId}
-use Rattle.lz_board.specs.Walkers.{IsOnWalk}
+use Rattle.lz_slot.specs.{declared.{command.Command.{Command}, format.Format.{Format}}, Sets.{key_of}}
+use Rattle.lz_list.specs.{Traces.{Trace}, declared.layout.Sizes.{Sizes}}
+use Rattle.lz_machine.specs.{declared.caller.Progress.{Progress, TheVariants.{Walking}}, Orders.{Calling}}
+use Rattle.lz_board.specs.{declared.view.Part.{Part}, Seats.{BoardId}, Walkers.{IsOnWalk}}
 use Rattle.lz_tie.specs.UnderWay.{UnderWay}
 
 -- Where the call walks, the pass knows where its walk stands: P0 is the trace at its pin, Q what it has seen.

@@ -1,29 +1,13 @@
 -- What a hold of the lock promises the pass.
 use Rattle.std.specs.Prelude.{◌≡◌, ◌≢◌, ℕ, suc, true, List, [], ◌∷◌, None}
-use Rattle.lz_slot.specs.declared.command.Command.{Command}
-use Rattle.lz_slot.specs.declared.format.Format.{Format}
-use Rattle.lz_slot.specs.declared.history.Mark.TheVariants.{Call}
+use Rattle.lz_slot.specs.declared.{command.Command.{Command}, format.Format.{Format}, history.Mark.TheVariants.{Call}}
 use Rattle.lz_disk.specs.Devices.{Device}
 use Rattle.lz_vault.specs.Vaults.{NoCall, Succeeds}
-use Rattle.lz_machine.specs.declared.event.Event.{Event}
-use Rattle.lz_machine.specs.declared.event.Event.TheVariants.{SeePin, Sync}
-use Rattle.lz_machine.specs.declared.event.Outcome.{Outcome}
-use Rattle.lz_machine.specs.declared.event.Outcome.TheVariants.{Fault}
-use Rattle.lz_machine.specs.Yards.{Yard}
-use Rattle.lz_machine.specs.Table.{is_sure}
-use Rattle.lz_machine.specs.Calls.{event_at}
-use Rattle.lz_machine.specs.Laws.{hop_of}
-use Rattle.lz_machine.specs.Orders.{Calling}
-use Rattle.lz_machine.specs.Runs.{mark_of_turn, reply_at}
-use Rattle.lz_board.specs.declared.view.What.TheVariants.{Called, Played}
-use Rattle.lz_board.specs.declared.view.Note.{Note}
-use Rattle.lz_board.specs.declared.view.Part.{Part}
-use Rattle.lz_board.specs.Notes.{Extends, note_by, shape_of_sizes, trace_of}
-use Rattle.lz_board.specs.Plays.{found_note}
-use Rattle.lz_board.specs.Seats.{BoardId}
-use Rattle.lz_tie.specs.declared.playing.Turn.{Turn}
-use Rattle.lz_tie.specs.OnePass.{OnlyOwn}
-use Rattle.lz_tie.specs.Marks.{Shows, calls_in, last_call_number}
+use Rattle.lz_machine.specs.{declared.event.{Event.{Event, TheVariants.{SeePin, Sync}}, Outcome.{Outcome, TheVariants.{Fault}}}, Yards.{Yard}, Table.{is_sure}}
+use Rattle.lz_machine.specs.{Calls.{event_at}, Laws.{hop_of}, Orders.{Calling}, Runs.{mark_of_turn, reply_at}}
+use Rattle.lz_board.specs.{declared.view.{What.TheVariants.{Called, Played}, Note.{Note}, Part.{Part}}, Notes.{Extends, note_by, shape_of_sizes, trace_of}}
+use Rattle.lz_board.specs.{Plays.{found_note}, Seats.{BoardId}}
+use Rattle.lz_tie.specs.{declared.playing.Turn.{Turn}, OnePass.{OnlyOwn}, Marks.{Shows, calls_in, last_call_number}}
 use Rattle.lz_tie.specs.Holds.{HasCall, HoldNotes, IsTurn, Turned, begins_with}
 
 -- The event is the next one of the pass's call c, and no load.

@@ -1,41 +1,18 @@
 -- The value under the lock, and what one hold promises.
 use Rattle.std.specs.Prelude.{◌≡◌, ◌≢◌, ◌%◌, ◌==◌, ◌≤◌, ℕ, false, if◌then◌else◌, List, [], ◌∷◌, ◌++◌, map, length, Option, Some, None}
-use Rattle.lz_slot.specs.declared.command.Command.{Command}
-use Rattle.lz_slot.specs.declared.format.Format.{Format}
-use Rattle.lz_slot.specs.Histories.{History}
-use Rattle.lz_slot.specs.Limits.{largest_key}
-use Rattle.lz_slot.specs.Sets.{key_of}
-use Rattle.lz_disk.specs.Devices.{Device}
-use Rattle.lz_disk.specs.Images.{Medium}
+use Rattle.lz_slot.specs.{declared.{command.Command.{Command}, format.Format.{Format}}, Histories.{History}, Limits.{largest_key}, Sets.{key_of}}
+use Rattle.lz_disk.specs.{Devices.{Device}, Images.{Medium}}
 use Rattle.lz_vault.specs.Vaults.{NoCall}
-use Rattle.lz_list.specs.declared.publishing.Publishing.{Publishing}
-use Rattle.lz_list.specs.Traces.{Trace, Lawful}
-use Rattle.lz_list.specs.Pinned.{IsQuiet}
-use Rattle.lz_machine.specs.declared.caller.Progress.{Progress}
-use Rattle.lz_machine.specs.declared.event.Event.{Event}
-use Rattle.lz_machine.specs.declared.event.Event.TheVariants.{Invoke, SeePin}
-use Rattle.lz_machine.specs.declared.event.Outcome.{Outcome}
-use Rattle.lz_machine.specs.declared.event.Outcome.TheVariants.{Done, OldFile, Fault}
-use Rattle.lz_machine.specs.Yards.{Shape, Yard}
-use Rattle.lz_machine.specs.Table.{is_old, line, line_call, line_publishes, pin_of}
-use Rattle.lz_machine.specs.Calls.{event_at}
-use Rattle.lz_machine.specs.Orders.{Calling, HasPass}
-use Rattle.lz_machine.specs.Runs.{Start, Service, Caller, Up, Reached, caller_at, next_event}
-use Rattle.lz_machine.specs.Laws.{hop_of}
-use Rattle.lz_machine.specs.CallersSound.{CallerSound, view_of}
+use Rattle.lz_list.specs.{declared.{publishing.Publishing.{Publishing}, layout.Sizes.{Sizes}}, Traces.{Trace, Lawful}, Pinned.{IsQuiet}}
+use Rattle.lz_machine.specs.declared.{caller.Progress.{Progress}, event.{Event.{Event, TheVariants.{Invoke, SeePin}}, Outcome.{Outcome}}}
+use Rattle.lz_machine.specs.{declared.event.Outcome.TheVariants.{Done, OldFile, Fault}, Yards.{Shape, Yard, IsInside}}
+use Rattle.lz_machine.specs.{Table.{is_old, line, line_call, line_publishes, pin_of}, Calls.{event_at}, Orders.{Calling, HasPass}}
+use Rattle.lz_machine.specs.{Runs.{Start, Service, Caller, Up, Reached, caller_at, next_event}, Laws.{hop_of}, CallersSound.{CallerSound, view_of}}
 use Rattle.lz_machine.specs.CallsStand.{own_change}
-use Rattle.lz_list.specs.declared.layout.Sizes.{Sizes}
-use Rattle.lz_board.specs.declared.view.What.{What}
-use Rattle.lz_board.specs.declared.view.What.TheVariants.{Called, Played}
-use Rattle.lz_board.specs.declared.view.Note.{Note}
-use Rattle.lz_board.specs.declared.view.Part.{Part}
+use Rattle.lz_board.specs.declared.view.{What.{What, TheVariants.{Called, Played}}, Note.{Note}, Part.{Part}}
 use Rattle.lz_board.specs.Notes.{as_list, trace_of, Since, load_note, stamped, place, shape_of_sizes, pin_after, pin_after_what}
-use Rattle.lz_board.specs.Kept.{is_calling, Knows, PinTold}
-use Rattle.lz_machine.specs.Yards.{IsInside}
-use Rattle.lz_board.specs.Plays.{no_sizes, noted, found_note}
-use Rattle.lz_board.specs.Seats.{BoardId}
-use Rattle.lz_tie.specs.NotedRuns.{AreNext, IsTied, seen_event}
-use Rattle.lz_tie.specs.Reuse.{ReuseTold}
+use Rattle.lz_board.specs.{Kept.{is_calling, Knows, PinTold}, Plays.{no_sizes, noted, found_note}, Seats.{BoardId}}
+use Rattle.lz_tie.specs.{NotedRuns.{AreNext, IsTied, seen_event}, Reuse.{ReuseTold}}
 
 -- What the lock keeps, as contracts see it: the pen's notes, the yard, and the disk.
 pub record LockedOver (D : Type 0) : Type 0 where

@@ -1,19 +1,12 @@
 -- Keys that nobody else changes: in a set of any number of passes what is told of them is what a plain set tells. Lists of calls
 -- stand oldest first, traces newest first.
 use Rattle.std.specs.Prelude.{◌≡◌, ◌⊎◌, ℕ, Bool, true, false, ◌==◌, List, [], ◌∷◌, ◌++◌, filter, map}
-use Rattle.lz_slot.specs.declared.command.Command.{Command}
-use Rattle.lz_slot.specs.declared.command.Command.TheVariants.{Add}
-use Rattle.lz_slot.specs.declared.format.Format.{Format}
+use Rattle.lz_slot.specs.declared.{command.Command.{Command, TheVariants.{Add}}, format.Format.{Format}}
 use Rattle.lz_slot.specs.Sets.{Keys, Same, key_of, moved, replies, reply, set_after}
-use Rattle.lz_list.specs.declared.publishing.Publishing.TheVariants.{Linked as linked, Marked as marked}
-use Rattle.lz_list.specs.Traces.{Trace, member}
-use Rattle.lz_machine.specs.declared.event.Reply.{Reply}
-use Rattle.lz_machine.specs.declared.event.Reply.TheVariants.{Yes, No, Full, Worn, OldFile, Halted, Device}
-use Rattle.lz_machine.specs.Table.{is_old}
+use Rattle.lz_list.specs.{declared.publishing.Publishing.TheVariants.{Linked as linked, Marked as marked}, Traces.{Trace, member}}
+use Rattle.lz_machine.specs.{declared.event.Reply.{Reply, TheVariants.{Yes, No, Full, Worn, OldFile, Halted, Device}}, Table.{is_old}}
 use Rattle.lz_board.specs.declared.view.Part.{Part}
-use Rattle.lz_tie.specs.Answers.{Answers}
-use Rattle.lz_tie.specs.OneCaller.{tells_old}
-use Rattle.lz_tie.specs.Sessions.{AnsweredCalls, NoneCut}
+use Rattle.lz_tie.specs.{Answers.{Answers}, OneCaller.{tells_old}, Sessions.{AnsweredCalls, NoneCut}}
 
 -- each linking and marking of key k in these was made for such a pass
 abbrev pub AreFor : (ℕ → Type 0) → ℕ → Trace → Type 0

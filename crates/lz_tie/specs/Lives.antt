@@ -3,11 +3,8 @@ use Rattle.std.specs.Prelude.{◌≡◌, ◌⊎◌, ℕ, suc, ◌+◌, ◌≤◌
 use Rattle.lz_slot.specs.declared.format.Format.{Format}
 use Rattle.lz_disk.specs.Devices.{Device}
 use Rattle.lz_vault.specs.Vaults.{last_sync}
-use Rattle.lz_machine.specs.declared.event.Outcome.TheVariants.{Fault}
-use Rattle.lz_machine.specs.Yards.{Yard}
-use Rattle.lz_board.specs.declared.view.What.{What}
-use Rattle.lz_board.specs.declared.view.What.TheVariants.{Played}
-use Rattle.lz_board.specs.declared.view.Note.{Note}
+use Rattle.lz_machine.specs.{declared.event.Outcome.TheVariants.{Fault}, Yards.{Yard}}
+use Rattle.lz_board.specs.declared.view.{What.{What, TheVariants.{Played}}, Note.{Note}}
 
 -- how many device calls failed, after one more step
 abbrev pub faults_with : What → ℕ → ℕ

@@ -1,19 +1,11 @@
 -- All calls of a set's passes: what is told of a key is what a plain set tells, where those that name it were made one after the
 -- other. Lists of calls stand oldest first, traces newest first.
 use Rattle.std.specs.Prelude.{◌≡◌, ◌⊎◌, ℕ, ◌==◌, List, [], ◌∷◌, filter, map}
-use Rattle.lz_slot.specs.declared.command.Command.{Command}
-use Rattle.lz_slot.specs.declared.format.Format.{Format}
-use Rattle.lz_slot.specs.Sets.{key_of}
-use Rattle.lz_list.specs.declared.publishing.Publishing.{Publishing}
-use Rattle.lz_list.specs.declared.publishing.Publishing.TheVariants.{Linked as linked, Marked as marked}
-use Rattle.lz_list.specs.Traces.{Trace, Begins}
+use Rattle.lz_slot.specs.{declared.{command.Command.{Command}, format.Format.{Format}}, Sets.{key_of}}
+use Rattle.lz_list.specs.{declared.publishing.Publishing.{Publishing, TheVariants.{Linked as linked, Marked as marked}}, Traces.{Trace, Begins}}
 use Rattle.lz_machine.specs.declared.event.Reply.{Reply}
-use Rattle.lz_board.specs.declared.view.Part.{Part}
-use Rattle.lz_board.specs.Notes.{Since}
-use Rattle.lz_tie.specs.Answers.{Answers}
-use Rattle.lz_tie.specs.KeyByKey.{ServedKey, about, PlainCalls}
-use Rattle.lz_tie.specs.OneCaller.{keys_in}
-use Rattle.lz_tie.specs.Sessions.{AnsweredCalls}
+use Rattle.lz_board.specs.{declared.view.Part.{Part}, Notes.{Since}}
+use Rattle.lz_tie.specs.{Answers.{Answers}, KeyByKey.{ServedKey, about, PlainCalls}, OneCaller.{keys_in}, Sessions.{AnsweredCalls}}
 
 -- a call that was made: its command and reply, and its pass's part before it and after it
 pub record MadeCall : Type 0 where

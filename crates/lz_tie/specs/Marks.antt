@@ -1,16 +1,8 @@
 -- The marks that notes show: what can be seen of the calls from outside. Notes and marks stand newest first.
 use Rattle.std.specs.Prelude.{◌≡◌, ℕ, suc, ◌≤◌, ◌==◌, if◌then◌else◌, List, [], ◌∷◌, ◌++◌, Option, Some, None}
-use Rattle.lz_slot.specs.declared.command.Command.{Command}
-use Rattle.lz_slot.specs.declared.history.Mark.TheVariants.{Call, Cut}
-use Rattle.lz_slot.specs.Histories.{History}
-use Rattle.lz_machine.specs.declared.caller.Progress.{Progress}
-use Rattle.lz_machine.specs.declared.event.Reply.{Reply}
-use Rattle.lz_machine.specs.Runs.{mark_of_turn, reply_at}
-use Rattle.lz_machine.specs.Yards.{Shape}
-use Rattle.lz_board.specs.declared.view.What.{What}
-use Rattle.lz_board.specs.declared.view.What.TheVariants.{Called, Played, Found}
-use Rattle.lz_board.specs.declared.view.Note.{Note}
-use Rattle.lz_board.specs.Notes.{place, steps_of}
+use Rattle.lz_slot.specs.{declared.{command.Command.{Command}, history.Mark.TheVariants.{Call, Cut}}, Histories.{History}}
+use Rattle.lz_machine.specs.{declared.{caller.Progress.{Progress}, event.Reply.{Reply}}, Runs.{mark_of_turn, reply_at}, Yards.{Shape}}
+use Rattle.lz_board.specs.{declared.view.{What.{What, TheVariants.{Called, Played, Found}}, Note.{Note}}, Notes.{place, steps_of}}
 
 -- how many calls were made, after one more step
 abbrev pub calls_with : What → ℕ → ℕ

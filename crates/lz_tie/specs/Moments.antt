@@ -1,23 +1,12 @@
 -- What a crash might have left at any moment of a life, by the notes of its calls. Notes and steps stand newest first.
 use Rattle.std.specs.Prelude.{◌≡◌, ◌⊎◌, ℕ, ◌≤◌, false, IsTrue, List, [], ◌∷◌, ◌++◌, map}
 use Rattle.lz_slot.specs.Histories.{History}
-use Rattle.lz_disk.specs.Images.{Medium, IsImage, at_rest}
-use Rattle.lz_disk.specs.Devices.{Device, LeavesOnly}
+use Rattle.lz_disk.specs.{Images.{Medium, IsImage, at_rest}, Devices.{Device, LeavesOnly}}
 use Rattle.lz_vault.specs.Vaults.{LeavesEither}
-use Rattle.lz_list.specs.Traces.{Trace}
-use Rattle.lz_machine.specs.declared.event.Event.TheVariants.{Answer}
-use Rattle.lz_machine.specs.Runs.{Start, IsStart, Up, Service, Transition, run, IsRun, first_point}
-use Rattle.lz_list.specs.declared.layout.Sizes.{Sizes}
-use Rattle.lz_board.specs.declared.view.What.{What}
-use Rattle.lz_board.specs.declared.view.What.TheVariants.{Played}
-use Rattle.lz_board.specs.declared.view.Note.{Note}
-use Rattle.lz_board.specs.Notes.{Extends, shape_of_sizes, steps_of, trace_of}
-use Rattle.lz_board.specs.Seats.{BoardId}
-use Rattle.lz_tie.specs.NotedRuns.{ReadsAs}
-use Rattle.lz_tie.specs.Holds.{sizes_of}
-use Rattle.lz_tie.specs.Marks.{Shows, marks_in}
-use Rattle.lz_tie.specs.OwnCalls.{calls_of, shown, told, unnumbered}
-use Rattle.lz_tie.specs.RunningSets.{Explains}
+use Rattle.lz_list.specs.{Traces.{Trace}, declared.layout.Sizes.{Sizes}}
+use Rattle.lz_machine.specs.{declared.event.Event.TheVariants.{Answer}, Runs.{Start, IsStart, Up, Service, Transition, run, IsRun, first_point}}
+use Rattle.lz_board.specs.{declared.view.{What.{What, TheVariants.{Played}}, Note.{Note}}, Notes.{Extends, shape_of_sizes, steps_of, trace_of}, Seats.{BoardId}}
+use Rattle.lz_tie.specs.{NotedRuns.{ReadsAs}, Holds.{sizes_of}, Marks.{Shows, marks_in}, OwnCalls.{calls_of, shown, told, unnumbered}, RunningSets.{Explains}}
 
 -- Some beginning of the notes is read as a run of the machine, on a board of these sizes whose life began with this trace.
 pub record Begun (z : Sizes) (opened : Trace) (ns : List Note) : Type 0 where

@@ -3,19 +3,10 @@ use Rattle.std.specs.Prelude.{◌≡◌, ℕ, ◌+◌, Bool, IsTrue, List, [], �
 use Rattle.lz_slot.specs.declared.command.Command.{Command}
 use Rattle.lz_disk.specs.Images.{Medium}
 use Rattle.lz_list.specs.Traces.{Trace}
-use Rattle.lz_machine.specs.declared.event.Event.{Event}
-use Rattle.lz_machine.specs.declared.event.Event.TheVariants.{Hop, SeePin}
-use Rattle.lz_machine.specs.declared.event.Outcome.TheVariants.{Fault}
-use Rattle.lz_machine.specs.declared.caller.Progress.{Progress}
-use Rattle.lz_machine.specs.Yards.{Shape, Yard}
-use Rattle.lz_machine.specs.Table.{line, line_publishes, pin_of}
-use Rattle.lz_machine.specs.Calls.{event_at}
-use Rattle.lz_machine.specs.Runs.{Start, IsStart, State, Up, Service, Caller, Transition, Calls, Turn, Fails, Looks, Point, run, IsRun, first_point, caller_at, next_event}
-use Rattle.lz_board.specs.declared.view.What.{What}
-use Rattle.lz_board.specs.declared.view.What.TheVariants.{Called, Played, Found}
-use Rattle.lz_board.specs.declared.view.Note.{Note}
-use Rattle.lz_board.specs.declared.view.Load.{Load}
-use Rattle.lz_board.specs.Notes.{as_list, place, load_note}
+use Rattle.lz_machine.specs.declared.{event.{Event.{Event, TheVariants.{Hop, SeePin}}, Outcome.TheVariants.{Fault}}, caller.Progress.{Progress}}
+use Rattle.lz_machine.specs.{Yards.{Shape, Yard}, Table.{line, line_publishes, pin_of}, Calls.{event_at}, Runs.{Start, IsStart, State, Up, Service, Caller}}
+use Rattle.lz_machine.specs.Runs.{Transition, Calls, Turn, Fails, Looks, Point, run, IsRun, first_point, caller_at, next_event}
+use Rattle.lz_board.specs.{declared.view.{What.{What, TheVariants.{Called, Played, Found}}, Note.{Note}, Load.{Load}}, Notes.{as_list, place, load_note}}
 
 -- In this state the note says of the step what the table says of it: the event, the outcome and what is published.
 abbrev pub TellsTurn : Service → ℕ → Option Caller → Note → Type 0

@@ -1,13 +1,8 @@
 -- The set of one caller: what a set of one pass answers is what a plain set answers.
 use Rattle.std.specs.Prelude.{◌≡◌, ◌⊎◌, ℕ, ◌<◌, Bool, true, false}
-use Rattle.lz_slot.specs.declared.command.Command.{Command}
-use Rattle.lz_slot.specs.declared.command.Command.TheVariants.{Add}
-use Rattle.lz_slot.specs.declared.format.Format.{Format}
-use Rattle.lz_slot.specs.Sets.{Keys, Same, key_of, after, reply, HasMembers}
+use Rattle.lz_slot.specs.{declared.{command.Command.{Command, TheVariants.{Add}}, format.Format.{Format}}, Sets.{Keys, Same, key_of, after, reply, HasMembers}}
 use Rattle.lz_list.specs.Traces.{Trace, member}
-use Rattle.lz_machine.specs.declared.event.Reply.{Reply}
-use Rattle.lz_machine.specs.declared.event.Reply.TheVariants.{Yes, No, Full, Worn, OldFile, Halted, Device}
-use Rattle.lz_machine.specs.Table.{is_old}
+use Rattle.lz_machine.specs.{declared.event.Reply.{Reply, TheVariants.{Yes, No, Full, Worn, OldFile, Halted, Device}}, Table.{is_old}}
 use Rattle.lz_board.specs.declared.view.Part.{Part}
 use Rattle.lz_tie.specs.Answers.{Answers}
 

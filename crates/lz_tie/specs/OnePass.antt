@@ -1,7 +1,6 @@
 -- What a set of one pass is known by: all that changes its members was published for that pass. Traces stand newest first.
 use Rattle.std.specs.Prelude.{◌≡◌, ℕ, [], ◌∷◌, ◌++◌}
-use Rattle.lz_list.specs.declared.publishing.Publishing.TheVariants.{Linked as linked, Marked as marked, Unlinked as unlinked}
-use Rattle.lz_list.specs.Traces.{Trace}
+use Rattle.lz_list.specs.{declared.publishing.Publishing.TheVariants.{Linked as linked, Marked as marked, Unlinked as unlinked}, Traces.{Trace}}
 
 -- each linking, marking and unlinking of these was made for pass p
 abbrev pub AreOwn : ℕ → Trace → Type 0

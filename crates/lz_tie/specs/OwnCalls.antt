@@ -1,21 +1,10 @@
 -- A pass's own calls: as it made them and was answered, and as a history shows them. The newest stands first.
 use Rattle.std.specs.Prelude.{◌≡◌, ℕ, Bool, true, false, ◌==◌, if◌then◌else◌, List, [], ◌∷◌, map, Option, Some, None}
-use Rattle.lz_slot.specs.declared.command.Command.{Command}
-use Rattle.lz_slot.specs.declared.history.Cut.{Cut as WhyCut}
-use Rattle.lz_slot.specs.declared.history.Cut.TheVariants.{Halted as cut_halted, Device as cut_device}
-use Rattle.lz_slot.specs.declared.history.Mark.TheVariants.{Call, Answer, Refused, Cut}
-use Rattle.lz_slot.specs.declared.history.Refusal.{Refusal}
-use Rattle.lz_slot.specs.declared.history.Refusal.TheVariants.{Full as refused_full, Worn as refused_worn, OldFile as refused_old_file}
-use Rattle.lz_slot.specs.Histories.{History}
-use Rattle.lz_machine.specs.declared.event.Reply.{Reply}
-use Rattle.lz_machine.specs.declared.event.Reply.TheVariants.{Yes, No, Full, Worn, OldFile, Halted, Device}
-use Rattle.lz_machine.specs.Yards.{Shape}
-use Rattle.lz_board.specs.declared.view.What.{What}
-use Rattle.lz_board.specs.declared.view.What.TheVariants.{Called, Played}
-use Rattle.lz_board.specs.declared.view.Note.{Note}
-use Rattle.lz_board.specs.declared.view.Part.{Part}
-use Rattle.lz_board.specs.Notes.{place, shape_of_sizes}
-use Rattle.lz_board.specs.Seats.{BoardId}
+use Rattle.lz_slot.specs.declared.{command.Command.{Command}, history.Cut.{Cut as WhyCut, TheVariants.{Halted as cut_halted, Device as cut_device}}}
+use Rattle.lz_slot.specs.declared.history.{Mark.TheVariants.{Call, Answer, Refused, Cut}, Refusal.{Refusal}}
+use Rattle.lz_slot.specs.{declared.history.Refusal.TheVariants.{Full as refused_full, Worn as refused_worn, OldFile as refused_old_file}, Histories.{History}}
+use Rattle.lz_machine.specs.{declared.event.Reply.{Reply, TheVariants.{Yes, No, Full, Worn, OldFile, Halted, Device}}, Yards.{Shape}}
+use Rattle.lz_board.specs.{declared.view.{What.{What, TheVariants.{Called, Played}}, Note.{Note}, Part.{Part}}, Notes.{place, shape_of_sizes}, Seats.{BoardId}}
 use Rattle.lz_tie.specs.Marks.{marks_in, reply_in}
 
 -- how a call ended, as a history shows it

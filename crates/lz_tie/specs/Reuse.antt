@@ -1,17 +1,10 @@
 -- Why a slot may be prepared again: what the notes show of pin words since the slot stood on a chain last.
 use Rattle.std.specs.Prelude.{◌≡◌, ℕ, ◌≤◌, List, ◌∷◌, length, Some}
 use Rattle.lz_slot.specs.Counted.{of_pass}
-use Rattle.lz_allot.specs.declared.sight.Sight.{Sight}
-use Rattle.lz_allot.specs.declared.sight.Sight.TheVariants.{Unseen, Inside, Left}
-use Rattle.lz_allot.specs.Uses.{Use, Free, Taken, Limbo, use_of}
-use Rattle.lz_list.specs.Traces.{Trace}
-use Rattle.lz_machine.specs.declared.actor.Actor.{Actor}
-use Rattle.lz_machine.specs.Yards.{idle_actor}
-use Rattle.lz_machine.specs.Limbo.{IsAway}
-use Rattle.lz_list.specs.declared.layout.Sizes.{Sizes}
-use Rattle.lz_board.specs.declared.view.Note.{Note}
-use Rattle.lz_board.specs.Notes.{trace_of, pin_after}
-use Rattle.lz_board.specs.Noting.{Sighting, HasLeft, AllLeft}
+use Rattle.lz_allot.specs.{declared.sight.Sight.{Sight, TheVariants.{Unseen, Inside, Left}}, Uses.{Use, Free, Taken, Limbo, use_of}}
+use Rattle.lz_list.specs.{Traces.{Trace}, declared.layout.Sizes.{Sizes}}
+use Rattle.lz_machine.specs.{declared.actor.Actor.{Actor}, Yards.{idle_actor}, Limbo.{IsAway}}
+use Rattle.lz_board.specs.{declared.view.Note.{Note}, Notes.{trace_of, pin_after}, Noting.{Sighting, HasLeft, AllLeft}}
 
 -- a sight of a pass is one that the notes show: it was seen inside with this value since, or it has left
 abbrev pub SightTold : Sizes → Trace → List Note → ℕ → ℕ → Sight → Type 0

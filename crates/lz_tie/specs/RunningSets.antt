@@ -1,15 +1,10 @@
 -- What a set that runs says of a crash: whatever is left of its disk explains what callers have seen.
 use Rattle.std.specs.Prelude.{ℕ, IsTrue, List}
-use Rattle.lz_slot.specs.Bytes.{Holds}
-use Rattle.lz_slot.specs.Histories.{Fits}
-use Rattle.lz_slot.specs.Sets.{Keys}
-use Rattle.lz_disk.specs.Devices.{Device}
-use Rattle.lz_disk.specs.Images.{IsImage}
+use Rattle.lz_slot.specs.{Bytes.{Holds}, Histories.{Fits}, Sets.{Keys}}
+use Rattle.lz_disk.specs.{Devices.{Device}, Images.{IsImage}}
 use Rattle.lz_list.specs.Traces.{Trace, member}
 use Rattle.lz_machine.specs.Lasts.{Lasts}
-use Rattle.lz_board.specs.declared.view.Note.{Note}
-use Rattle.lz_board.specs.Notes.{shape_of_sizes, trace_of}
-use Rattle.lz_board.specs.Seats.{BoardId}
+use Rattle.lz_board.specs.{declared.view.Note.{Note}, Notes.{shape_of_sizes, trace_of}, Seats.{BoardId}}
 use Rattle.lz_tie.specs.Marks.{marks_in}
 
 -- the set of a trace's members

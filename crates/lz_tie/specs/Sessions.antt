@@ -1,25 +1,12 @@
 -- A session of the one caller: calls that a pass made one after the other, in a set of one pass. Lists of calls and replies
 -- stand oldest first; notes, steps and marks stand newest first.
 use Rattle.std.specs.Prelude.{◌≡◌, ◌⊎◌, ℕ, suc, Bool, true, false, List, [], ◌∷◌, ◌++◌, length, Option}
-use Rattle.lz_slot.specs.declared.command.Command.{Command}
-use Rattle.lz_slot.specs.declared.format.Format.{Format}
-use Rattle.lz_slot.specs.declared.history.Mark.TheVariants.{Call}
-use Rattle.lz_slot.specs.Bytes.{Holds}
-use Rattle.lz_slot.specs.Histories.{History}
+use Rattle.lz_slot.specs.{declared.{command.Command.{Command}, format.Format.{Format}, history.Mark.TheVariants.{Call}}, Bytes.{Holds}, Histories.{History}}
 use Rattle.lz_slot.specs.Sets.{Keys, Same, after}
-use Rattle.lz_machine.specs.declared.event.Reply.{Reply}
-use Rattle.lz_machine.specs.declared.event.Reply.TheVariants.{Halted, Device}
-use Rattle.lz_machine.specs.Runs.{mark_of_turn}
+use Rattle.lz_machine.specs.{declared.event.Reply.{Reply, TheVariants.{Halted, Device}}, Runs.{mark_of_turn}}
 use Rattle.lz_list.specs.declared.layout.Sizes.{Sizes}
-use Rattle.lz_board.specs.declared.view.Note.{Note}
-use Rattle.lz_board.specs.declared.view.Part.{Part}
-use Rattle.lz_board.specs.Notes.{shape_of_sizes}
-use Rattle.lz_board.specs.Seats.{BoardId}
-use Rattle.lz_tie.specs.Answers.{Answers}
-use Rattle.lz_tie.specs.Marks.{marks_in}
-use Rattle.lz_tie.specs.Moments.{ExplainsBegun}
-use Rattle.lz_tie.specs.OneCaller.{IsPlainAnswer}
-use Rattle.lz_tie.specs.OwnCalls.{told}
+use Rattle.lz_board.specs.{declared.view.{Note.{Note}, Part.{Part}}, Notes.{shape_of_sizes}, Seats.{BoardId}}
+use Rattle.lz_tie.specs.{Answers.{Answers}, Marks.{marks_in}, Moments.{ExplainsBegun}, OneCaller.{IsPlainAnswer}, OwnCalls.{told}}
 use Rattle.lz_tie.specs.RunningSets.{members_of, Explains}
 
 -- calls that were answered, each with its reply

@@ -1,29 +1,14 @@
 -- What a thread knows of its call between two holds, and what it has when its call has ended.
 use Rattle.std.specs.Prelude.{◌≡◌, ℕ, zero, suc, ◌+◌, ◌%◌, true, List, [], ◌∷◌, ◌++◌, Some, None}
-use Rattle.lz_slot.specs.declared.command.Command.{Command}
-use Rattle.lz_slot.specs.declared.command.Command.TheVariants.{Add, Remove}
-use Rattle.lz_slot.specs.declared.format.Format.{Format}
-use Rattle.lz_slot.specs.Sets.{HasMembers}
+use Rattle.lz_slot.specs.{declared.{command.Command.{Command, TheVariants.{Add, Remove}}, format.Format.{Format}}, Sets.{HasMembers}}
 use Rattle.lz_allot.specs.declared.counts.Counts.{Counts}
 use Rattle.lz_list.specs.declared.publishing.Publishing.TheVariants.{Linked as linked, Marked as marked, Unlinked as unlinked}
 use Rattle.lz_list.specs.Traces.{Trace, Begins, halt_word, member}
-use Rattle.lz_machine.specs.declared.caller.Progress.{Progress}
-use Rattle.lz_machine.specs.declared.caller.Progress.TheVariants.{Playing, Answering}
-use Rattle.lz_machine.specs.declared.caller.Sequence.TheVariants.{Adding, Removing, Halting}
-use Rattle.lz_machine.specs.declared.event.Outcome.TheVariants.{NoSlot}
-use Rattle.lz_machine.specs.declared.event.Reply.TheVariants.{Yes, Full, OldFile, Halted, Device}
-use Rattle.lz_machine.specs.CallersSound.{is_before_pin, side_of}
-use Rattle.lz_machine.specs.Halts.{IsLate}
-use Rattle.lz_machine.specs.Table.{is_old}
-use Rattle.lz_machine.specs.Yards.{IsInside}
-use Rattle.lz_board.specs.declared.view.What.TheVariants.{Called}
-use Rattle.lz_board.specs.declared.view.Note.{Note}
-use Rattle.lz_board.specs.declared.view.Part.{Part}
-use Rattle.lz_board.specs.Notes.{Extends, note_by}
-use Rattle.lz_board.specs.Glances.{Changes}
-use Rattle.lz_board.specs.Seats.{BoardId}
-use Rattle.lz_tie.specs.Answers.{AreWithin, MayHaveChanged, last_reserve}
-use Rattle.lz_tie.specs.Holds.{HasCall}
+use Rattle.lz_machine.specs.declared.caller.{Progress.{Progress, TheVariants.{Playing, Answering}}, Sequence.TheVariants.{Adding, Removing, Halting}}
+use Rattle.lz_machine.specs.declared.event.{Outcome.TheVariants.{NoSlot}, Reply.TheVariants.{Yes, Full, OldFile, Halted, Device}}
+use Rattle.lz_machine.specs.{CallersSound.{is_before_pin, side_of}, Halts.{IsLate}, Table.{is_old}, Yards.{IsInside}}
+use Rattle.lz_board.specs.{declared.view.{What.TheVariants.{Called}, Note.{Note}, Part.{Part}}, Notes.{Extends, note_by}, Glances.{Changes}, Seats.{BoardId}}
+use Rattle.lz_tie.specs.{Answers.{AreWithin, MayHaveChanged, last_reserve}, Holds.{HasCall}}
 
 -- its own adding of key k in some slot
 abbrev pub HasLinked : ℕ → ℕ → Trace → Type 0

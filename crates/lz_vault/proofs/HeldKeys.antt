@@ -1,30 +1,15 @@
 -- The keys that the slots of a file hold, in the order of the slots.
-use Rattle.std.proofs.Common.{◌≡◌, ℕ, zero, suc, ◌+◌, ◌≤◌, ◌<◌, Bool, List, [], ◌∷◌, ◌++◌, length, get_or, take, refl, sym, ◌∙◌, ap, subst, arith, Option, Some, None, IsTrue}
-use Rattle.std.specs.Prelude.{slice_get, map, ◌&&◌, ◌||◌, ◌==◌}
-use Rattle.std.specs.List.{cons_option}
-use Rattle.std.proofs.lemmas.List.{map-append, take_all, take_more}
-use Rattle.std.proofs.lemmas.Option.{slice_get-get_or, same_Some}
-use Rattle.lz_slot.specs.Limits.{largest_key}
-use Rattle.lz_slot.specs.Nodes.{Nodes}
-use Rattle.lz_slot.specs.Rooms.{largest_of}
-use Rattle.lz_slot.specs.declared.format.Format.{Format}
-use Rattle.lz_slot.specs.declared.format.Format.TheVariants.{One, Two, Three, Four}
-use Rattle.lz_slot.specs.Sets.{Same, members}
-use Rattle.lz_slot.specs.Bytes.{held, held_key, slot_at}
-use Rattle.lz_slot.specs.declared.slot.SlotRead.{SlotRead}
 use Rattle.lz_slot.specs.declared.slot.SlotRead.TheVariants as read
-use Rattle.lz_slot.proofs.Files.ExactBytes.{key_of_format}
+use Rattle.std.proofs.Common.{◌≡◌, ℕ, zero, suc, ◌+◌, ◌≤◌, ◌<◌, Bool, List, [], ◌∷◌, ◌++◌, length, get_or, take, refl, sym, ◌∙◌, ap, subst, arith, Option, Some}
+use Rattle.std.proofs.{Common.{None, IsTrue}, lemmas.{List.{map-append, take_all, take_more}, Option.{slice_get-get_or, same_Some}}}
+use Rattle.std.specs.{Prelude.{slice_get, map, ◌&&◌, ◌||◌, ◌==◌}, List.{cons_option}}
+use Rattle.lz_slot.specs.{Limits.{largest_key}, Nodes.{Nodes}, Rooms.{largest_of}, declared.format.Format.{Format, TheVariants.{One, Two, Three, Four}}}
+use Rattle.lz_slot.{specs.{declared.slot.SlotRead.{SlotRead}, Sets.{Same, members}, Bytes.{held, held_key, slot_at}}, proofs.Files.ExactBytes.{key_of_format}}
 use Rattle.lz_slot.proofs.Files.HeldSets.{holds_same_set}
 use Rattle.lz_disk.specs.Devices.{Device}
-use Rattle.lz_vault.specs.Stages.{Cell}
-use Rattle.lz_vault.specs.Members.{AreDistinct, AreListed, keys_in, member_at, member_in, no_cell, node_at}
-use Rattle.lz_vault.specs.Makes.{MayBeMembers}
-use Rattle.lz_vault.specs.Opens.{IsCellOf, is_open, keys_of}
-use Rattle.lz_vault.specs.Scans.{AreFresh, Finds}
-use Rattle.lz_vault.specs.Renewals.{AreHeldBy}
-use Rattle.lz_vault.specs.declared.vault.Stage.{Stage}
-use Rattle.lz_vault.specs.declared.vault.Stage.TheVariants.{Closed, Torn, KeyLoose, Keyed, Opening, Open, Closing}
-use Rattle.lz_vault.proofs.OpeningFinds.{counted, found}
+use Rattle.lz_vault.specs.{Stages.{Cell}, Members.{AreDistinct, AreListed, keys_in, member_at, member_in, no_cell, node_at}, Makes.{MayBeMembers}}
+use Rattle.lz_vault.specs.{Opens.{IsCellOf, is_open, keys_of}, Scans.{AreFresh, Finds}, Renewals.{AreHeldBy}, declared.vault.Stage.{Stage}}
+use Rattle.lz_vault.{specs.declared.vault.Stage.TheVariants.{Closed, Torn, KeyLoose, Keyed, Opening, Open, Closing}, proofs.OpeningFinds.{counted, found}}
 use Rattle.lz_vault.proofs.SlotOrder.{keys_more}
 
 -- a key's slot

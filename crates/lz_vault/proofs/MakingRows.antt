@@ -1,10 +1,7 @@
 -- Worked rows: what a making that wasn't acknowledged leaves, and what it must not.
 use Rattle.std.proofs.Common.{◌≡◌, ⊎_elim, inl, inr, ℕ, suc, List, [], ◌∷◌, length, get_or, replicate, IsTrue, refl, sym, ◌∙◌, ap, arith}
 use Rattle.std.proofs.lemmas.List.{get_or-take}
-use Rattle.lz_slot.specs.Sets.{Keys}
-use Rattle.lz_slot.specs.Bytes.{Holds, IsMade, format_of, open_byte}
-use Rattle.lz_slot.specs.declared.format.Format.{Format}
-use Rattle.lz_slot.specs.declared.format.Format.TheVariants.{Two, Three}
+use Rattle.lz_slot.specs.{Sets.{Keys}, Bytes.{Holds, IsMade, format_of, open_byte}, declared.format.Format.{Format, TheVariants.{Two, Three}}}
 use Rattle.lz_vault.specs.Makes.{IsUnmadeOrHolds}
 
 -- nothing, or an open gate with less than a head after it, is unmade, whatever was to be made

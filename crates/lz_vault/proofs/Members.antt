@@ -1,19 +1,13 @@
 -- The members that slots hold, listed in any order and by key.
-use Rattle.std.proofs.Common.{◌≡◌, ◌≢◌, ◌⊎◌, inl, inr, ℕ, zero, suc, ◌+◌, ◌-◌, ◌<◌, ◌≤◌, Bool, true, false, ◌==◌, List, [], ◌∷◌, ◌++◌, length, get_or, refl, sym, ap, ◌∙◌, subst, arith, length-append, Option, Some, None, Less, Equal, Greater}
+use Rattle.std.proofs.Common.{◌≡◌, ◌≢◌, ◌⊎◌, inl, inr, ℕ, zero, suc, ◌+◌, ◌-◌, ◌<◌, ◌≤◌, Bool, true, false, ◌==◌, List, [], ◌∷◌, ◌++◌, length, get_or, refl}
+use Rattle.std.proofs.{Common.{sym, ap, ◌∙◌, subst, arith, length-append, Option, Some, None, Less, Equal, Greater}, lemmas.Option.{same_Some}}
+use Rattle.std.proofs.lemmas.List.{get_or_append_left, get_or_default, get_or_push, Edits.{length-swap, swapped_from_swap}, Sorted.{IsPermutation-keeps}}
+use Rattle.std.{proofs.lemmas.Bool.{cases_eq, cases_Bool, cases_lt, Decides.{nat_tests}}, specs.{Prelude.{nat_lt, ◌&&◌, if◌then◌else◌}, List.{swap}}}
+use Rattle.std.specs.{List.Sorted.{IsPermutation, IsSorted}, Ordering.{is_lt, nat_cmp, ordering_then}}
 use mathlib.Core.Bool.{false≢true}
-use Rattle.std.specs.Prelude.{nat_lt, ◌&&◌, if◌then◌else◌}
-use Rattle.std.specs.List.{swap}
-use Rattle.std.specs.List.Sorted.{IsPermutation, IsSorted}
-use Rattle.std.specs.Ordering.{is_lt, nat_cmp, ordering_then}
-use Rattle.std.proofs.lemmas.Option.{same_Some}
-use Rattle.std.proofs.lemmas.List.{get_or_append_left, get_or_default, get_or_push}
-use Rattle.std.proofs.lemmas.List.Edits.{length-swap, swapped_from_swap}
-use Rattle.std.proofs.lemmas.List.Sorted.{IsPermutation-keeps}
-use Rattle.std.proofs.lemmas.Bool.{cases_eq, cases_Bool, cases_lt}
-use Rattle.std.proofs.lemmas.Bool.Decides.{nat_tests}
-use Rattle.lz_vault.specs.Stages.{Cell}
+use Rattle.lz_vault.specs.{Stages.{Cell}, Members.{member_at, member_in, no_cell, node_at, Ascends, AreApart, AreDistinct, AreListed, AreMembers}}
+use Rattle.lz_vault.specs.Members.{AreNeighbours, AreTwins, IsLowest, lower_twins}
 use Rattle.lz_slot.specs.Nodes.{Nodes, has_node}
-use Rattle.lz_vault.specs.Members.{member_at, member_in, no_cell, node_at, Ascends, AreApart, AreDistinct, AreListed, AreMembers, AreNeighbours, AreTwins, IsLowest, lower_twins}
 
 -- a node is one of the first, or of the others
 pub node_cases : (k s : ℕ) (f : ℕ × ℕ) (es : Nodes) → has_node k s (f ∷ es) ≡ true → ((f.0 ≡ k) × (f.1 ≡ s)) ⊎ (has_node k s es ≡ true)

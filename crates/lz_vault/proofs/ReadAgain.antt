@@ -1,19 +1,10 @@
 -- What is read again of two files, of which one was renewed into the other.
 use Rattle.std.proofs.Common.{◌≡◌, ⊎_elim, ℕ, zero, suc, ◌+◌, ◌≤◌, ◌<◌, List, [], ◌∷◌, ◌++◌, length, get_or, take, refl, sym, ◌∙◌, ap, arith}
-use Rattle.std.specs.Prelude.{map}
-use Rattle.std.proofs.lemmas.Bool.{cases_lt}
-use Rattle.std.proofs.lemmas.List.{append-nil, map-append, take_all, take_more}
-use Rattle.lz_slot.specs.Rooms.{largest_of}
-use Rattle.lz_slot.specs.declared.format.Format.{Format}
-use Rattle.lz_slot.specs.Bytes.{held, held_key, slot_at}
-use Rattle.lz_slot.specs.declared.slot.SlotRead.{SlotRead}
-use Rattle.lz_slot.specs.declared.slot.SlotRead.TheVariants.{Closed, Member}
-use Rattle.lz_slot.proofs.Files.ExactBytes.{slot_reads_back}
+use Rattle.std.{proofs.lemmas.{Bool.{cases_lt}, List.{append-nil, map-append, take_all, take_more}}, specs.Prelude.{map}}
+use Rattle.lz_slot.specs.{Rooms.{largest_of}, declared.{format.Format.{Format}, slot.SlotRead.{SlotRead, TheVariants.{Closed, Member}}}}
+use Rattle.lz_slot.{specs.Bytes.{held, held_key, slot_at}, proofs.Files.ExactBytes.{slot_reads_back}}
 use Rattle.lz_disk.specs.Images.{Medium}
-use Rattle.lz_vault.specs.Makes.{IsRenewed}
-use Rattle.lz_vault.specs.Renewals.{AreHeldBy}
-use Rattle.lz_vault.proofs.FilledTexts.{text_blank, text_open}
-use Rattle.lz_vault.proofs.MakingTexts.{zeros_closed}
+use Rattle.lz_vault.{specs.{Makes.{IsRenewed}, Renewals.{AreHeldBy}}, proofs.{FilledTexts.{text_blank, text_open}, MakingTexts.{zeros_closed}}}
 
 -- a text's keys are one list
 pub one_list : (t : List ℕ) (ks js : List ℕ) → AreHeldBy t ks → AreHeldBy t js → ks ≡ js

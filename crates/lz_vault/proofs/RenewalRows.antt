@@ -4,8 +4,7 @@ use Rattle.lz_slot.specs.declared.format.Format.TheVariants.{Two, Three}
 use Rattle.lz_disk.specs.Devices.{Device}
 use Rattle.lz_vault.specs.Renewals.{IsToldFirst, IsRenewFaultOf, renew_fault_number}
 use Rattle.lz_vault.specs.declared.making.MakeFault.TheVariants.{AlreadyMade, BadCount, Device as DeviceFailed, TooLong}
-use Rattle.lz_vault.specs.declared.opening.OpenFault.TheVariants.{Memory, Device as OldDeviceFailed}
-use Rattle.lz_vault.specs.declared.renewing.RenewFault.TheVariants.{Old, New, TooSmall}
+use Rattle.lz_vault.specs.declared.{opening.OpenFault.TheVariants.{Memory, Device as OldDeviceFailed}, renewing.RenewFault.TheVariants.{Old, New, TooSmall}}
 
 -- three members and two slots: the new device isn't called
 too_small_first : IsToldFirst (TooSmall 3 2)

@@ -1,13 +1,8 @@
 -- The members of a scan's cells, in the order of the slots, with one slot more.
 use Rattle.std.proofs.Common.{◌≡◌, ℕ, ◌+◌, List, [], ◌∷◌, ◌++◌, length, sym, ◌∙◌, ap, subst, length-append, Option, Some, None}
-use Rattle.std.specs.Prelude.{map}
-use Rattle.std.specs.List.{cons_option}
-use Rattle.std.proofs.lemmas.List.{append-nil, map-append}
-use Rattle.std.proofs.lemmas.List.Elements.{filter_map-append}
+use Rattle.std.{proofs.lemmas.List.{append-nil, map-append, Elements.{filter_map-append}}, specs.{Prelude.{map}, List.{cons_option}}}
 use Rattle.lz_slot.specs.Nodes.{Nodes}
-use Rattle.lz_vault.specs.Members.{AreListed, keys_in, member_in}
-use Rattle.lz_vault.specs.Scans.{AreInSlots}
-use Rattle.lz_vault.specs.Stages.{Cell}
+use Rattle.lz_vault.specs.{Members.{AreListed, keys_in, member_in}, Scans.{AreInSlots}, Stages.{Cell}}
 use Rattle.lz_vault.proofs.Members.{grown_listed, last_at, none_more, one_more}
 
 pub keys_more : (cells : List Cell) (cell : Cell) → keys_in (cells ++ cell ∷ []) ≡ keys_in cells ++ cons_option (member_in cell) []

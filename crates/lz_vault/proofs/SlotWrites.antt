@@ -1,26 +1,16 @@
 -- What the writes that put a key, open a slot and close it leave of what the cells say, done or failed.
-use Rattle.std.proofs.Common.{◌≡◌, ◌⊎◌, inl, inr, ⊎_elim, ℕ, zero, suc, ◌+◌, ◌*◌, ◌≤◌, ◌<◌, Bool, true, false, List, [], ◌∷◌, length, get_or, drop, replicate, sym, refl, ◌∙◌, ap, subst, arith, Some}
-use Rattle.std.specs.Prelude.{slice_get, slice_set}
-use Rattle.std.proofs.lemmas.Bool.{true≢false}
-use Rattle.std.proofs.lemmas.List.{get_or-replicate}
-use Rattle.std.proofs.lemmas.List.Edits.{length-between, get_or-between}
-use Rattle.std.proofs.lemmas.Option.{slice_get_within}
-use Rattle.lz_slot.specs.Rooms.{largest_of}
-use Rattle.lz_slot.specs.declared.format.Format.{Format}
-use Rattle.lz_slot.specs.declared.format.Format.TheVariants.{Four}
-use Rattle.lz_slot.specs.Bytes.{slot_bytes, slot_body, open_byte, closed_byte}
-use Rattle.lz_slot.specs.Whole.{whole_slot, is_shut, IsPartOf}
-use Rattle.lz_slot.proofs.Files.ExactBytes.{key_of_format}
-use Rattle.lz_slot.proofs.Whole.{shut_stays_shut, whole_bytes}
+use Rattle.std.proofs.Common.{◌≡◌, ◌⊎◌, inl, inr, ⊎_elim, ℕ, zero, suc, ◌+◌, ◌*◌, ◌≤◌, ◌<◌, Bool, true, false, List, [], ◌∷◌, length, get_or, drop, replicate}
+use Rattle.std.proofs.{Common.{sym, refl, ◌∙◌, ap, subst, arith, Some}, lemmas.{Bool.{true≢false}, List.{get_or-replicate}}}
+use Rattle.std.{proofs.lemmas.{List.Edits.{length-between, get_or-between}, Option.{slice_get_within}}, specs.Prelude.{slice_get, slice_set}}
+use Rattle.lz_slot.specs.{Rooms.{largest_of}, declared.format.Format.{Format, TheVariants.{Four}}, Bytes.{slot_bytes, slot_body, open_byte, closed_byte}}
+use Rattle.lz_slot.{specs.Whole.{whole_slot, is_shut, IsPartOf}, proofs.{Files.ExactBytes.{key_of_format}, Whole.{shut_stays_shut, whole_bytes}}}
 use Rattle.lz_disk.specs.Images.{Medium, IsImage, AgreeOutside, AreBytes, Mixes, WriteFailed, overwritten, written}
 use Rattle.lz_disk.proofs.Writes.{written_loosens, failed_loosens}
 use Rattle.lz_vault.specs.Stages.{Cell, Says, SaysWhole, Reads, Keeps, IsFree, IsOpened, stage_put}
-use Rattle.lz_vault.specs.Vaults.{DeviceCall, NoCall, WriteAt, MayFail, medium_after, key_call, opening_call, closing_call}
-use Rattle.lz_vault.specs.declared.vault.Stage.{Stage}
+use Rattle.lz_vault.specs.{Vaults.{DeviceCall, NoCall, WriteAt, MayFail, medium_after, key_call, opening_call, closing_call}, declared.vault.Stage.{Stage}}
 use Rattle.lz_vault.specs.declared.vault.Stage.TheVariants.{Closed, Torn, KeyLoose, Keyed, Opening, Open, Closing}
 use Rattle.lz_vault.proofs.Changes.{Leaves, change_keeps, cell_keeps}
-use Rattle.lz_vault.proofs.Gates.{gate_bytes, body_bytes, shut_stays, body_stays, free_says_shut, opened_says_body}
-use Rattle.lz_vault.proofs.MakingTexts.{slot_written}
+use Rattle.lz_vault.proofs.{Gates.{gate_bytes, body_bytes, shut_stays, body_stays, free_says_shut, opened_says_body}, MakingTexts.{slot_written}}
 use Rattle.lz_vault.proofs.Slots.{body_written, gate_written}
 
 -- with this cell the disk is as the cells say after the device call, whether it is done or fails

@@ -1,16 +1,10 @@
 -- Worked rows: what the stages say of sixteen bytes in format 4, and which device calls put a key, open a slot and close it.
-use Rattle.std.proofs.Common.{◌≡◌, ◌⊎◌, inl, inr, ℕ, zero, suc, ◌<◌, Bool, true, false, List, [], ◌∷◌, length, get_or, replicate, refl, ap, arith}
-use Rattle.std.proofs.lemmas.Bool.{false≢true}
-use Rattle.std.proofs.lemmas.List.{get_or-replicate}
-use Rattle.lz_slot.specs.Bytes.{slot_body}
-use Rattle.lz_slot.specs.Whole.{whole_slot}
-use Rattle.lz_slot.specs.declared.format.Format.TheVariants.{Two, Three, Four}
-use Rattle.lz_slot.specs.declared.slot.SlotRead.{SlotRead}
 use Rattle.lz_slot.specs.declared.slot.SlotRead.TheVariants as read
-use Rattle.lz_vault.specs.Stages.{Says, SaysWhole, ReadsWhole, MayRead, stage_put}
-use Rattle.lz_vault.specs.Vaults.{DeviceCall, NoCall, WriteAt, key_call, opening_call, closing_call}
-use Rattle.lz_vault.specs.declared.vault.Stage.{Stage}
-use Rattle.lz_vault.specs.declared.vault.Stage.TheVariants.{Closed, Torn, KeyLoose, Keyed, Opening, Open, Closing}
+use Rattle.std.proofs.Common.{◌≡◌, ◌⊎◌, inl, inr, ℕ, zero, suc, ◌<◌, Bool, true, false, List, [], ◌∷◌, length, get_or, replicate, refl, ap, arith}
+use Rattle.std.proofs.lemmas.{Bool.{false≢true}, List.{get_or-replicate}}
+use Rattle.lz_slot.specs.{Bytes.{slot_body}, Whole.{whole_slot}, declared.{format.Format.TheVariants.{Two, Three, Four}, slot.SlotRead.{SlotRead}}}
+use Rattle.lz_vault.specs.{Stages.{Says, SaysWhole, ReadsWhole, MayRead, stage_put}, Vaults.{DeviceCall, NoCall, WriteAt, key_call, opening_call, closing_call}}
+use Rattle.lz_vault.specs.declared.vault.Stage.{Stage, TheVariants.{Closed, Torn, KeyLoose, Keyed, Opening, Open, Closing}}
 
 -- the slot of key 0 is 15, sixteen times: of it the first byte was written, or all but the first
 abbrev first_byte : List ℕ

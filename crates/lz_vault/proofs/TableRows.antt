@@ -1,9 +1,6 @@
 -- Worked rows: which slots are counted as open.
 use Rattle.std.proofs.Common.{◌≡◌, ℕ, [], ◌∷◌, refl, arith}
-use Rattle.lz_vault.specs.Opens.{open_count}
-use Rattle.lz_vault.specs.Stages.{Cell}
-use Rattle.lz_vault.specs.declared.vault.Stage.{Stage}
-use Rattle.lz_vault.specs.declared.vault.Stage.TheVariants.{Closed, Keyed, Opening, Open, Closing}
+use Rattle.lz_vault.specs.{Opens.{open_count}, Stages.{Cell}, declared.vault.Stage.{Stage, TheVariants.{Closed, Keyed, Opening, Open, Closing}}}
 
 abbrev at : Stage → Cell
 at stage = record { stage = stage; key = 7 }

@@ -1,20 +1,14 @@
 -- What a write to a slot, and a sync, leave of a table of slots.
-use Rattle.std.proofs.Common.{◌≡◌, ◌≢◌, inl, inr, ⊎_elim, ℕ, suc, ◌+◌, ◌≤◌, ◌<◌, Bool, true, false, List, [], ◌∷◌, ◌++◌, length, sym, refl, ◌∙◌, ap, subst, arith, Some, get_or-set_same, get_or-set_other, length-set, length-append}
-use Rattle.std.specs.Prelude.{cond, if◌then◌else◌, not, ◌&&◌, slice_get, slice_set, map}
-use Rattle.std.specs.List.{count_by}
-use Rattle.std.proofs.lemmas.Bool.{cases_eq, true≢false}
-use Rattle.std.proofs.lemmas.List.{get_or_append_left, get_or_push, length-map}
-use Rattle.std.proofs.lemmas.List.Sums.{count_by-le-length, sum_by-cons, sum_by-set}
+use Rattle.std.proofs.Common.{◌≡◌, ◌≢◌, inl, inr, ⊎_elim, ℕ, suc, ◌+◌, ◌≤◌, ◌<◌, Bool, true, false, List, [], ◌∷◌, ◌++◌, length, sym, refl, ◌∙◌, ap, subst}
+use Rattle.std.proofs.{Common.{arith, Some, get_or-set_same, get_or-set_other, length-set, length-append}, lemmas.Bool.{cases_eq, true≢false}}
+use Rattle.std.proofs.lemmas.List.{get_or_append_left, get_or_push, length-map, Sums.{count_by-le-length, sum_by-cons, sum_by-set}}
 use Rattle.std.proofs.lemmas.Option.{slice_get_within, slice_get-get_or, get_or_from_slice_get, same_Some}
-use Rattle.lz_slot.specs.declared.format.Format.{Format}
-use Rattle.lz_slot.specs.declared.format.Format.TheVariants.{One, Two, Three, Four}
-use Rattle.lz_vault.specs.Members.{no_cell}
-use Rattle.lz_vault.specs.Opens.{is_open, open_count}
+use Rattle.std.specs.{Prelude.{cond, if◌then◌else◌, not, ◌&&◌, slice_get, slice_set, map}, List.{count_by}}
+use Rattle.lz_slot.specs.declared.format.Format.{Format, TheVariants.{One, Two, Three, Four}}
+use Rattle.lz_vault.specs.{Members.{no_cell}, Opens.{is_open, open_count}}
 use Rattle.lz_vault.specs.Stages.{AreSteady, Cell, IsFree, IsSteady, cell_synced, is_covered, stage_put, stage_synced}
-use Rattle.lz_vault.specs.Tables.{AreMoved, AreUnsynced, IsTable, is_listed_then, is_opening, is_uncovered}
-use Rattle.lz_vault.specs.declared.vault.Stage.{Stage}
-use Rattle.lz_vault.specs.declared.vault.Stage.TheVariants.{Closed, Torn, KeyLoose, Keyed, Opening, Open, Closing}
-use Rattle.lz_vault.proofs.Changes.{from_map, set_cases}
+use Rattle.lz_vault.specs.{Tables.{AreMoved, AreUnsynced, IsTable, is_listed_then, is_opening, is_uncovered}, declared.vault.Stage.{Stage}}
+use Rattle.lz_vault.{specs.declared.vault.Stage.TheVariants.{Closed, Torn, KeyLoose, Keyed, Opening, Open, Closing}, proofs.Changes.{from_map, set_cases}}
 use Rattle.lz_vault.proofs.Scanning.{push_cases}
 
 -- of the stages

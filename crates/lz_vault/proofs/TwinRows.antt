@@ -1,9 +1,6 @@
 -- Worked rows: which two slots are told where keys stand twice.
-use Rattle.std.proofs.Common.{◌≡◌, ℕ, zero, suc, List, [], ◌∷◌, Some, None, refl, sym, ◌∙◌, arith}
-use Rattle.std.proofs.lemmas.Option.{same_Some}
-use Rattle.lz_vault.specs.Stages.{Cell}
-use Rattle.lz_vault.specs.Members.{AreApart, AreTwins, IsLowest, lower_twins}
-use Rattle.lz_vault.specs.declared.vault.Stage.TheVariants.{Closed, Open}
+use Rattle.std.proofs.{Common.{◌≡◌, ℕ, zero, suc, List, [], ◌∷◌, Some, None, refl, sym, ◌∙◌, arith}, lemmas.Option.{same_Some}}
+use Rattle.lz_vault.specs.{Stages.{Cell}, Members.{AreApart, AreTwins, IsLowest, lower_twins}, declared.vault.Stage.TheVariants.{Closed, Open}}
 
 abbrev member : ℕ → Cell
 member k = record { stage = Open; key = k }

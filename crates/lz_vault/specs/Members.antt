@@ -1,10 +1,8 @@
 -- The members that slots hold, by key.
-use Rattle.std.specs.Prelude.{◌≡◌, ◌≢◌, ℕ, ◌+◌, ◌<◌, ◌≤◌, true, nat_lt, ◌&&◌, ◌==◌, if◌then◌else◌, List, [], ◌∷◌, length, filter_map, slice_index_or, Option, Some, None}
+use Rattle.std.specs.Prelude.{◌≡◌, ◌≢◌, ℕ, ◌+◌, ◌<◌, ◌≤◌, true, nat_lt, ◌&&◌, ◌==◌, if◌then◌else◌, List, [], ◌∷◌, length, filter_map, slice_index_or, Option}
+use Rattle.std.specs.Prelude.{Some, None}
 use Rattle.lz_slot.specs.Nodes.{Nodes, has_node}
-use Rattle.lz_vault.specs.declared.opening.OpenFault.{OpenFault}
-use Rattle.lz_vault.specs.declared.opening.OpenFault.TheVariants.{Twice, Memory}
-use Rattle.lz_vault.specs.declared.vault.Stage.TheVariants.{Closed, Open}
-use Rattle.lz_vault.specs.Stages.{Cell}
+use Rattle.lz_vault.specs.{declared.{opening.OpenFault.{OpenFault, TheVariants.{Twice, Memory}}, vault.Stage.TheVariants.{Closed, Open}}, Stages.{Cell}}
 
 -- the cell of a slot that no vault has
 abbrev pub no_cell : Cell

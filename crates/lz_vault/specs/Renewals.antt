@@ -1,16 +1,9 @@
 -- What a renewal reads and leaves, and why one is refused.
 use Rattle.std.specs.Prelude.{◌≡◌, ◌≢◌, ◌⊎◌, ℕ, ◌≤◌, ◌<◌, IsTrue, List, length, map}
-use Rattle.lz_slot.specs.Sets.{members}
-use Rattle.lz_slot.specs.Bytes.{Holds, held}
-use Rattle.lz_slot.specs.declared.format.Format.{Format}
-use Rattle.lz_disk.specs.Images.{synced}
-use Rattle.lz_disk.specs.Devices.{Device}
-use Rattle.lz_vault.specs.Vaults.{LeavesEither}
-use Rattle.lz_vault.specs.Opens.{IsRefusedFor, open_fault_number}
-use Rattle.lz_vault.specs.Makes.{IsMakeFaultOf, IsRenewed, MayBeMade, make_fault_number}
-use Rattle.lz_vault.specs.declared.making.MakeFault.TheVariants.{BadCount}
-use Rattle.lz_vault.specs.declared.renewing.RenewFault.{RenewFault}
-use Rattle.lz_vault.specs.declared.renewing.RenewFault.TheVariants.{Old, New, TooSmall}
+use Rattle.lz_slot.specs.{Sets.{members}, Bytes.{Holds, held}, declared.format.Format.{Format}}
+use Rattle.lz_disk.specs.{Images.{synced}, Devices.{Device}}
+use Rattle.lz_vault.specs.{Vaults.{LeavesEither}, Opens.{IsRefusedFor, open_fault_number}, Makes.{IsMakeFaultOf, IsRenewed, MayBeMade, make_fault_number}}
+use Rattle.lz_vault.specs.declared.{making.MakeFault.TheVariants.{BadCount}, renewing.RenewFault.{RenewFault, TheVariants.{Old, New, TooSmall}}}
 
 -- The device was read, and what is read was made durable, and nothing else.
 pub record OnlySyncs (before after : Device) : Type 0 where

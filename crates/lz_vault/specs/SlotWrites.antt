@@ -1,8 +1,6 @@
 -- What is written into a slot, as a call of the device.
 use Rattle.std.specs.Prelude.{ℕ, List, Option, Some, None}
-use Rattle.lz_vault.specs.Vaults.{DeviceCall, NoCall, WriteAt}
-use Rattle.lz_vault.specs.declared.slot_writes.SlotBytes.{SlotBytes}
-use Rattle.lz_vault.specs.declared.slot_writes.SlotBytes.TheVariants.{Gate, Body, Whole}
+use Rattle.lz_vault.specs.{Vaults.{DeviceCall, NoCall, WriteAt}, declared.slot_writes.SlotBytes.{SlotBytes, TheVariants.{Gate, Body, Whole}}}
 
 abbrev pub bytes_of : SlotBytes → List ℕ
 bytes_of (Gate bytes) = bytes

@@ -1,11 +1,7 @@
 -- The slots of an open file as a vault keeps them: what the next sync covers, and how many are open.
-use Rattle.std.specs.Prelude.{◌≡◌, ◌⊎◌, ℕ, ◌≤◌, ◌&&◌, Bool, not, true, false, List, length, slice_get, Some}
-use Rattle.std.specs.List.{count_by}
+use Rattle.std.specs.{Prelude.{◌≡◌, ◌⊎◌, ℕ, ◌≤◌, ◌&&◌, Bool, not, true, false, List, length, slice_get, Some}, List.{count_by}}
 use Rattle.lz_slot.specs.Limits.{most_slots}
-use Rattle.lz_vault.specs.Opens.{open_count}
-use Rattle.lz_vault.specs.Stages.{Cell, IsAt, cell_synced, is_covered}
-use Rattle.lz_vault.specs.declared.vault.Stage.{Stage}
-use Rattle.lz_vault.specs.declared.vault.Stage.TheVariants.{Opening}
+use Rattle.lz_vault.specs.{Opens.{open_count}, Stages.{Cell, IsAt, cell_synced, is_covered}, declared.vault.Stage.{Stage, TheVariants.{Opening}}}
 
 -- the next sync covers the slot's last write
 abbrev pub is_uncovered : Cell → Bool

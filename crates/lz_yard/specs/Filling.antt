@@ -2,19 +2,11 @@
 use Rattle.std.specs.Prelude.{◌≡◌, ℕ, zero, suc, Bool, true, false, if◌then◌else◌, IsTrue, List, [], ◌∷◌, ◌++◌, length, map, replicate, is_some}
 use Rattle.std.specs.List.{range_with_len}
 use Rattle.lz_disk.specs.Devices.{Device}
-use Rattle.lz_vault.specs.Stages.{Cell}
-use Rattle.lz_vault.specs.Members.{AreMembers, member_at}
-use Rattle.lz_vault.specs.Opens.{Opens}
-use Rattle.lz_allot.specs.Uses.{Free, Taken}
-use Rattle.lz_allot.specs.Allots.{Allotted}
-use Rattle.lz_list.specs.declared.place.Place.TheVariants.{Bucket}
-use Rattle.lz_list.specs.declared.word.Word.TheVariants.{Head, Link, Key}
-use Rattle.lz_list.specs.Words.{Words, set, link_with, next_at}
-use Rattle.lz_list.specs.Lists.{Listed, free_locks}
-use Rattle.lz_list.specs.Traces.{Chain, bucket_of, has_slot, opening, words_of_trace}
-use Rattle.lz_machine.specs.declared.actor.Actor.{Actor}
-use Rattle.lz_machine.specs.Runs.{IsStart}
-use Rattle.lz_machine.specs.Yards.{Yard, opened_yard, idle_actor}
+use Rattle.lz_vault.specs.{Stages.{Cell}, Members.{AreMembers, member_at}, Opens.{Opens}}
+use Rattle.lz_allot.specs.{Uses.{Free, Taken}, Allots.{Allotted}}
+use Rattle.lz_list.specs.{declared.{place.Place.TheVariants.{Bucket}, word.Word.TheVariants.{Head, Link, Key}}, Words.{Words, set, link_with, next_at}}
+use Rattle.lz_list.specs.{Lists.{Listed, free_locks}, Traces.{Chain, bucket_of, has_slot, opening, words_of_trace}}
+use Rattle.lz_machine.specs.{declared.actor.Actor.{Actor}, Runs.{IsStart}, Yards.{Yard, opened_yard, idle_actor}}
 
 -- the words with a node of key k in slot s before all others of its bucket, settled as added
 abbrev pub with_first : Words → ℕ → ℕ → Words

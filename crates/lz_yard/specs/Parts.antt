@@ -2,16 +2,10 @@
 use Rattle.std.specs.Prelude.{◌≡◌, ◌≢◌, ℕ, ◌<◌, ◌≤◌, true, false, not, ◌&&◌, List, length, slice_get, Some, IfSome, Result, Ok, Err}
 use Rattle.lz_slot.specs.Limits.{most_passes}
 use Rattle.lz_disk.specs.Devices.{Device}
-use Rattle.lz_vault.specs.Vaults.{NoCall, Succeeds, Fails, last_sync}
-use Rattle.lz_vault.specs.declared.vault.VaultFault.{VaultFault}
+use Rattle.lz_vault.specs.{Vaults.{NoCall, Succeeds, Fails, last_sync}, declared.vault.VaultFault.{VaultFault}}
 use Rattle.lz_allot.specs.Uses.{Use}
-use Rattle.lz_machine.specs.declared.event.Event.{Event}
-use Rattle.lz_machine.specs.declared.event.Outcome.{Outcome}
-use Rattle.lz_machine.specs.declared.course.Course.{Course}
-use Rattle.lz_machine.specs.declared.course.Course.TheVariants.{Refused, Dies, Plays}
-use Rattle.lz_machine.specs.declared.actor.Actor.{Actor}
-use Rattle.lz_machine.specs.Yards.{Yard, actor_at}
-use Rattle.lz_machine.specs.Table.{needs, course, is_played_dead, call_of, yard_done, outcome_of, with_vault, vault_failed}
+use Rattle.lz_machine.specs.declared.{event.{Event.{Event}, Outcome.{Outcome}}, course.Course.{Course, TheVariants.{Refused, Dies, Plays}}, actor.Actor.{Actor}}
+use Rattle.lz_machine.specs.{Yards.{Yard, actor_at}, Table.{needs, course, is_played_dead, call_of, yard_done, outcome_of, with_vault, vault_failed}}
 
 -- The yard and the disk.
 pub record YardOver (D : Type 0) : Type 0 where

@@ -1,13 +1,8 @@
 -- An event that is played by the parts of a yard: what that needs, and what it leaves.
 use Rattle.std.specs.Prelude.{◌≡◌, ℕ, Result}
 use Rattle.lz_disk.specs.Devices.{Device}
-use Rattle.lz_vault.specs.Vaults.{NoCall, Succeeds}
-use Rattle.lz_vault.specs.declared.vault.VaultFault.{VaultFault}
-use Rattle.lz_machine.specs.declared.event.Event.{Event}
-use Rattle.lz_machine.specs.declared.event.Outcome.{Outcome}
-use Rattle.lz_machine.specs.declared.course.Course.{Course}
-use Rattle.lz_machine.specs.declared.course.Course.TheVariants.{Plays}
-use Rattle.lz_machine.specs.Ready.{IsReady}
+use Rattle.lz_vault.specs.{Vaults.{NoCall, Succeeds}, declared.vault.VaultFault.{VaultFault}}
+use Rattle.lz_machine.specs.{declared.{event.{Event.{Event}, Outcome.{Outcome}}, course.Course.{Course, TheVariants.{Plays}}}, Ready.{IsReady}}
 use Rattle.lz_yard.specs.Parts.{PartsOver, PartsFit, Known, Does}
 
 -- The parts may play this event of an actor: they fit, the event is ready and its course is to be played, and a device that

@@ -2,14 +2,8 @@
 use Rattle.std.specs.Prelude.{◌≡◌, ◌≢◌, ℕ, Option, Some, None, IfSome, option_to_list}
 use Rattle.lz_vault.specs.Vaults.{NoCall, Succeeds, Fails}
 use Rattle.lz_disk.specs.Devices.{Device}
-use Rattle.lz_list.specs.declared.word.Word.{Word}
-use Rattle.lz_list.specs.Words.{Words, get}
-use Rattle.lz_list.specs.Lists.{IsWord}
-use Rattle.lz_machine.specs.declared.actor.Actor.{Actor}
-use Rattle.lz_machine.specs.declared.event.Event.{Event}
-use Rattle.lz_machine.specs.declared.event.Outcome.{Outcome}
-use Rattle.lz_machine.specs.declared.event.Outcome.TheVariants.{Fault}
-use Rattle.lz_machine.specs.Yards.{Yard}
+use Rattle.lz_list.specs.{declared.word.Word.{Word}, Words.{Words, get}, Lists.{IsWord}}
+use Rattle.lz_machine.specs.{declared.{actor.Actor.{Actor}, event.{Event.{Event}, Outcome.{Outcome, TheVariants.{Fault}}}}, Yards.{Yard}}
 use Rattle.lz_machine.specs.Table.{line, line_failed, line_call, line_changes, line_publishes, word_changed, publishes}
 use Rattle.lz_yard.specs.declared.told.Told.{Told}
 

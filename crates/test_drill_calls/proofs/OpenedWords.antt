@@ -3,8 +3,7 @@ use Rattle.std.proofs.Common.{ℕ, ap}
 use Rattle.lz_disk.specs.Devices.{Device}
 use Rattle.lz_machine.specs.Yards.{Yard}
 use Rattle.lz_yard.specs.Filling.{OpensYard}
-use Rattle.lz_board.specs.Opened.{AreOpened}
-use Rattle.lz_board.proofs.Start.FirstWords.{opens_text}
+use Rattle.lz_board.{specs.Opened.{AreOpened}, proofs.Start.FirstWords.{opens_text}}
 
 pub begins : (before after : Device) (B S : ℕ) (y : Yard) → OpensYard before after B S y → AreOpened y.words
 begins before after B S y o =

@@ -1,9 +1,6 @@
 -- Who may look at a board.
 use Rattle.std.specs.Prelude.{◌≡◌, false}
-use Rattle.lz_board.specs.declared.board.Board.{Board}
-use Rattle.lz_board.specs.declared.pass.Pass.{Pass}
-use Rattle.lz_board.specs.Kept.{is_calling}
-use Rattle.lz_board.specs.Seats.{id_of, part, IsOf}
+use Rattle.lz_board.specs.{declared.{board.Board.{Board}, pass.Pass.{Pass}}, Kept.{is_calling}, Seats.{id_of, part, IsOf}}
 
 -- the pass has a seat at this board, and no call open
 abbrev pub MayLook : Board → Pass → Type 0

@@ -1,21 +1,12 @@
 -- Worked rows of what may have been sent to a client that asked `add 1`.
-use Rattle.std.proofs.Common.{◌≡◌, ℕ, All, arith, false, nat_eq, List, [], ◌∷◌, ◌++◌, ap, codes, get_or, refl, subst, ◌∙◌}
-use Rattle.std.proofs.lemmas.Bool.Decides.{nat_tests}
+use Rattle.std.proofs.{Common.{◌≡◌, ℕ, All, arith, false, nat_eq, List, [], ◌∷◌, ◌++◌, ap, codes, get_or, refl, subst, ◌∙◌}, lemmas.Bool.Decides.{nat_tests}}
 use Rattle.std.proofs.lemmas.List.Elements.{All-cons, All-head, All-nil}
 use Rattle.lz_slot.specs.declared.format.Format.{Format}
-use Rattle.lz_proto.specs.declared.request.Request.TheVariants.{Add, Remove, Has, Quit}
-use Rattle.lz_proto.specs.declared.item.Item.{Item}
-use Rattle.lz_proto.specs.declared.item.Item.TheVariants.{Asks, Faulty}
-use Rattle.lz_proto.specs.declared.reply.Reply.{Reply}
-use Rattle.lz_proto.specs.declared.reply.Reply.TheVariants.{Yes, No, Full, Halted, Worn, OldFile}
-use Rattle.lz_proto.specs.declared.end.End.TheVariants.{Done}
-use Rattle.lz_proto.specs.Lines.{Items, line, nothing}
-use Rattle.lz_proto.specs.Sessions.{Serves, session_text}
-use Rattle.lz_proto.proofs.LineReads.{item_read}
-use Rattle.lz_proto.proofs.Texts.{only}
+use Rattle.lz_proto.specs.declared.{request.Request.TheVariants.{Add, Remove, Has, Quit}, item.Item.{Item, TheVariants.{Asks, Faulty}}, reply.Reply.{Reply}}
+use Rattle.lz_proto.specs.{declared.{reply.Reply.TheVariants.{Yes, No, Full, Halted, Worn, OldFile}, end.End.TheVariants.{Done}}, Lines.{Items, line, nothing}}
+use Rattle.lz_proto.{specs.Sessions.{Serves, session_text}, proofs.{LineReads.{item_read}, Texts.{only}}}
 use Rattle.lz_board.specs.Seats.{BoardId}
-use Rattle.lz_serve.specs.LineSessions.{IsGranted}
-use Rattle.lz_serve.specs.Grants.{Grant, IsAfter, IsGrant, IsOfLine}
+use Rattle.lz_serve.specs.{LineSessions.{IsGranted}, Grants.{Grant, IsAfter, IsGrant, IsOfLine}}
 use Rattle.test_threads.specs.Tapes.{IsTold}
 
 abbrev text : List ℕ

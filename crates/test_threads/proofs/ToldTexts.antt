@@ -1,23 +1,12 @@
 -- A tape goes on: what has come of its text, and what was sent.
-use Rattle.std.proofs.Common.{◌≡◌, ◌+◌, ℕ, Bool, true, false, List, [], ◌++◌, length, take, drop, Option, Some, None, is_none, refl, sym, ap, subst, ◌∙◌, arith, append_assoc}
-use Rattle.std.proofs.Math.Seq.{take-add}
-use Rattle.std.proofs.lemmas.List.{drop_all, take-append-drop, take_all, take_at}
-use Rattle.std.proofs.lemmas.List.Elements.{All-nil}
-use Rattle.lz_slot.specs.declared.format.Format.{Format}
-use Rattle.lz_proto.specs.declared.item.Item.{Item}
-use Rattle.lz_proto.specs.declared.end.End.TheVariants.{Done}
-use Rattle.lz_proto.specs.Lines.{Items}
-use Rattle.lz_proto.specs.Sessions.{Answered}
-use Rattle.lz_proto.proofs.Texts.{some_items}
-use Rattle.lz_board.specs.Seats.{BoardId}
-use Rattle.lz_serve.specs.declared.language.Language.TheVariants.{Lines}
-use Rattle.lz_serve.specs.declared.reader.Reader.{Reader}
 use Rattle.lz_serve.specs.declared.reader.Reader.TheVariants as reader
-use Rattle.lz_serve.specs.LineSessions.{IsGranted, LinesCame}
-use Rattle.lz_serve.proofs.LineSessions.{lines_are_sessions}
-use Rattle.lz_serve.specs.Grants.{AreGranted, IsGrant}
-use Rattle.lz_serve.specs.Listings.{IsListing}
-use Rattle.lz_serve.specs.Streams.{MayTake, Traffic}
+use Rattle.std.proofs.Common.{◌≡◌, ◌+◌, ℕ, Bool, true, false, List, [], ◌++◌, length, take, drop, Option, Some, None, is_none, refl, sym, ap, subst, ◌∙◌, arith}
+use Rattle.std.proofs.{Common.{append_assoc}, Math.Seq.{take-add}, lemmas.List.{drop_all, take-append-drop, take_all, take_at, Elements.{All-nil}}}
+use Rattle.lz_slot.specs.declared.format.Format.{Format}
+use Rattle.lz_proto.{specs.{declared.{item.Item.{Item}, end.End.TheVariants.{Done}}, Lines.{Items}, Sessions.{Answered}}, proofs.Texts.{some_items}}
+use Rattle.lz_board.specs.Seats.{BoardId}
+use Rattle.lz_serve.specs.{declared.{language.Language.TheVariants.{Lines}, reader.Reader.{Reader}}, LineSessions.{IsGranted, LinesCame}}
+use Rattle.lz_serve.{specs.{Grants.{AreGranted, IsGrant}, Listings.{IsListing}, Streams.{MayTake, Traffic}}, proofs.LineSessions.{lines_are_sessions}}
 use Rattle.test_threads.specs.Tapes.{IsTape}
 
 -- nothing has come and nothing was sent

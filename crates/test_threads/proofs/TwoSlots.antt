@@ -2,19 +2,13 @@
 -- marked, settled as removed, and unlinked.
 use Rattle.std.proofs.Common.{◌≡◌, ◌≢◌, inl, inr, ℕ, zero, suc, ◌<◌, ◌==◌, if◌then◌else◌, Bool, true, false, [], ◌∷◌, Some, refl, sym, ◌∙◌, subst, arith}
 use mathlib.Core.Bool.{false≢true}
-use Rattle.lz_list.specs.declared.word.Word.{Word}
-use Rattle.lz_list.specs.declared.word.Word.TheVariants.{Head, Link, Key, Pin as PinOf, Halt}
-use Rattle.lz_list.specs.declared.publishing.Change.TheVariants.{Added, Removed}
-use Rattle.lz_list.specs.declared.publishing.Publishing.TheVariants.{Linked as linked, Marked as marked, Unlinked as unlinked, Settled as settled, KeyPrepared as key_prepared, LinkPrepared as link_prepared, Halted as halted}
-use Rattle.lz_list.specs.Traces.{Trace, insert, on, bucket_of, word_after, IsLoose, MayLink, MayUnlink, Lawful}
-use Rattle.lz_list.specs.Pinned.{Stood}
+use Rattle.lz_list.specs.declared.{word.Word.{Word, TheVariants.{Head, Link, Key, Pin as PinOf, Halt}}, publishing.Change.TheVariants.{Added, Removed}}
+use Rattle.lz_list.specs.declared.publishing.Publishing.TheVariants.{Linked as linked, Marked as marked, Unlinked as unlinked, Settled as settled}
+use Rattle.lz_list.specs.declared.publishing.Publishing.TheVariants.{KeyPrepared as key_prepared, LinkPrepared as link_prepared, Halted as halted}
+use Rattle.lz_list.specs.{declared.layout.Sizes.{Sizes}, Traces.{Trace, insert, on, bucket_of, word_after, IsLoose, MayLink, MayUnlink, Lawful}, Pinned.{Stood}}
 use Rattle.lz_list.proofs.Traces.OpeningTrace.{opening_lawful}
 use Rattle.lz_machine.specs.Limbo.{IsAway}
-use Rattle.lz_list.specs.declared.layout.Sizes.{Sizes}
-use Rattle.lz_board.specs.Notes.{IsShared}
-use Rattle.lz_board.specs.Noting.{Writes}
-use Rattle.lz_board.specs.Opened.{shown_in, AreOpened}
-use Rattle.lz_board.specs.Laws.{Prepares}
+use Rattle.lz_board.specs.{Notes.{IsShared}, Noting.{Writes}, Opened.{shown_in, AreOpened}, Laws.{Prepares}}
 use Rattle.test_threads.specs.NineFound.{sizes, nine_words, at_open, key_stored, link_stored, when_linked, when_settled}
 
 pub nine_opened : AreOpened nine_words

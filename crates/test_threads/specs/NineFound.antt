@@ -1,17 +1,9 @@
 -- A board of two slots and five passes, where an open found key 9 in slot 0, and what is published when 12 is added in slot 1.
 use Rattle.std.specs.Prelude.{◌≡◌, ◌^◌, ◌%◌, ◌∷◌, ℕ, false}
-use Rattle.lz_list.specs.declared.word.Word.TheVariants.{Head, Link, Key}
-use Rattle.lz_list.specs.declared.publishing.Change.TheVariants.{Added}
-use Rattle.lz_list.specs.declared.publishing.Publishing.TheVariants.{Linked, Settled, KeyPrepared, LinkPrepared}
-use Rattle.lz_list.specs.Words.{Words, set}
-use Rattle.lz_list.specs.Lists.{new_words}
-use Rattle.lz_list.specs.Traces.{Trace}
-use Rattle.lz_list.specs.declared.layout.Sizes.{Sizes}
-use Rattle.lz_board.specs.declared.board.Pen.{Pen}
-use Rattle.lz_board.specs.declared.pass.Pass.{Pass}
-use Rattle.lz_board.specs.Kept.{is_calling}
-use Rattle.lz_board.specs.Notes.{trace_of}
-use Rattle.lz_board.specs.Opened.{opened_by}
+use Rattle.lz_list.specs.declared.{word.Word.TheVariants.{Head, Link, Key}, publishing.Change.TheVariants.{Added}}
+use Rattle.lz_list.specs.{declared.{publishing.Publishing.TheVariants.{Linked, Settled, KeyPrepared, LinkPrepared}, layout.Sizes.{Sizes}}, Words.{Words, set}}
+use Rattle.lz_list.specs.{Lists.{new_words}, Traces.{Trace}}
+use Rattle.lz_board.specs.{declared.{board.Pen.{Pen}, pass.Pass.{Pass}}, Kept.{is_calling}, Notes.{trace_of}, Opened.{opened_by}}
 use Rattle.lz_board.specs.Seats.{BoardId, notes, part, IsOf, IsPenOf}
 
 abbrev pub sizes : Sizes

@@ -1,13 +1,9 @@
 -- What may have been sent to a client whose text is known.
 use Rattle.std.specs.Prelude.{◌≡◌, ◌≤◌, ℕ, Bool, true, List, [], ◌++◌, length}
 use Rattle.lz_slot.specs.declared.format.Format.{Format}
-use Rattle.lz_proto.specs.declared.item.Item.{Item}
-use Rattle.lz_proto.specs.declared.end.End.{End}
-use Rattle.lz_proto.specs.Lines.{Items}
-use Rattle.lz_proto.specs.Sessions.{Answered}
+use Rattle.lz_proto.specs.{declared.{item.Item.{Item}, end.End.{End}}, Lines.{Items}, Sessions.{Answered}}
 use Rattle.lz_board.specs.Seats.{BoardId}
-use Rattle.lz_serve.specs.LineSessions.{IsGranted}
-use Rattle.lz_serve.specs.Grants.{AreGranted, Grant}
+use Rattle.lz_serve.specs.{LineSessions.{IsGranted}, Grants.{AreGranted, Grant}}
 
 -- It is a beginning of what the client is told of the first items of its text: each request was
 -- granted its reply, as the line of its number on one connection, by a pass of this board, those for one key in turn.

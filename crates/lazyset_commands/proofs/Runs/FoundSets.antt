@@ -1,14 +1,8 @@
 -- A text that holds the set after some first ones of the items.
 use Rattle.std.proofs.Common.{◌≡◌, ◌≢◌, ℕ, List, [], ◌∷◌, ◌++◌, refl, ap, ◌∙◌, append_assoc}
-use Rattle.lz_slot.specs.Sets.{Keys}
-use Rattle.lz_slot.specs.Bytes.{Holds}
-use Rattle.lz_proto.specs.declared.request.Request.{Request}
-use Rattle.lz_proto.specs.declared.reply.Reply.{Reply}
-use Rattle.lz_proto.specs.declared.reply.Reply.TheVariants.{Halted}
-use Rattle.lz_proto.specs.declared.fault.Bad.{Bad}
-use Rattle.lz_proto.specs.declared.item.Item.{Item}
-use Rattle.lz_proto.specs.declared.item.Item.TheVariants.{Asks, Faulty}
-use Rattle.lz_proto.specs.Sessions.{Serves}
+use Rattle.lz_slot.specs.{Sets.{Keys}, Bytes.{Holds}}
+use Rattle.lz_proto.specs.declared.{request.Request.{Request}, reply.Reply.{Reply, TheVariants.{Halted}}, fault.Bad.{Bad}, item.Item.{Item}}
+use Rattle.lz_proto.specs.{declared.item.Item.TheVariants.{Asks, Faulty}, Sessions.{Serves}}
 use Rattle.lazyset_commands.specs.Runs.{AreFirst, FoundAfter}
 
 -- a reply was given before the first ones of the others

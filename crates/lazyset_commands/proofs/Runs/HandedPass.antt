@@ -1,13 +1,7 @@
 -- A pass that was handed back to its set as it closed.
-use Rattle.std.proofs.Common.{◌≡◌, All, List, [], ◌∷◌, map, ap, ◌∙◌, subst}
-use Rattle.std.proofs.lemmas.List.Elements.{recursion_from_All}
+use Rattle.std.proofs.{Common.{◌≡◌, All, List, [], ◌∷◌, map, ap, ◌∙◌, subst}, lemmas.List.Elements.{recursion_from_All}}
 use Rattle.lz_list.specs.Traces.{Trace}
-use Rattle.lz_board.specs.declared.pass.Pass.{Pass}
-use Rattle.lz_board.specs.declared.view.Note.{Note}
-use Rattle.lz_board.specs.declared.view.Part.{Part}
-use Rattle.lz_board.specs.Notes.{Extends, trace_of}
-use Rattle.lz_board.specs.Plays.{knowing}
-use Rattle.lz_board.specs.Seats.{BoardId, part}
+use Rattle.lz_board.specs.{declared.{pass.Pass.{Pass}, view.{Note.{Note}, Part.{Part}}}, Notes.{Extends, trace_of}, Plays.{knowing}, Seats.{BoardId, part}}
 use Rattle.lz_set.specs.Left.{IsWelcome}
 
 -- what is known of the one pass once it has seen all

@@ -1,34 +1,18 @@
 -- What a run leaves that served its session by the one pass of a set.
-use Rattle.std.proofs.Common.{◌≡◌, inl, inr, ⊎_elim, ℕ, ◌≤◌, false, List, [], length, Option, IsTrue, refl, sym, ap, ◌∙◌, subst, arith}
-use Rattle.lz_slot.specs.Sets.{Keys}
-use Rattle.lz_slot.specs.Bytes.{Holds, format_of}
-use Rattle.lz_slot.specs.declared.format.Format.{Format}
-use Rattle.lz_disk.specs.Devices.{Device, IsTimely}
-use Rattle.lz_disk.proofs.Moments.{leaves_then, leaves_more}
-use Rattle.lz_machine.specs.Yards.{Yard}
-use Rattle.lz_machine.proofs.Open.FirstPoint.{one_set}
-use Rattle.lz_board.specs.declared.view.Note.{Note}
-use Rattle.lz_board.specs.declared.view.Part.{Part}
-use Rattle.lz_list.specs.declared.layout.Sizes.{Sizes}
-use Rattle.lz_board.specs.Notes.{shape_of_sizes}
-use Rattle.lz_board.specs.Seats.{BoardId, part}
-use Rattle.lz_serve.specs.Replies.{SeatAnswers}
-use Rattle.lz_tie.specs.Moments.{ExplainsBegun}
-use Rattle.lz_tie.specs.OwnCalls.{told}
-use Rattle.lz_tie.specs.RunningSets.{members_of}
-use Rattle.lz_tie.specs.Sessions.{IsSession, marks_alone}
-use Rattle.lz_tie.proofs.Sessions.SessionMoments.{moments_are_plain}
-use Rattle.lz_tie.proofs.Start.FirstSets.{same_set_explains}
-use Rattle.lz_tie.proofs.Start.OpenedYard.{opened_sizes}
-use Rattle.lazyset_commands.specs.PlainReplies.{PassMayAnswer}
-use Rattle.lazyset_commands.specs.Runs.{RanSeat, RepliesOfPass, ServedSeat, SessionOfSet}
-use Rattle.lazyset_offline.specs.declared.status.Status.{Status}
 use Rattle.lazyset_offline.specs.declared.status.Status.TheVariants as status
-use Rattle.lazyset_commands.proofs.Openings.{opening_leaves, unwritten}
-use Rattle.lazyset_commands.proofs.Runs.PlainRows.{same_is}
-use Rattle.lazyset_commands.proofs.Runs.SessionCalls.{none_made}
-use Rattle.lazyset_commands.proofs.Runs.ToldReplies.{asked_and_told}
+use Rattle.std.proofs.Common.{◌≡◌, inl, inr, ⊎_elim, ℕ, ◌≤◌, false, List, [], length, Option, IsTrue, refl, sym, ap, ◌∙◌, subst, arith}
+use Rattle.lz_slot.specs.{Sets.{Keys}, Bytes.{Holds, format_of}, declared.format.Format.{Format}}
+use Rattle.lz_disk.{specs.Devices.{Device, IsTimely}, proofs.Moments.{leaves_then, leaves_more}}
+use Rattle.lz_machine.{specs.Yards.{Yard}, proofs.Open.FirstPoint.{one_set}}
+use Rattle.lz_board.specs.{declared.view.{Note.{Note}, Part.{Part}}, Notes.{shape_of_sizes}, Seats.{BoardId, part}}
+use Rattle.lz_list.specs.declared.layout.Sizes.{Sizes}
+use Rattle.lz_serve.specs.Replies.{SeatAnswers}
+use Rattle.lz_tie.specs.{Moments.{ExplainsBegun}, OwnCalls.{told}, RunningSets.{members_of}, Sessions.{IsSession, marks_alone}}
+use Rattle.lz_tie.proofs.{Sessions.SessionMoments.{moments_are_plain}, Start.{FirstSets.{same_set_explains}, OpenedYard.{opened_sizes}}}
+use Rattle.lazyset_commands.specs.{PlainReplies.{PassMayAnswer}, Runs.{RanSeat, RepliesOfPass, ServedSeat, SessionOfSet}}
+use Rattle.lazyset_commands.proofs.{Openings.{opening_leaves, unwritten}, Runs.{PlainRows.{same_is}, SessionCalls.{none_made}, ToldReplies.{asked_and_told}}}
 use Rattle.lazyset_commands.proofs.Runs.ToldSessions.{told_session, told_plain, told_moment}
+use Rattle.lazyset_offline.specs.declared.status.Status.{Status}
 
 module _ {D : Type 0} (device : D → Device) (buckets : ℕ) (state : Status) (input rest before later : Option (List ℕ)) (old new : D) (ran : RanSeat device buckets state input rest before later old new) where
   abbrev b : BoardId

@@ -1,24 +1,16 @@
 -- An answer of a set of one pass is told as the plain set's.
-use Rattle.std.proofs.Common.{◌≡◌, inl, inr, ⊎_elim, ℕ, ◌≤◌, Bool, true, false, Some, Result, Ok, Err, refl, sym, ◌∙◌, subst, arith}
-use Rattle.std.proofs.lemmas.Map.Made.{length-le_from_is_member}
-use Rattle.std.specs.Cmp.{nat_eq_equiv}
-use Rattle.lz_slot.specs.Sets.{Keys, Same, after, HasMembers}
-use Rattle.lz_slot.specs.declared.command.Command.{Command}
 use Rattle.lz_slot.specs.declared.command.Command.TheVariants as command
-use Rattle.lz_slot.specs.declared.format.Format.{Format}
-use Rattle.lz_slot.proofs.Sets.{members_among}
-use Rattle.lz_machine.specs.declared.event.Reply.{Reply as Given}
 use Rattle.lz_machine.specs.declared.event.Reply.TheVariants as given
-use Rattle.lz_proto.specs.declared.request.Request.{Request}
-use Rattle.lz_proto.specs.declared.request.Request.TheVariants.{Add, Remove, Has, Quit}
-use Rattle.lz_proto.specs.declared.reply.Reply.{Reply}
-use Rattle.lz_proto.specs.declared.reply.Reply.TheVariants.{Yes, No, Full, Halted, Worn, OldFile}
-use Rattle.lz_set.specs.declared.fault.Fault.{Fault}
 use Rattle.lz_set.specs.declared.fault.Fault.TheVariants as fault
-use Rattle.lz_set.specs.Answers.{reply_of}
+use Rattle.std.proofs.Common.{◌≡◌, inl, inr, ⊎_elim, ℕ, ◌≤◌, Bool, true, false, Some, Result, Ok, Err, refl, sym, ◌∙◌, subst, arith}
+use Rattle.std.{proofs.lemmas.Map.Made.{length-le_from_is_member}, specs.Cmp.{nat_eq_equiv}}
+use Rattle.lz_slot.{specs.{Sets.{Keys, Same, after, HasMembers}, declared.{command.Command.{Command}, format.Format.{Format}}}, proofs.Sets.{members_among}}
+use Rattle.lz_machine.specs.declared.event.Reply.{Reply as Given}
+use Rattle.lz_proto.specs.declared.{request.Request.{Request, TheVariants.{Add, Remove, Has, Quit}}, reply.Reply.{Reply}}
+use Rattle.lz_proto.specs.declared.reply.Reply.TheVariants.{Yes, No, Full, Halted, Worn, OldFile}
+use Rattle.lz_set.specs.{declared.fault.Fault.{Fault}, Answers.{reply_of}}
 use Rattle.lz_serve.specs.Replies.{command_of, client_reply}
-use Rattle.lz_tie.specs.OneCaller.{HasRoom, IsPlainAnswer}
-use Rattle.lz_tie.specs.Sessions.{cuts_off}
+use Rattle.lz_tie.specs.{OneCaller.{HasRoom, IsPlainAnswer}, Sessions.{cuts_off}}
 use Rattle.lazyset_commands.specs.PlainReplies.{PassAnswers, PassMayAnswer}
 
 -- the reply that tells an answer of the machine

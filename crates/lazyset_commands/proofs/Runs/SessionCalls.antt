@@ -1,29 +1,17 @@
 -- The calls that a session of the one pass made, and what the plain set's replies to them say of its items.
-use Rattle.std.proofs.Common.{◌≡◌, ◌≢◌, inr, ⊎_elim, ℕ, false, List, [], ◌∷◌, ◌++◌, Some, refl, sym, ap, ◌∙◌, subst}
-use Rattle.lz_slot.specs.Sets.{Keys, after}
-use Rattle.lz_slot.specs.Bytes.{Holds}
-use Rattle.lz_slot.specs.declared.command.Command.{Command}
 use Rattle.lz_slot.specs.declared.command.Command.TheVariants as command
-use Rattle.lz_slot.specs.declared.format.Format.{Format}
-use Rattle.lz_machine.specs.declared.event.Reply.{Reply as Given}
 use Rattle.lz_machine.specs.declared.event.Reply.TheVariants as given
-use Rattle.lz_proto.specs.declared.request.Request.{Request}
-use Rattle.lz_proto.specs.declared.request.Request.TheVariants.{Add, Remove, Has, Quit}
-use Rattle.lz_proto.specs.declared.reply.Reply.{Reply}
-use Rattle.lz_proto.specs.declared.reply.Reply.TheVariants.{Halted}
-use Rattle.lz_proto.specs.declared.item.Item.{Item}
-use Rattle.lz_proto.specs.declared.item.Item.TheVariants.{Asks, Faulty}
 use Rattle.lz_proto.specs.declared.end.End.TheVariants as ends
-use Rattle.lz_proto.specs.Sessions.{Serves, end_of}
-use Rattle.lz_board.specs.declared.pass.Pass.{Pass}
-use Rattle.lz_board.specs.Seats.{BoardId, part}
+use Rattle.std.proofs.Common.{◌≡◌, ◌≢◌, inr, ⊎_elim, ℕ, false, List, [], ◌∷◌, ◌++◌, Some, refl, sym, ap, ◌∙◌, subst}
+use Rattle.lz_slot.specs.{Sets.{Keys, after}, Bytes.{Holds}, declared.{command.Command.{Command}, format.Format.{Format}}}
+use Rattle.lz_machine.specs.declared.event.Reply.{Reply as Given}
+use Rattle.lz_proto.specs.declared.{request.Request.{Request, TheVariants.{Add, Remove, Has, Quit}}, reply.Reply.{Reply, TheVariants.{Halted}}}
+use Rattle.lz_proto.specs.{declared.item.Item.{Item, TheVariants.{Asks, Faulty}}, Sessions.{Serves, end_of}}
+use Rattle.lz_board.specs.{declared.pass.Pass.{Pass}, Seats.{BoardId, part}}
 use Rattle.lz_set.specs.Answers.{reply_of as given_of}
-use Rattle.lz_serve.specs.Replies.{SeatAnswers, command_of}
-use Rattle.lz_serve.proofs.Seats.{only_call}
-use Rattle.lz_tie.specs.OneCaller.{IsPlainAnswer}
-use Rattle.lz_tie.specs.Sessions.{AnsweredCalls, Served, PlainRun, NoneCut, CutLast, cuts_off, MayHaveNext, HoldsAfterSome}
-use Rattle.lazyset_commands.specs.PlainReplies.{PassAnswers, PassMayAnswer}
-use Rattle.lazyset_commands.specs.Runs.{FoundAfter}
+use Rattle.lz_serve.{specs.Replies.{SeatAnswers, command_of}, proofs.Seats.{only_call}}
+use Rattle.lz_tie.specs.{OneCaller.{IsPlainAnswer}, Sessions.{AnsweredCalls, Served, PlainRun, NoneCut, CutLast, cuts_off, MayHaveNext, HoldsAfterSome}}
+use Rattle.lazyset_commands.specs.{PlainReplies.{PassAnswers, PassMayAnswer}, Runs.{FoundAfter}}
 use Rattle.lazyset_commands.proofs.Runs.FoundSets.{first_next, found_here, found_past_fault, found_amid}
 use Rattle.lazyset_commands.proofs.Runs.PlainRows.{shown, shown_of, same_is, told_row, passed}
 

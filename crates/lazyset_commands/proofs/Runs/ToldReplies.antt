@@ -1,17 +1,8 @@
 -- The replies of a session, as what was written tells them.
-use Rattle.std.proofs.Common.{◌≡◌, ℕ, List, [], ◌∷◌, ◌++◌, Option, Result, Ok, Err, refl, sym, ap, ◌∙◌, subst, append_assoc}
-use Rattle.std.proofs.lemmas.List.{append-nil}
-use Rattle.lz_proto.specs.declared.request.Request.{Request}
-use Rattle.lz_proto.specs.declared.request.Request.TheVariants.{Quit}
-use Rattle.lz_proto.specs.declared.reply.Reply.{Reply}
-use Rattle.lz_proto.specs.declared.reply.Reply.TheVariants.{Halted}
-use Rattle.lz_proto.specs.declared.item.Item.{Item}
-use Rattle.lz_proto.specs.declared.item.Item.TheVariants.{Asks, Faulty}
-use Rattle.lz_proto.specs.declared.fault.SessionFault.{SessionFault}
-use Rattle.lz_proto.specs.declared.fault.SessionFault.TheVariants.{Read, Write, Memory}
-use Rattle.lz_proto.specs.declared.end.End.{End}
-use Rattle.lz_proto.specs.Sessions.{Answered, CutOff, Serves, SessionTells}
-use Rattle.lz_proto.proofs.FirstItems.{FirstAsked, session_asked}
+use Rattle.std.proofs.{Common.{◌≡◌, ℕ, List, [], ◌∷◌, ◌++◌, Option, Result, Ok, Err, refl, sym, ap, ◌∙◌, subst, append_assoc}, lemmas.List.{append-nil}}
+use Rattle.lz_proto.specs.declared.{request.Request.{Request, TheVariants.{Quit}}, reply.Reply.{Reply, TheVariants.{Halted}}, item.Item.{Item}}
+use Rattle.lz_proto.specs.declared.{item.Item.TheVariants.{Asks, Faulty}, fault.SessionFault.{SessionFault, TheVariants.{Read, Write, Memory}}, end.End.{End}}
+use Rattle.lz_proto.{specs.Sessions.{Answered, CutOff, Serves, SessionTells}, proofs.FirstItems.{FirstAsked, session_asked}}
 use Rattle.lz_serve.proofs.Mapped.{mapped, serves}
 use Rattle.lazyset_commands.specs.Runs.{Collects}
 

@@ -1,33 +1,19 @@
 -- What a session of the one pass says of the set that is left, once the pass was handed back.
-use Rattle.std.proofs.Common.{◌≡◌, ◌≢◌, ℕ, List, [], ◌∷◌, ◌++◌, Option, Result, Ok, Err, refl, sym, ◌∙◌, subst}
-use Rattle.std.specs.Io.KnownBytes.{Appends}
-use Rattle.lz_slot.specs.Sets.{Keys}
-use Rattle.lz_slot.proofs.Files.HeldSets.{holds_same_set}
-use Rattle.lz_slot.specs.declared.format.Format.{Format}
-use Rattle.lz_disk.specs.Images.{Medium, IsImage}
-use Rattle.lz_proto.specs.declared.item.Item.{Item}
-use Rattle.lz_proto.specs.declared.fault.SessionFault.{SessionFault}
-use Rattle.lz_proto.specs.declared.fault.SessionFault.TheVariants.{Read, Write, Memory}
-use Rattle.lz_proto.specs.declared.end.End.{End}
 use Rattle.lz_proto.specs.declared.end.End.TheVariants as ends
-use Rattle.lz_proto.specs.Sessions.{Answered, CutOff, SessionTells, Whole, Writes, end_of}
-use Rattle.lz_proto.proofs.FirstItems.{FirstAsked}
-use Rattle.lz_board.specs.declared.pass.Pass.{Pass}
-use Rattle.lz_board.specs.declared.view.Note.{Note}
-use Rattle.lz_board.specs.declared.view.Part.{Part}
-use Rattle.lz_list.specs.declared.layout.Sizes.{Sizes}
-use Rattle.lz_board.specs.Seats.{BoardId, part}
-use Rattle.lz_tie.specs.Moments.{ExplainsBegun}
-use Rattle.lz_tie.specs.RunningSets.{members_of, Explains}
-use Rattle.lz_tie.specs.Sessions.{AnsweredCalls, Served, PlainRun, NoneCut, CutLast, IsSession, TellsAlone}
-use Rattle.lz_tie.proofs.Sessions.SessionEnd.{session_is_held, session_is_plain}
-use Rattle.lz_tie.proofs.Sessions.SessionMoments.{moments_are_plain}
-use Rattle.lazyset_commands.specs.PlainReplies.{PassMayAnswer}
-use Rattle.lazyset_offline.specs.Ends.{session_status}
-use Rattle.lazyset_commands.specs.Runs.{FoundAfter, RepliesOfPass}
 use Rattle.lazyset_offline.specs.declared.status.Status.TheVariants as status
-use Rattle.lazyset_commands.proofs.Runs.FoundSets.{found_of_more}
+use Rattle.std.{proofs.Common.{◌≡◌, ◌≢◌, ℕ, List, [], ◌∷◌, ◌++◌, Option, Result, Ok, Err, refl, sym, ◌∙◌, subst}, specs.Io.KnownBytes.{Appends}}
+use Rattle.lz_slot.{specs.{Sets.{Keys}, declared.format.Format.{Format}}, proofs.Files.HeldSets.{holds_same_set}}
+use Rattle.lz_disk.specs.Images.{Medium, IsImage}
+use Rattle.lz_proto.specs.declared.{item.Item.{Item}, fault.SessionFault.{SessionFault, TheVariants.{Read, Write, Memory}}, end.End.{End}}
+use Rattle.lz_proto.{specs.Sessions.{Answered, CutOff, SessionTells, Whole, Writes, end_of}, proofs.FirstItems.{FirstAsked}}
+use Rattle.lz_board.specs.{declared.{pass.Pass.{Pass}, view.{Note.{Note}, Part.{Part}}}, Seats.{BoardId, part}}
+use Rattle.lz_list.specs.declared.layout.Sizes.{Sizes}
+use Rattle.lz_tie.specs.{Moments.{ExplainsBegun}, RunningSets.{members_of, Explains}}
+use Rattle.lz_tie.specs.Sessions.{AnsweredCalls, Served, PlainRun, NoneCut, CutLast, IsSession, TellsAlone}
+use Rattle.lz_tie.proofs.Sessions.{SessionEnd.{session_is_held, session_is_plain}, SessionMoments.{moments_are_plain}}
+use Rattle.lazyset_commands.{specs.{PlainReplies.{PassMayAnswer}, Runs.{FoundAfter, RepliesOfPass}}, proofs.Runs.FoundSets.{found_of_more}}
 use Rattle.lazyset_commands.proofs.Runs.SessionCalls.{answers, made}
+use Rattle.lazyset_offline.specs.Ends.{session_status}
 
 -- calls were made, and then others
 served_then : (z : Sizes) (F : Format) (done more : AnsweredCalls) (old mid new : Part) → Served z F done old mid → Served z F more mid new → Served z F (done ++ more) old new

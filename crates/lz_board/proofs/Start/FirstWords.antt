@@ -1,22 +1,13 @@
 -- The words after an opening of members show these members, so a board of such words begins with just that trace.
-use Rattle.std.proofs.Common.{◌≡◌, ◌≢◌, inl, inr, ℕ, zero, suc, ◌+◌, ◌*◌, ◌^◌, ◌<◌, ◌≤◌, true, false, ◌||◌, List, [], ◌∷◌, ◌++◌, length, Option, Some, None, refl, sym, ap, ◌∙◌, subst, arith}
+use Rattle.std.proofs.Common.{◌≡◌, ◌≢◌, inl, inr, ℕ, zero, suc, ◌+◌, ◌*◌, ◌^◌, ◌<◌, ◌≤◌, true, false, ◌||◌, List, [], ◌∷◌, ◌++◌, length, Option, Some, None}
+use Rattle.std.proofs.{Common.{refl, sym, ap, ◌∙◌, subst, arith}, lemmas.{Bool.{cases_eq, lt-ltb, Decides.{nat_tests, eqb_tells}}, List.{length-replicate}}}
 use Rattle.std.specs.Prelude.{nat_lt}
 use mathlib.Core.Bool.{false≢true}
-use Rattle.std.proofs.lemmas.Bool.{cases_eq, lt-ltb}
-use Rattle.std.proofs.lemmas.Bool.Decides.{nat_tests, eqb_tells}
-use Rattle.std.proofs.lemmas.List.{length-replicate}
-use Rattle.lz_slot.specs.declared.slot.SlotRead.{SlotRead}
-use Rattle.lz_slot.specs.declared.slot.SlotRead.TheVariants.{Closed, Torn, Member, BadKey}
-use Rattle.lz_slot.specs.Bytes.{slot_at, held, held_key}
-use Rattle.lz_list.specs.declared.word.Word.TheVariants.{Head, Link, Key}
-use Rattle.lz_list.specs.Words.{Words, bit_of, link_with}
-use Rattle.lz_list.specs.Traces.{Trace, Chain, has_slot, on, place_before, bucket_of, chain_of, node_next, is_marked, has_added, has_removed, word_after, words_of_trace, opening, IsFound}
-use Rattle.lz_list.proofs.Chains.PlaceRank.{before_on}
-use Rattle.lz_list.proofs.Tables.WordTable.{table_at, length-table}
-use Rattle.lz_list.proofs.Chains.ChainNode.{has_slot_append, has_node_append, node_slot}
-use Rattle.lz_machine.specs.Yards.{Shape, first_trace}
-use Rattle.lz_slot.specs.Nodes.{has_node}
-use Rattle.lz_machine.proofs.Open.FirstNodes.{off_chains, node_key, none_marked, held_found}
+use Rattle.lz_slot.specs.{declared.slot.SlotRead.{SlotRead, TheVariants.{Closed, Torn, Member, BadKey}}, Bytes.{slot_at, held, held_key}, Nodes.{has_node}}
+use Rattle.lz_list.specs.{declared.word.Word.TheVariants.{Head, Link, Key}, Words.{Words, bit_of, link_with}, Traces.{Trace, Chain, has_slot, on, place_before}}
+use Rattle.lz_list.specs.Traces.{bucket_of, chain_of, node_next, is_marked, has_added, has_removed, word_after, words_of_trace, opening, IsFound}
+use Rattle.lz_list.proofs.{Chains.{PlaceRank.{before_on}, ChainNode.{has_slot_append, has_node_append, node_slot}}, Tables.WordTable.{table_at, length-table}}
+use Rattle.lz_machine.{specs.Yards.{Shape, first_trace}, proofs.Open.FirstNodes.{off_chains, node_key, none_marked, held_found}}
 use Rattle.lz_board.specs.Opened.{node_if, shown_in, opened_by, AreOpened}
 
 -- the members by slots, the lowest first

@@ -1,26 +1,15 @@
 -- The moves, as the calls ask for them.
-use Rattle.std.proofs.Common.{◌≡◌, ℕ, suc, ◌≤◌, ◌==◌, false, List, [], ◌∷◌, sym, subst, arith}
-use Rattle.std.specs.Prelude.{slice_index}
+use Rattle.std.{proofs.Common.{◌≡◌, ℕ, suc, ◌≤◌, ◌==◌, false, List, [], ◌∷◌, sym, subst, arith}, specs.Prelude.{slice_index}}
 use mathlib.Core.Option.{none, some}
 use prog.Atomic.{either}
 use Rattle.atomic_table.specs.Table.{Me, carried_after, step, Allows}
-use Rattle.lz_list.specs.declared.word.Word.{Word}
-use Rattle.lz_list.specs.declared.word.Word.TheVariants.{Pin as PinOf}
-use Rattle.lz_list.specs.Traces.{Trace, word_after}
+use Rattle.lz_list.specs.{declared.{word.Word.{Word, TheVariants.{Pin as PinOf}}, layout.Sizes.{Sizes}}, Traces.{Trace, word_after}, Addresses.{index}}
+use Rattle.lz_list.proofs.Tables.Address.{decode}
 use Rattle.lz_machine.specs.Table.{last_pin}
-use Rattle.lz_list.specs.declared.layout.Sizes.{Sizes}
-use Rattle.lz_board.specs.declared.view.Note.{Note}
-use Rattle.lz_board.specs.declared.view.Part.{Part}
-use Rattle.lz_board.specs.declared.view.View.{View}
-use Rattle.lz_board.specs.Notes.{IsShared, trace_of}
-use Rattle.lz_list.specs.Addresses.{index}
-use Rattle.lz_board.specs.Kept.{is_calling, IsPart, Keeps, PinTold}
+use Rattle.lz_board.specs.{declared.view.{Note.{Note}, Part.{Part}, View.{View}}, Notes.{IsShared, trace_of}, Kept.{is_calling, IsPart, Keeps, PinTold}}
 use Rattle.lz_board.specs.Noting.{MayNote, KeepsPin, MovesPin, Writes}
 use Rattle.lz_board.specs.Plays.{Looked, Loaded, Entered, Saw, Noted, Moved, alone, pen_view, found_view, pass_at, Finds}
-use Rattle.lz_list.proofs.Tables.Address.{decode}
-use Rattle.lz_board.proofs.Upkeep.SharedWords.{shared_placed}
-use Rattle.lz_board.proofs.Upkeep.LoadStep.{looks, loads, saws}
-use Rattle.lz_board.proofs.Upkeep.StoreStep.{notes_in, moves_in, enters_in}
+use Rattle.lz_board.proofs.Upkeep.{SharedWords.{shared_placed}, LoadStep.{looks, loads, saws}, StoreStep.{notes_in, moves_in, enters_in}}
 
 module _ (z : Sizes) (opened : Trace) (slots id : ℕ) where
   pub looks_at : (i : ℕ) (w : Word) (me : Me Note View) → i ≡ index z w → IsShared z w → Allows (Keeps z opened) slots id me i (λ n. n) (Looked (step slots i 0 0 none) me)

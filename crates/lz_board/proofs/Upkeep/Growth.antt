@@ -1,22 +1,13 @@
 -- What the rule says of a pass's part stays so when another pass's step is noted, and comes again when its own is.
-use Rattle.std.proofs.Common.{◌≡◌, ◌⊎◌, inl, inr, ⊎_elim, ℕ, suc, ◌%◌, ◌≤◌, ◌==◌, Bool, true, false, List, [], ◌∷◌, ◌++◌, length, refl, sym, ap, ◌∙◌, subst, arith, append_assoc, length-append, true≢false}
-use Rattle.std.specs.Prelude.{if◌then◌else◌, Option, Some, None}
-use Rattle.lz_list.specs.declared.publishing.Publishing.{Publishing}
-use Rattle.lz_list.specs.declared.publishing.Publishing.TheVariants.{Linked as linked, Marked as marked, Unlinked as unlinked, Settled as settled, KeyPrepared as key_prepared, LinkPrepared as link_prepared, Halted as halted}
-use Rattle.lz_list.specs.Traces.{Trace, Begins}
-use Rattle.lz_list.specs.Pinned.{Stood, IsQuiet}
-use Rattle.lz_list.proofs.Traces.Hindsight.{once_from}
-use Rattle.lz_machine.specs.Limbo.{IsAway}
-use Rattle.lz_machine.proofs.Steps.Walk.{once_some}
-use Rattle.lz_list.specs.declared.layout.Sizes.{Sizes}
-use Rattle.lz_board.specs.declared.view.Note.{Note}
-use Rattle.lz_board.specs.declared.view.Load.{Load}
-use Rattle.lz_board.specs.declared.view.Part.{Part}
+use Rattle.std.proofs.Common.{◌≡◌, ◌⊎◌, inl, inr, ⊎_elim, ℕ, suc, ◌%◌, ◌≤◌, ◌==◌, Bool, true, false, List, [], ◌∷◌, ◌++◌, length, refl, sym, ap, ◌∙◌, subst}
+use Rattle.std.{proofs.Common.{arith, append_assoc, length-append, true≢false}, specs.Prelude.{if◌then◌else◌, Option, Some, None}}
+use Rattle.lz_list.specs.declared.publishing.Publishing.{Publishing, TheVariants.{Linked as linked, Marked as marked, Unlinked as unlinked, Settled as settled}}
+use Rattle.lz_list.specs.declared.publishing.Publishing.TheVariants.{KeyPrepared as key_prepared, LinkPrepared as link_prepared, Halted as halted}
+use Rattle.lz_list.{specs.{declared.layout.Sizes.{Sizes}, Traces.{Trace, Begins}, Pinned.{Stood, IsQuiet}}, proofs.Traces.Hindsight.{once_from}}
+use Rattle.lz_machine.{specs.{Limbo.{IsAway}, Yards.{IsInside}}, proofs.Steps.Walk.{once_some}}
+use Rattle.lz_board.specs.declared.view.{Note.{Note}, Load.{Load}, Part.{Part}}
 use Rattle.lz_board.specs.Notes.{as_list, trace_of, own, is_for, Extends, Since, load_note, insert_load, splice, AllShown, pin_after, pin_after_what}
-use Rattle.lz_machine.specs.Yards.{IsInside}
-use Rattle.lz_board.specs.Kept.{shows, FoundSince, Knows}
-use Rattle.lz_board.specs.Noting.{HasLeft, AllLeft, MayPrepare}
-use Rattle.lz_board.proofs.Upkeep.Splice.{at_place, trace_insert, pin_insert}
+use Rattle.lz_board.{specs.{Kept.{shows, FoundSince, Knows}, Noting.{HasLeft, AllLeft, MayPrepare}}, proofs.Upkeep.Splice.{at_place, trace_insert, pin_insert}}
 
 pub extends_more : (a P Q : Trace) → Extends Q P → Extends (a ++ Q) P
 extends_more a P Q (more, e) = (a ++ more, ap (λ l. a ++ l) e ∙ sym (append_assoc a more P))

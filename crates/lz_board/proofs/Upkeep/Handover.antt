@@ -2,16 +2,11 @@
 use Rattle.std.proofs.Common.{◌≡◌, ◌≢◌, ⊎_elim, ℕ, suc, Bool, List, ◌∷◌, length, set, refl, sym, ap, ◌∙◌, subst, length-set, true≢false}
 use mathlib.Core.Option.{some, some-ne-none}
 use lib.ListN.{get_elem?}
-use Rattle.atomic_table.specs.Table.{Splits, Joins}
-use Rattle.atomic_table.proofs.Lists.{set_else}
-use Rattle.lz_list.specs.Traces.{Trace}
-use Rattle.lz_list.specs.declared.layout.Sizes.{Sizes}
-use Rattle.lz_board.specs.declared.view.Note.{Note}
-use Rattle.lz_board.specs.declared.view.Part.{Part}
-use Rattle.lz_board.specs.declared.view.View.{View}
-use Rattle.lz_board.specs.Kept.{PartFits, ViewFits, Keeps}
-use Rattle.lz_board.specs.Plays.{alone, nobody, together, kept_back, handed}
-use Rattle.lz_board.proofs.Upkeep.SeatTable.{replaced, one_part, at_end, moved, moved_same, moved_other, part_of_both, apart_both, given, given_moved, given_kept}
+use Rattle.atomic_table.{specs.Table.{Splits, Joins}, proofs.Lists.{set_else}}
+use Rattle.lz_list.specs.{Traces.{Trace}, declared.layout.Sizes.{Sizes}}
+use Rattle.lz_board.specs.{declared.view.{Note.{Note}, Part.{Part}, View.{View}}, Kept.{PartFits, ViewFits, Keeps}}
+use Rattle.lz_board.{specs.Plays.{alone, nobody, together, kept_back, handed}, proofs.Upkeep.SeatTable.{replaced, one_part, at_end, moved, moved_same}}
+use Rattle.lz_board.proofs.Upkeep.SeatTable.{moved_other, part_of_both, apart_both, given, given_moved, given_kept}
 
 module _ (z : Sizes) (opened : Trace) where
   owned_by : (ns : List Note) (owner owner' : ℕ → ℕ) (words : List ℕ) (i i' : ℕ) (h : Part) → owner' h.number ≡ i' → PartFits z opened ns owner words i h → PartFits z opened ns owner' words i' h

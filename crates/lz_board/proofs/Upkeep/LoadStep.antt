@@ -1,28 +1,16 @@
 -- Each load on the board keeps the rule.
+use Rattle.lz_board.specs.Plays as plays
 use Rattle.std.proofs.Common.{◌≡◌, ◌≢◌, ⊎_elim, ℕ, ◌≤◌, true, List, ◌∷◌, set, refl, sym, ap, ◌∙◌, subst, arith, eq-eqb, ne_eqb, le_refl}
-use Rattle.std.specs.Prelude.{slice_index, if◌then◌else◌}
-use Rattle.std.proofs.lemmas.Bool.{cases_eq}
+use Rattle.std.{proofs.lemmas.{Bool.{cases_eq}, List.{set-get_or}}, specs.Prelude.{slice_index, if◌then◌else◌}}
 use mathlib.Core.Option.{none, some}
 use lib.ListN.{get_elem?}
-use Rattle.std.proofs.lemmas.List.{set-get_or}
 use Rattle.atomic_table.specs.Table.{State, Me, step, keeps, Allows}
-use Rattle.lz_list.specs.declared.word.Word.{Word}
-use Rattle.lz_list.specs.declared.word.Word.TheVariants.{Pin as PinOf}
-use Rattle.lz_list.specs.Traces.{Trace, Lawful, word_after}
-use Rattle.lz_list.specs.declared.layout.Sizes.{Sizes}
-use Rattle.lz_board.specs.declared.view.Note.{Note}
-use Rattle.lz_board.specs.declared.view.Part.{Part}
-use Rattle.lz_board.specs.declared.view.View.{View}
-use Rattle.lz_board.specs.Notes.{trace_of, steps_of, IsShared, pin_after}
-use Rattle.lz_list.specs.Addresses.{index, word_at}
+use Rattle.lz_list.specs.{declared.{word.Word.{Word, TheVariants.{Pin as PinOf}}, layout.Sizes.{Sizes}}, Traces.{Trace, Lawful, word_after}}
+use Rattle.lz_list.{specs.Addresses.{index, word_at}, proofs.Tables.Address.{decode}}
+use Rattle.lz_board.specs.{declared.view.{Note.{Note}, Part.{Part}, View.{View}}, Notes.{trace_of, steps_of, IsShared, pin_after}}
 use Rattle.lz_board.specs.Kept.{is_calling, Knows, PartFits, IsPart, ViewFits, PinTold, Keeps}
-use Rattle.lz_board.specs.Plays as plays
-use Rattle.lz_board.specs.Plays.{pen_view, with_parts, knowing, loading, found_note, found_view, IsShownTo}
-use Rattle.lz_list.proofs.Tables.Address.{decode}
-use Rattle.lz_board.proofs.Upkeep.SharedWords.{shared_placed}
-use Rattle.lz_board.proofs.Upkeep.Splice.{other_step}
-use Rattle.lz_board.proofs.Upkeep.PartUpkeep.{knows_knowing, knows_loading, knows_found}
-use Rattle.lz_board.proofs.Upkeep.SeatTable.{replaced, from_map, apart_map}
+use Rattle.lz_board.{specs.Plays.{pen_view, with_parts, knowing, loading, found_note, found_view, IsShownTo}, proofs.Upkeep.SharedWords.{shared_placed}}
+use Rattle.lz_board.proofs.Upkeep.{Splice.{other_step}, PartUpkeep.{knows_knowing, knows_loading, knows_found}, SeatTable.{replaced, from_map, apart_map}}
 
 module _ (z : Sizes) (opened : Trace) where
   -- what a pass is shown, of the trace as it is

@@ -1,25 +1,16 @@
 -- A pass's part through each step on the board.
-use Rattle.std.proofs.Common.{◌≡◌, ◌≢◌, ◌⊎◌, inl, ⊎_elim, ℕ, ◌≤◌, ◌==◌, true, false, List, [], ◌∷◌, ◌++◌, map, length, refl, sym, ap, ◌∙◌, subst, arith, length-append, eq-eqb, ne_eqb, true≢false, le_refl}
+use Rattle.std.proofs.Common.{◌≡◌, ◌≢◌, ◌⊎◌, inl, ⊎_elim, ℕ, ◌≤◌, ◌==◌, true, false, List, [], ◌∷◌, ◌++◌, map, length, refl, sym, ap, ◌∙◌, subst, arith}
+use Rattle.std.{proofs.{Common.{length-append, eq-eqb, ne_eqb, true≢false, le_refl}, lemmas.Bool.{cases_eq}}, specs.Prelude.{if◌then◌else◌}}
 use mathlib.Core.Bool.{false≢true}
-use Rattle.std.specs.Prelude.{if◌then◌else◌}
-use Rattle.std.proofs.lemmas.Bool.{cases_eq}
-use Rattle.lz_list.specs.Traces.{Trace, word_after}
-use Rattle.lz_list.specs.Pinned.{IsQuiet}
-use Rattle.lz_machine.specs.Table.{last_pin}
-use Rattle.lz_machine.proofs.Steps.Pin.{quiet_new}
-use Rattle.lz_list.specs.declared.layout.Sizes.{Sizes}
-use Rattle.lz_board.specs.declared.view.What.{What}
-use Rattle.lz_board.specs.declared.view.What.TheVariants.{Called, Played, Found}
-use Rattle.lz_board.specs.declared.view.Note.{Note}
-use Rattle.lz_board.specs.declared.view.Load.{Load}
-use Rattle.lz_board.specs.declared.view.Part.{Part}
-use Rattle.lz_board.specs.Notes.{as_list, trace_of, steps_of, Extends, Since, load_note, splice, Quiet, InOrder, IsShared, AllShown, pin_after_played, pin_after, pin_after_what, turned_at}
-use Rattle.lz_list.specs.Addresses.{word_at}
-use Rattle.lz_board.specs.Kept.{is_calling, shows_played, shows, Knows, PinTold}
-use Rattle.lz_board.specs.Noting.{IsStep, MayNote, KeepsPin, MovesPin}
-use Rattle.lz_board.specs.Plays.{noted, noted_part, moved_part, knowing, loading, entering, found_note}
-use Rattle.lz_board.proofs.Upkeep.Splice.{trace_splice, own_step, other_step, steps_splice, steps_splice_other, quiet_more, quiet_splice, quiet_splice_other, pin_splice, turned_splice}
-use Rattle.lz_board.proofs.Upkeep.Growth.{extends_more, extends_refl, extends_trans, extends_length, since_more, shown_more, found_splice, found_all, found_same, quiet_more_by}
+use Rattle.lz_list.specs.{Traces.{Trace, word_after}, Pinned.{IsQuiet}, declared.layout.Sizes.{Sizes}, Addresses.{word_at}}
+use Rattle.lz_machine.{specs.Table.{last_pin}, proofs.Steps.Pin.{quiet_new}}
+use Rattle.lz_board.specs.{declared.view.{What.{What, TheVariants.{Called, Played, Found}}, Note.{Note}, Load.{Load}, Part.{Part}}, Notes.{as_list, trace_of}}
+use Rattle.lz_board.specs.Notes.{steps_of, Extends, Since, load_note, splice, Quiet, InOrder, IsShared, AllShown, pin_after_played, pin_after, pin_after_what}
+use Rattle.lz_board.specs.{Notes.{turned_at}, Kept.{is_calling, shows_played, shows, Knows, PinTold}, Noting.{IsStep, MayNote, KeepsPin, MovesPin}}
+use Rattle.lz_board.{specs.Plays.{noted, noted_part, moved_part, knowing, loading, entering, found_note}, proofs.Upkeep.Splice.{trace_splice, own_step}}
+use Rattle.lz_board.proofs.Upkeep.Splice.{other_step, steps_splice, steps_splice_other, quiet_more, quiet_splice, quiet_splice_other, pin_splice, turned_splice}
+use Rattle.lz_board.proofs.Upkeep.Growth.{extends_more, extends_refl, extends_trans, extends_length, since_more, shown_more, found_splice, found_all}
+use Rattle.lz_board.proofs.Upkeep.Growth.{found_same, quiet_more_by}
 
 -- a step of another pass shows no pin word of this one and leaves it
 pin_other : (q p : ℕ) (what : What) (pin : ℕ) → IsStep what → p ≢ q → pin_after_what q p what pin ≡ pin

@@ -1,20 +1,11 @@
 -- What the rule says between any two steps: of the words, of what passes have seen, and of slots that are prepared again.
 use Rattle.std.proofs.Common.{◌≡◌, inr, ℕ, suc, ◌∷◌, true, sym, subst}
 use Rattle.atomic_table.specs.Table.{State}
-use Rattle.lz_list.specs.declared.publishing.Publishing.{Publishing}
-use Rattle.lz_list.specs.declared.publishing.Publishing.TheVariants.{Linked as linked, Marked as marked, Unlinked as unlinked, Settled as settled, KeyPrepared as key_prepared, LinkPrepared as link_prepared, Halted as halted}
-use Rattle.lz_list.specs.Traces.{Trace, Lawful, on, chain, bucket_of}
-use Rattle.lz_list.specs.Pinned.{Stood, IsKept, IsQuiet}
-use Rattle.lz_list.proofs.Traces.Absence.{begins_itself}
-use Rattle.lz_list.proofs.Traces.Hindsight.{once_from, lawful_begins, quiet_begins}
-use Rattle.lz_list.proofs.Traces.WalkEnd.{begins_before}
-use Rattle.lz_board.specs.declared.view.Note.{Note}
-use Rattle.lz_board.specs.declared.view.Part.{Part}
-use Rattle.lz_board.specs.declared.view.View.{View}
-use Rattle.lz_board.specs.declared.view.Opening.{Opening}
-use Rattle.lz_board.specs.Kept.{PartFits}
-use Rattle.lz_board.specs.Opened.{opened_by}
-use Rattle.lz_board.specs.Handles.{holds_of}
+use Rattle.lz_list.specs.declared.publishing.Publishing.{Publishing, TheVariants.{Linked as linked, Marked as marked, Unlinked as unlinked, Settled as settled}}
+use Rattle.lz_list.specs.declared.publishing.Publishing.TheVariants.{KeyPrepared as key_prepared, LinkPrepared as link_prepared, Halted as halted}
+use Rattle.lz_list.{specs.{Traces.{Trace, Lawful, on, chain, bucket_of}, Pinned.{Stood, IsKept, IsQuiet}}, proofs.Traces.Absence.{begins_itself}}
+use Rattle.lz_list.proofs.Traces.{Hindsight.{once_from, lawful_begins, quiet_begins}, WalkEnd.{begins_before}}
+use Rattle.lz_board.specs.{declared.view.{Note.{Note}, Part.{Part}, View.{View}, Opening.{Opening}}, Kept.{PartFits}, Opened.{opened_by}, Handles.{holds_of}}
 use Rattle.lz_board.specs.Laws.{IsPass, IsPublished, Prepares, LeavesFirst, WordsFollowTheTrace, PassesSeeBeginnings, SlotsAreLeftFirst}
 use Rattle.lz_board.proofs.Upkeep.Growth.{begins_of}
 

@@ -1,8 +1,5 @@
 -- A word that all passes share has a place on the board.
-use Rattle.lz_list.specs.declared.word.Word.{Word}
-use Rattle.lz_list.specs.declared.word.Word.TheVariants.{Head, Link, Key, Pin, Halt}
-use Rattle.lz_list.specs.declared.layout.Sizes.{Sizes}
-use Rattle.lz_list.specs.Addresses.{HasPlace}
+use Rattle.lz_list.specs.{declared.{word.Word.{Word, TheVariants.{Head, Link, Key, Pin, Halt}}, layout.Sizes.{Sizes}}, Addresses.{HasPlace}}
 use Rattle.lz_board.specs.Notes.{IsShared}
 
 pub shared_placed : (z : Sizes) (w : Word) → IsShared z w → HasPlace z w

@@ -1,30 +1,21 @@
 -- Each store on the board keeps the rule: by the pen, with a note, or by a pass, of its own pin word.
-use Rattle.std.proofs.Common.{◌≡◌, ◌≢◌, ⊎_elim, ℕ, suc, ◌<◌, ◌≤◌, ◌==◌, false, List, [], ◌∷◌, ◌++◌, length, set, refl, sym, ap, ◌∙◌, subst, arith, length-set, get_or-set_other, get_or-set_same, eq-eqb, true≢false}
-use Rattle.std.specs.Prelude.{slice_index}
-use Rattle.std.proofs.lemmas.Bool.{cases_eq}
+use Rattle.lz_board.specs.Plays as plays
+use Rattle.std.proofs.Common.{◌≡◌, ◌≢◌, ⊎_elim, ℕ, suc, ◌<◌, ◌≤◌, ◌==◌, false, List, [], ◌∷◌, ◌++◌, length, set, refl, sym, ap, ◌∙◌, subst, arith, length-set}
+use Rattle.std.{proofs.{Common.{get_or-set_other, get_or-set_same, eq-eqb, true≢false}, lemmas.Bool.{cases_eq}}, specs.Prelude.{slice_index}}
 use mathlib.Core.Option.{none, some, some-ne-none}
 use prog.Atomic.{either}
 use lib.ListN.{get_elem?}
 use Rattle.atomic_table.specs.Table.{step, keeps, Allows}
-use Rattle.lz_list.specs.declared.word.Word.{Word}
-use Rattle.lz_list.specs.declared.word.Word.TheVariants.{Head, Link, Key, Pin as PinOf, Halt}
-use Rattle.lz_list.specs.Traces.{Trace, Lawful, word_after}
-use Rattle.lz_machine.specs.Table.{last_pin}
-use Rattle.lz_list.specs.declared.layout.Sizes.{Sizes}
-use Rattle.lz_board.specs.declared.view.Note.{Note}
-use Rattle.lz_board.specs.declared.view.Part.{Part}
-use Rattle.lz_board.specs.declared.view.View.{View}
-use Rattle.lz_board.specs.Notes.{as_list, trace_of, IsShared}
-use Rattle.lz_list.specs.Addresses.{index, word_at, words_count, HasPlace}
-use Rattle.lz_board.specs.Kept.{is_calling, Knows, PartFits, ViewFits, PinTold, Keeps}
-use Rattle.lz_board.specs.Noting.{MayNote, KeepsPin, MovesPin, Writes}
-use Rattle.lz_board.specs.Plays as plays
-use Rattle.lz_board.specs.Plays.{alone, pen_view, with_parts, entering, noted, noted_part, moved_part, noted_view, IsShownTo}
+use Rattle.lz_list.specs.declared.{word.Word.{Word, TheVariants.{Head, Link, Key, Pin as PinOf, Halt}}, layout.Sizes.{Sizes}}
+use Rattle.lz_list.specs.{Traces.{Trace, Lawful, word_after}, Addresses.{index, word_at, words_count, HasPlace}}
 use Rattle.lz_list.proofs.Tables.Address.{in_range, decode, places_apart}
+use Rattle.lz_machine.specs.Table.{last_pin}
+use Rattle.lz_board.specs.{declared.view.{Note.{Note}, Part.{Part}, View.{View}}, Notes.{as_list, trace_of, IsShared}}
+use Rattle.lz_board.specs.{Kept.{is_calling, Knows, PartFits, ViewFits, PinTold, Keeps}, Noting.{MayNote, KeepsPin, MovesPin, Writes}}
+use Rattle.lz_board.specs.Plays.{alone, pen_view, with_parts, entering, noted, noted_part, moved_part, noted_view, IsShownTo}
 use Rattle.lz_board.proofs.Upkeep.SharedWords.{shared_placed}
 use Rattle.lz_board.proofs.Upkeep.PartUpkeep.{knows_entering, knows_noted, knows_moved, knows_other, trace_noted, told_own, told_other}
-use Rattle.lz_board.proofs.Upkeep.SeatTable.{replaced, one_part}
-use Rattle.lz_board.proofs.Upkeep.LoadStep.{shown_to}
+use Rattle.lz_board.proofs.Upkeep.{SeatTable.{replaced, one_part}, LoadStep.{shown_to}}
 
 module _ (z : Sizes) (opened : Trace) where
   -- the pen notes a step, and changes a word with it that is no pin word

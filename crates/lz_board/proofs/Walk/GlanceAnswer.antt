@@ -1,31 +1,17 @@
 -- What the end of a walk tells to a glance.
-use Rattle.std.proofs.Common.{◌≡◌, ◌≢◌, ◌⊎◌, inl, inr, ⊎_elim, ℕ, Bool, true, false, Option, [], ◌∷◌, ◌++◌, Result, Ok, Err, IfOk, IfErr, refl, sym, ap, ◌∙◌, subst, arith}
-use Rattle.lz_list.specs.declared.flags.Flags.{Flags}
-use Rattle.lz_list.specs.declared.place.Place.{Place}
-use Rattle.lz_list.specs.declared.walk.Met.{Met}
-use Rattle.lz_list.specs.declared.walk.Met.TheVariants.{Absent, Unmarked, Marked}
-use Rattle.lz_list.specs.declared.publishing.Publishing.TheVariants.{Halted as halted}
-use Rattle.lz_list.specs.Words.{link_to, place_number}
-use Rattle.lz_list.specs.Traces.{Trace, Begins, Lawful, is_marked, halt_word, IsNode, SettledNo}
-use Rattle.lz_list.specs.Pinned.{Once, IsQuiet}
-use Rattle.lz_list.proofs.Traces.Absence.{begins_itself}
-use Rattle.lz_list.proofs.Traces.Hindsight.{once_begins, absent_since}
+use Rattle.std.proofs.Common.{◌≡◌, ◌≢◌, ◌⊎◌, inl, inr, ⊎_elim, ℕ, Bool, true, false, Option, [], ◌∷◌, ◌++◌, Result, Ok, Err, IfOk, IfErr, refl, sym, ap, ◌∙◌}
+use Rattle.std.proofs.Common.{subst, arith}
+use Rattle.lz_list.specs.declared.{flags.Flags.{Flags}, place.Place.{Place}, walk.Met.{Met, TheVariants.{Absent, Unmarked, Marked}}}
+use Rattle.lz_list.specs.{declared.publishing.Publishing.TheVariants.{Halted as halted}, Words.{link_to, place_number}}
+use Rattle.lz_list.specs.{Traces.{Trace, Begins, Lawful, is_marked, halt_word, IsNode, SettledNo}, Pinned.{Once, IsQuiet}}
+use Rattle.lz_list.proofs.Traces.{Absence.{begins_itself}, Hindsight.{once_begins, absent_since}}
 use Rattle.lz_list.proofs.Traces.WalkEnd.{begins_before, marked_was_sure, unsure_node, unmarked_surely}
-use Rattle.lz_flush.specs.declared.need.Need.{Need}
-use Rattle.lz_flush.specs.declared.need.Need.TheVariants.{Now, Sync as asks_sync}
-use Rattle.lz_flush.specs.Settling.{may_answer}
-use Rattle.lz_machine.proofs.Steps.Walk.{once_some}
-use Rattle.lz_machine.proofs.Frames.Publishing.{halt_stays}
-use Rattle.lz_board.specs.declared.view.Part.{Part}
-use Rattle.lz_board.specs.declared.answer.Glance.{Glance}
-use Rattle.lz_board.specs.declared.answer.Glance.TheVariants.{Yes, No, Unsettled}
-use Rattle.lz_board.specs.declared.answer.GlanceFault.{GlanceFault}
-use Rattle.lz_board.specs.declared.answer.GlanceFault.TheVariants.{Halted, Worn, BusyPass}
-use Rattle.lz_board.specs.Notes.{Extends, Since}
-use Rattle.lz_board.specs.Glances.{Changes, Between, Glanced, GlancedUnsettled, Glances, IsUnhalted}
-use Rattle.lz_board.specs.Walkers.{MetNode, Ended, sure_or, glance_of, IsGlance}
-use Rattle.lz_board.proofs.Upkeep.Growth.{begins_of}
-use Rattle.lz_board.proofs.Walk.WalkerLemma.{since_trans}
+use Rattle.lz_flush.specs.{declared.need.Need.{Need, TheVariants.{Now, Sync as asks_sync}}, Settling.{may_answer}}
+use Rattle.lz_machine.proofs.{Steps.Walk.{once_some}, Frames.Publishing.{halt_stays}}
+use Rattle.lz_board.specs.declared.{view.Part.{Part}, answer.{Glance.{Glance, TheVariants.{Yes, No, Unsettled}}, GlanceFault.{GlanceFault}}}
+use Rattle.lz_board.specs.{declared.answer.GlanceFault.TheVariants.{Halted, Worn, BusyPass}, Notes.{Extends, Since}}
+use Rattle.lz_board.specs.{Glances.{Changes, Between, Glanced, GlancedUnsettled, Glances, IsUnhalted}, Walkers.{MetNode, Ended, sure_or, glance_of, IsGlance}}
+use Rattle.lz_board.proofs.{Upkeep.Growth.{begins_of}, Walk.WalkerLemma.{since_trans}}
 
 module _ (buckets slots : ℕ) (P0 P : Trace) (law : Lawful buckets slots P) (quiet : IsQuiet buckets P0 P) (k : ℕ) where
   absent_told : Once P0 P (λ R. SettledNo R R k) → Glanced k P0 P false

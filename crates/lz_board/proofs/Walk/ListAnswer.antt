@@ -1,18 +1,10 @@
 -- What the look at the slots of a page tells to a list.
 use Rattle.std.proofs.Common.{◌≡◌, ℕ, suc, Option, List, Result, Ok, Err, IfOk, IfErr, arith}
 use Rattle.lz_list.specs.Traces.{Trace, Begins, halt_word}
-use Rattle.lz_board.specs.declared.answer.GlanceFault.TheVariants.{Halted, Worn, BusyPass}
-use Rattle.lz_board.specs.declared.page.Page.{Page}
-use Rattle.lz_board.specs.declared.page.ListFault.{ListFault}
-use Rattle.lz_board.specs.declared.page.ListFault.TheVariants.{Memory, Glance}
-use Rattle.lz_board.specs.declared.view.Part.{Part}
-use Rattle.lz_board.specs.Notes.{Since}
-use Rattle.lz_board.specs.Glances.{IsUnhalted}
-use Rattle.lz_board.specs.Listings.{reached, IsPage, WentInside, Lists}
-use Rattle.lz_board.proofs.Upkeep.Growth.{begins_of}
-use Rattle.lz_board.proofs.Walk.WalkerLemma.{since_trans}
-use Rattle.lz_board.proofs.Walk.GlanceAnswer.{halt_since, no_changes, unhalted_before}
-use Rattle.lz_board.proofs.Walk.ListedMore.{listed_longer}
+use Rattle.lz_board.specs.declared.{answer.GlanceFault.TheVariants.{Halted, Worn, BusyPass}, page.{Page.{Page}, ListFault.{ListFault}}}
+use Rattle.lz_board.specs.{declared.{page.ListFault.TheVariants.{Memory, Glance}, view.Part.{Part}}, Notes.{Since}, Glances.{IsUnhalted}}
+use Rattle.lz_board.{specs.Listings.{reached, IsPage, WentInside, Lists}, proofs.{Upkeep.Growth.{begins_of}, Walk.WalkerLemma.{since_trans}}}
+use Rattle.lz_board.proofs.Walk.{GlanceAnswer.{halt_since, no_changes, unhalted_before}, ListedMore.{listed_longer}}
 
 -- a page stays one for who had seen less before and has seen more after
 page_longer : (slots from most : ℕ) (told : List ℕ) (next : Option ℕ) (A P Q B : Trace) → Begins A P → Begins Q B → IsPage slots from most told next P Q → IsPage slots from most told next A B

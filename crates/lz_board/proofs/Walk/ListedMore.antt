@@ -1,13 +1,9 @@
 -- A listing goes on by one slot, and stays one for who had seen less before and has seen more after.
 use Rattle.std.proofs.Common.{◌≡◌, ◌⊎◌, inl, inr, ℕ, zero, suc, ◌+◌, ◌≤◌, true, Some, None, List, [], ◌∷◌, ◌++◌, All, sym, subst, arith}
-use Rattle.std.proofs.lemmas.Bool.{cases_eq}
-use Rattle.std.proofs.lemmas.List.Elements.{All-append, Contains-append_left, Contains-append_right}
+use Rattle.std.proofs.lemmas.{Bool.{cases_eq}, List.Elements.{All-append, Contains-append_left, Contains-append_right}}
 use Rattle.lz_slot.specs.Limits.{largest_key}
-use Rattle.lz_list.specs.Traces.{Trace, Begins}
-use Rattle.lz_list.proofs.Traces.Absence.{begins_itself}
-use Rattle.lz_board.specs.Glances.{Glanced}
-use Rattle.lz_board.specs.Listings.{WasAway, Listed}
-use Rattle.lz_board.proofs.Walk.GlanceAnswer.{between_longer}
+use Rattle.lz_list.{specs.Traces.{Trace, Begins}, proofs.Traces.Absence.{begins_itself}}
+use Rattle.lz_board.{specs.{Glances.{Glanced}, Listings.{WasAway, Listed}}, proofs.Walk.GlanceAnswer.{between_longer}}
 
 module _ (A P Q B : Trace) (before : Begins A P) (after : Begins Q B) where
   pub glanced_longer : (k : ℕ) → Glanced k P Q true → Glanced k A B true

@@ -1,33 +1,18 @@
 -- A key that is settled as a member by its node in a slot: what that slot's words say, and what a glance says.
 use Rattle.std.proofs.Common.{◌≡◌, ◌≢◌, ◌⊎◌, inl, inr, ℕ, zero, suc, ◌<◌, ◌≤◌, ◌^◌, Bool, true, false, not, Some, IfSome, refl, sym, ap, ◌∙◌, subst, arith}
-use mathlib.Core.Bool.{false≢true}
 use Rattle.std.proofs.lemmas.Bool.{cases_eq}
+use mathlib.Core.Bool.{false≢true}
 use Rattle.lz_slot.specs.Limits.{most_slots}
-use Rattle.lz_list.specs.declared.word.Word.TheVariants.{Link}
-use Rattle.lz_list.specs.Words.{flags_of}
-use Rattle.lz_list.specs.Traces.{Trace, Begins, has_key, on, bucket_of, chain_of, key_word, next_link, node_next, is_marked, has_added, flags_after, word_after, Lawful, IsNode}
-use Rattle.lz_list.proofs.Tables.PackedLink.{mark_of_link, added_of_link}
-use Rattle.lz_list.proofs.Chains.PlaceRank.{adjacent, adjacent_next}
-use Rattle.lz_list.proofs.Traces.Absence.{begins_itself}
-use Rattle.lz_machine.proofs.Frames.Ranges.{on_range}
-use Rattle.lz_list.specs.declared.layout.Sizes.{Sizes}
-use Rattle.lz_board.specs.declared.view.Part.{Part}
-use Rattle.lz_board.specs.declared.answer.Glance.{Glance}
-use Rattle.lz_board.specs.declared.answer.Glance.TheVariants.{Yes, No, Unsettled}
-use Rattle.lz_board.specs.Plays.{IsShownTo, knowing}
-use Rattle.lz_board.proofs.Walk.WalkerLemma.{shown_on}
-use Rattle.lz_board.specs.Walkers.{key_if, IsGlance}
-use Rattle.lz_board.proofs.Upkeep.Growth.{begins_of}
-use Rattle.lz_list.proofs.Traces.Absence.{unlinked_is_settled}
-use Rattle.lz_list.proofs.Traces.Hindsight.{lawful_begins}
-use Rattle.lz_list.proofs.Traces.NodeBits.{linking_apart, node}
+use Rattle.lz_list.specs.{declared.{word.Word.TheVariants.{Link}, layout.Sizes.{Sizes}}, Words.{flags_of}, Traces.{Trace, Begins, has_key, on, bucket_of}}
+use Rattle.lz_list.specs.Traces.{chain_of, key_word, next_link, node_next, is_marked, has_added, flags_after, word_after, Lawful, IsNode}
+use Rattle.lz_list.proofs.{Tables.PackedLink.{mark_of_link, added_of_link}, Chains.{PlaceRank.{adjacent, adjacent_next}, TraceChain.{words_show_chain}}}
+use Rattle.lz_list.proofs.Traces.{Absence.{begins_itself, unlinked_is_settled}, Hindsight.{lawful_begins}, NodeBits.{linking_apart, node}}
 use Rattle.lz_list.proofs.Traces.TraceWords.{node_of_key}
-use Rattle.lz_list.proofs.Chains.TraceChain.{words_show_chain}
-use Rattle.lz_flush.specs.declared.need.Need.{Need}
-use Rattle.lz_flush.specs.declared.need.Need.TheVariants.{Now, Sync as asks_sync}
-use Rattle.lz_flush.specs.Settling.{may_answer}
-use Rattle.lz_board.specs.Glances.{Between, Glanced, GlancedUnsettled}
-use Rattle.lz_board.specs.Listings.{IsDurableIn, WasAway}
+use Rattle.lz_machine.proofs.Frames.Ranges.{on_range}
+use Rattle.lz_board.specs.{declared.{view.Part.{Part}, answer.Glance.{Glance, TheVariants.{Yes, No, Unsettled}}}, Plays.{IsShownTo, knowing}}
+use Rattle.lz_board.specs.{Walkers.{key_if, IsGlance}, Glances.{Between, Glanced, GlancedUnsettled}, Listings.{IsDurableIn, WasAway}}
+use Rattle.lz_board.proofs.{Walk.WalkerLemma.{shown_on}, Upkeep.Growth.{begins_of}}
+use Rattle.lz_flush.specs.{declared.need.Need.{Need, TheVariants.{Now, Sync as asks_sync}}, Settling.{may_answer}}
 
 module _ (buckets slots s k : ℕ) (R : Trace) (law : Lawful buckets slots R) (d : IsDurableIn s k R) where
   has_node : (b : Bool) → has_key k (chain_of buckets k R) ≡ b → has_key k (chain_of buckets k R) ≡ true

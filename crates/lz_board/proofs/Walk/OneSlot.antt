@@ -1,17 +1,12 @@
 -- A key that is settled as a member throughout has one slot throughout.
-use Rattle.std.proofs.Common.{◌≡◌, ◌≢◌, inl, inr, ℕ, suc, Bool, true, false, [], ◌∷◌, refl, sym, ap, ◌∙◌, subst, arith}
+use Rattle.std.proofs.{Common.{◌≡◌, ◌≢◌, inl, inr, ℕ, suc, Bool, true, false, [], ◌∷◌, refl, sym, ap, ◌∙◌, subst, arith}, lemmas.Bool.Decides.{nat_tests}}
 use mathlib.Core.Bool.{false≢true}
-use Rattle.std.proofs.lemmas.Bool.Decides.{nat_tests}
-use Rattle.lz_list.specs.declared.publishing.Publishing.{Publishing}
-use Rattle.lz_list.specs.declared.publishing.Publishing.TheVariants.{Linked as linked, Marked as marked, Unlinked as unlinked, Settled as settled, KeyPrepared as key_prepared, LinkPrepared as link_prepared, Halted as halted}
+use Rattle.lz_list.specs.declared.publishing.Publishing.{Publishing, TheVariants.{Linked as linked, Marked as marked, Unlinked as unlinked, Settled as settled}}
+use Rattle.lz_list.specs.declared.publishing.Publishing.TheVariants.{KeyPrepared as key_prepared, LinkPrepared as link_prepared, Halted as halted}
 use Rattle.lz_list.specs.Traces.{Trace, Begins, has_key, on, bucket_of, chain_of, key_word, next_link, member, Lawful, SettledYes}
-use Rattle.lz_list.proofs.Traces.Absence.{begins_itself, unlinked_is_settled}
-use Rattle.lz_list.proofs.Traces.NodeBits.{node}
-use Rattle.lz_list.proofs.Traces.TraceWords.{node_of_key}
+use Rattle.lz_list.proofs.Traces.{Absence.{begins_itself, unlinked_is_settled}, NodeBits.{node}, TraceWords.{node_of_key}}
 use Rattle.lz_list.proofs.Chains.TraceChain.{words_show_chain}
-use Rattle.lz_board.specs.Glances.{Between}
-use Rattle.lz_board.specs.Listings.{IsDurableIn}
-use Rattle.lz_board.proofs.Walk.ListedSlot.{its_node}
+use Rattle.lz_board.{specs.{Glances.{Between}, Listings.{IsDurableIn}}, proofs.Walk.ListedSlot.{its_node}}
 
 module _ (buckets slots k : ℕ) where
   linked_key : (R : Trace) → Lawful buckets slots R → member k R ≡ true → (b : Bool) → has_key k (chain_of buckets k R) ≡ b → has_key k (chain_of buckets k R) ≡ true

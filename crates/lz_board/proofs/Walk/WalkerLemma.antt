@@ -1,40 +1,19 @@
 -- A walker's loads: what it knows goes on as the trace does, and each load takes it further.
-use Rattle.std.proofs.Common.{◌≡◌, inl, inr, ℕ, zero, suc, ◌-◌, ◌*◌, ◌<◌, ◌≤◌, nat_lt, if◌then◌else◌, Bool, true, false, [], ◌∷◌, ◌++◌, Some, refl, sym, ap, ◌∙◌, subst, append_assoc, arith}
-use Rattle.std.proofs.lemmas.Bool.Decides.{nat_tests, eqb_tells}
-use Rattle.lz_slot.specs.Limits.{most_slots}
-use Rattle.lz_list.specs.declared.flags.Flags.{Flags}
-use Rattle.lz_list.specs.declared.place.Place.{Place}
-use Rattle.lz_list.specs.declared.publishing.Publishing.{Publishing}
-use Rattle.lz_list.specs.declared.place.Place.TheVariants.{Bucket, Node}
-use Rattle.lz_list.specs.declared.word.Word.{Word}
-use Rattle.lz_list.specs.declared.word.Word.TheVariants.{Head, Link}
-use Rattle.lz_list.specs.declared.walk.Look.{Look}
-use Rattle.lz_list.specs.declared.walk.Look.TheVariants.{AtHead, AtKey, AtMet, AtBelow}
-use Rattle.lz_list.specs.declared.walk.Met.TheVariants.{Absent, Unmarked, Marked}
-use Rattle.lz_list.specs.Words.{next_of, place_number}
-use Rattle.lz_list.specs.Walks.{Hopped, More, End, wants, hopped, reaches, met}
-use Rattle.lz_list.specs.Hops.{LeadsOn}
-use Rattle.lz_list.specs.Traces.{Trace, Begins, Lawful, Adjacent, on, chain, chain_of, bucket_of, key_word, head_word, node_next, next_link, rank_at, flags_after, word_after}
-use Rattle.lz_list.specs.Pinned.{Stood, IsQuiet}
-use Rattle.lz_list.proofs.Chains.PlaceRank.{adjacent_on, adjacent_next}
-use Rattle.lz_list.proofs.Traces.Hindsight.{lawful_begins, key_since}
-use Rattle.lz_list.proofs.Chains.TraceChain.{words_show_chain}
-use Rattle.lz_list.proofs.Searches.KeySearch.{next_rank}
-use Rattle.lz_list.proofs.Chains.ChainNode.{bucket_low}
-use Rattle.lz_machine.specs.Stands.{WasBetween}
-use Rattle.lz_machine.specs.CallersSound.{IsLooking}
-use Rattle.lz_machine.proofs.Frames.Ranges.{stood_range}
 use Rattle.lz_machine.proofs.Frames.OneLoad as load
-use Rattle.lz_machine.proofs.Steps.Walk.{once_some}
-use Rattle.lz_machine.proofs.Frames.Publishing.{rank_stays, pred_stood, looking_stays}
-use Rattle.lz_list.specs.declared.layout.Sizes.{Sizes}
-use Rattle.lz_board.specs.declared.view.Part.{Part}
-use Rattle.lz_board.specs.Notes.{own, Extends, is_for, Since, IsShared}
-use Rattle.lz_machine.specs.Yards.{IsInside}
-use Rattle.lz_board.specs.Plays.{knowing, IsShownTo}
-use Rattle.lz_board.specs.Walkers.{IsWalkable}
-use Rattle.lz_board.specs.Walkers.{Ended, IsOnWalk, Walked, keys_left, hops_left, IsNearer, AtWalk, IsHop}
-use Rattle.lz_board.proofs.Upkeep.Growth.{begins_of}
+use Rattle.std.proofs.Common.{◌≡◌, inl, inr, ℕ, zero, suc, ◌-◌, ◌*◌, ◌<◌, ◌≤◌, nat_lt, if◌then◌else◌, Bool, true, false, [], ◌∷◌, ◌++◌, Some, refl, sym, ap}
+use Rattle.std.proofs.{Common.{◌∙◌, subst, append_assoc, arith}, lemmas.Bool.Decides.{nat_tests, eqb_tells}}
+use Rattle.lz_slot.specs.Limits.{most_slots}
+use Rattle.lz_list.specs.declared.{flags.Flags.{Flags}, place.Place.{Place, TheVariants.{Bucket, Node}}, publishing.Publishing.{Publishing}, word.Word.{Word}}
+use Rattle.lz_list.specs.declared.{word.Word.TheVariants.{Head, Link}, walk.Look.{Look, TheVariants.{AtHead, AtKey, AtMet, AtBelow}}}
+use Rattle.lz_list.specs.{declared.{walk.Met.TheVariants.{Absent, Unmarked, Marked}, layout.Sizes.{Sizes}}, Words.{next_of, place_number}}
+use Rattle.lz_list.specs.{Walks.{Hopped, More, End, wants, hopped, reaches, met}, Hops.{LeadsOn}, Traces.{Trace, Begins, Lawful, Adjacent, on, chain, chain_of}}
+use Rattle.lz_list.specs.{Traces.{bucket_of, key_word, head_word, node_next, next_link, rank_at, flags_after, word_after}, Pinned.{Stood, IsQuiet}}
+use Rattle.lz_list.proofs.Chains.{PlaceRank.{adjacent_on, adjacent_next}, TraceChain.{words_show_chain}, ChainNode.{bucket_low}}
+use Rattle.lz_list.proofs.{Traces.Hindsight.{lawful_begins, key_since}, Searches.KeySearch.{next_rank}}
+use Rattle.lz_machine.{specs.{Stands.{WasBetween}, CallersSound.{IsLooking}, Yards.{IsInside}}, proofs.Frames.Ranges.{stood_range}}
+use Rattle.lz_machine.proofs.{Frames.Publishing.{rank_stays, pred_stood, looking_stays}, Steps.Walk.{once_some}}
+use Rattle.lz_board.specs.{declared.view.Part.{Part}, Notes.{own, Extends, is_for, Since, IsShared}, Plays.{knowing, IsShownTo}}
+use Rattle.lz_board.{specs.Walkers.{IsWalkable, Ended, IsOnWalk, Walked, keys_left, hops_left, IsNearer, AtWalk, IsHop}, proofs.Upkeep.Growth.{begins_of}}
 
 -- a walk goes on, or has ended
 abbrev pub GoneOn : ℕ → ℕ → Trace → Trace → Hopped → Type 0

@@ -1,37 +1,19 @@
 -- A world goes on by a call that is made: its Invoke is played.
-use Rattle.std.proofs.Common.{◌≡◌, ◌≢◌, ◌≤◌, ◌+◌, ◌-◌, arith, if◌then◌else◌, IsNone, IsSome, IfSome, ℕ, suc, Bool, map, slice_index_or, slice_set, List, [], ◌∷◌, Option, Some, None, refl, sym, ◌∙◌, ap, subst}
-use Rattle.std.proofs.lemmas.Bool.{false≢true}
-use Rattle.lz_slot.specs.declared.command.Command.{Command}
-use Rattle.lz_slot.specs.declared.history.Mark.TheVariants.{Call as called}
-use Rattle.lz_slot.specs.Limits.{largest_key}
-use Rattle.lz_slot.specs.Numerals.{largest_read}
-use Rattle.lz_slot.specs.Sets.{key_of}
-use Rattle.lz_slot.specs.Counted.{set_of_pass}
-use Rattle.lz_disk.specs.Images.{Medium}
-use Rattle.lz_disk.specs.Records.{Past, after, device_of}
+use Rattle.std.proofs.Common.{◌≡◌, ◌≢◌, ◌≤◌, ◌+◌, ◌-◌, arith, if◌then◌else◌, IsNone, IsSome, IfSome, ℕ, suc, Bool, map, slice_index_or, slice_set, List, []}
+use Rattle.std.proofs.{Common.{◌∷◌, Option, Some, None, refl, sym, ◌∙◌, ap, subst}, lemmas.Bool.{false≢true}}
+use Rattle.lz_slot.specs.{declared.{command.Command.{Command}, history.Mark.TheVariants.{Call as called}}, Limits.{largest_key}, Numerals.{largest_read}}
+use Rattle.lz_slot.specs.{Sets.{key_of}, Counted.{set_of_pass}}
+use Rattle.lz_disk.specs.{Images.{Medium}, Records.{Past, after, device_of}}
 use Rattle.lz_vault.specs.Vaults.{MayFail, medium_after}
-use Rattle.lz_machine.specs.declared.event.Event.TheVariants.{Invoke}
-use Rattle.lz_machine.specs.declared.event.Outcome.{Outcome}
-use Rattle.lz_machine.specs.declared.event.Outcome.TheVariants.{Done, OldFile, Fault}
-use Rattle.lz_machine.specs.declared.caller.Progress.{Progress}
-use Rattle.lz_machine.specs.declared.course.Course.{Course}
-use Rattle.lz_core.specs.declared.play.Step.TheVariants.{Call as CallOf}
-use Rattle.lz_core.specs.declared.open_calls.OpenCall.{OpenCall}
-use Rattle.lz_machine.specs.Yards.{Shape, Yard, actor_at}
-use Rattle.lz_machine.specs.Table.{is_old, call_on, line_on}
-use Rattle.lz_machine.specs.Calls.{begun}
-use Rattle.lz_machine.specs.Runs.{Caller, Service, Up, Calls, Reached, caller_at, invoked, state_after}
-use Rattle.lz_yard.specs.declared.told.Told.{Told}
-use Rattle.lz_yard.specs.Parts.{YardOver}
-use Rattle.lz_yard.specs.Steps.{Played}
-use Rattle.lz_caller.specs.Begun.{begun_after}
-use Rattle.lz_caller.proofs.BegunCall.{begins}
+use Rattle.lz_machine.specs.declared.{event.{Event.TheVariants.{Invoke}, Outcome.{Outcome, TheVariants.{Done, OldFile, Fault}}}, caller.Progress.{Progress}}
+use Rattle.lz_machine.specs.{declared.course.Course.{Course}, Yards.{Shape, Yard, actor_at}, Table.{is_old, call_on, line_on}, Calls.{begun}}
+use Rattle.lz_machine.{specs.Runs.{Caller, Service, Up, Calls, Reached, caller_at, invoked, state_after}, proofs.Runs.Course.{invoke_plays}}
+use Rattle.lz_core.specs.declared.{play.Step.TheVariants.{Call as CallOf}, open_calls.OpenCall.{OpenCall}}
 use Rattle.lz_core.specs.Worlds.{Goes, HasRun, HasOne, IsWorld, MayStepOn, StepsOn, call_shown, state_shown, world_shown}
-use Rattle.lz_machine.proofs.Runs.Course.{invoke_plays}
-use Rattle.lz_yard.proofs.Events.PassPlaces.{set_at}
-use Rattle.lz_core.proofs.Runs.PlayedStep.{runs_on, shape_is}
-use Rattle.lz_core.proofs.Callers.ShownCallers.{shown_caller, shown_set, no_call, on_set, same_count}
+use Rattle.lz_core.proofs.{Runs.PlayedStep.{runs_on, shape_is}, Callers.ShownCallers.{shown_caller, shown_set, no_call, on_set, same_count}}
 use Rattle.lz_core.proofs.Callers.NextEvent.{quiet_goes}
+use Rattle.lz_yard.{specs.{declared.told.Told.{Told}, Parts.{YardOver}, Steps.{Played}}, proofs.Events.PassPlaces.{set_at}}
+use Rattle.lz_caller.{specs.Begun.{begun_after}, proofs.BegunCall.{begins}}
 
 -- a call that was just made, and its Invoke's outcome
 abbrev pub made : Shape → ℕ → Command → Outcome → OpenCall

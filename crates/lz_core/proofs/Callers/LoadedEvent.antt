@@ -3,14 +3,11 @@ use Rattle.std.proofs.Common.{◌≡◌, slice_get, IfSome, ℕ, zero, suc, map,
 use Rattle.std.proofs.lemmas.Bool.{false≢true}
 use Rattle.lz_slot.specs.Counted.{of_pass}
 use Rattle.lz_disk.specs.Records.{Past}
-use Rattle.lz_machine.specs.declared.event.Event.{Event}
+use Rattle.lz_machine.specs.{declared.event.Event.{Event}, Yards.{Shape}, Calls.{event_at, loaded}}
 use Rattle.lz_core.specs.declared.open_calls.OpenCall.{OpenCall}
-use Rattle.lz_machine.specs.Yards.{Shape}
-use Rattle.lz_machine.specs.Calls.{event_at, loaded}
-use Rattle.lz_yard.specs.Parts.{YardOver}
 use Rattle.lz_core.specs.Worlds.{IsCallOn, IsWorld, call_shown, event_asked, event_loaded, next_of, next_of_caller, state_shown}
-use Rattle.lz_core.proofs.Runs.PlayedStep.{shape_is}
-use Rattle.lz_core.proofs.Callers.ShownCallers.{asked_shown, get_at, to_event}
+use Rattle.lz_core.proofs.{Runs.PlayedStep.{shape_is}, Callers.ShownCallers.{asked_shown, get_at, to_event}}
+use Rattle.lz_yard.specs.Parts.{YardOver}
 
 -- the calls of a world are calls on its yard
 on_pass : (shape : Shape) (callers : List (Option OpenCall)) (a : ℕ) (own : OpenCall) → ((i : ℕ) (call : Option OpenCall) → slice_get callers i ≡ Some call → IsCallOn shape call) → of_pass callers a None ≡ Some own → IsCallOn shape (Some own)

@@ -1,28 +1,16 @@
 -- The next event of an actor's call in a world with an open yard may be played.
-use Rattle.std.proofs.Common.{◌≡◌, ◌≤◌, ◌-◌, length, unwrap_or, ℕ, suc, Bool, true, false, map, slice_index_or, List, Option, Some, None, is_some, refl, sym, ◌∙◌, ap, subst}
-use Rattle.std.proofs.lemmas.Bool.{false≢true}
-use Rattle.std.proofs.lemmas.List.{length-map}
-use Rattle.lz_slot.specs.declared.history.Mark.{Mark}
-use Rattle.lz_slot.specs.Counted.{of_pass}
-use Rattle.lz_disk.specs.Images.{Medium}
-use Rattle.lz_disk.specs.Records.{Past, after}
-use Rattle.lz_machine.specs.declared.event.Event.{Event}
-use Rattle.lz_machine.specs.declared.event.Event.TheVariants.{Check}
-use Rattle.lz_core.specs.declared.play.Step.{Step as PlayStep}
-use Rattle.lz_core.specs.declared.open_calls.OpenCall.{OpenCall}
-use Rattle.lz_machine.specs.Yards.{Shape}
-use Rattle.lz_machine.specs.Ready.{IsEventOf}
-use Rattle.lz_machine.specs.Runs.{Transition, Caller, Service, State, Up, MayPlay, caller_at, state_after}
-use Rattle.lz_machine.specs.Points.{IsBetweenLooks}
-use Rattle.lz_yard.specs.Parts.{YardOver}
-use Rattle.lz_machine.proofs.Runs.CallerEvent.{Next}
-use Rattle.lz_machine.proofs.Theorem.Timing.{is_event}
-use Rattle.lz_machine.proofs.Theorem.BetweenLooks.{is_look, quiet_step}
-use Rattle.lz_yard.proofs.Events.RunTransition.{may_play}
-use Rattle.lz_core.specs.Worlds.{WorldOver, Goes, HasRun, IsCallOn, IsWorld, MayStepOn, armed, call_shown, next_of, next_of_caller, state_shown}
-use Rattle.lz_core.proofs.Runs.PlayedStep.{shape_is}
 use Rattle.lz_yard.proofs.Events.RunTransition as transition
-use Rattle.lz_core.proofs.Callers.ShownCallers.{asked_shown, get_at, of_at, of_set}
+use Rattle.std.proofs.Common.{◌≡◌, ◌≤◌, ◌-◌, length, unwrap_or, ℕ, suc, Bool, true, false, map, slice_index_or, List, Option, Some, None, is_some, refl, sym}
+use Rattle.std.proofs.{Common.{◌∙◌, ap, subst}, lemmas.{Bool.{false≢true}, List.{length-map}}}
+use Rattle.lz_slot.specs.{declared.history.Mark.{Mark}, Counted.{of_pass}}
+use Rattle.lz_disk.specs.{Images.{Medium}, Records.{Past, after}}
+use Rattle.lz_machine.specs.{declared.event.Event.{Event, TheVariants.{Check}}, Yards.{Shape}, Ready.{IsEventOf}}
+use Rattle.lz_machine.specs.{Runs.{Transition, Caller, Service, State, Up, MayPlay, caller_at, state_after}, Points.{IsBetweenLooks}}
+use Rattle.lz_machine.proofs.{Runs.CallerEvent.{Next}, Theorem.{Timing.{is_event}, BetweenLooks.{is_look, quiet_step}}}
+use Rattle.lz_core.specs.declared.{play.Step.{Step as PlayStep}, open_calls.OpenCall.{OpenCall}}
+use Rattle.lz_core.specs.Worlds.{WorldOver, Goes, HasRun, IsCallOn, IsWorld, MayStepOn, armed, call_shown, next_of, next_of_caller, state_shown}
+use Rattle.lz_core.proofs.{Runs.PlayedStep.{shape_is}, Callers.ShownCallers.{asked_shown, get_at, of_at, of_set}}
+use Rattle.lz_yard.{specs.Parts.{YardOver}, proofs.Events.RunTransition.{may_play}}
 
 next_by : (service : Service) (a : ℕ) (o : Option Caller) (e : Event) → caller_at service.callers a ≡ o → next_of_caller service o ≡ Some e → Next service a e
 next_by service a None e at next = absurd (false≢true (ap is_some next))

@@ -1,20 +1,13 @@
 -- The calls that a world shows of its actors.
-use Rattle.std.proofs.Common.{◌≡◌, ◌≤◌, ◌-◌, arith, length, slice_get, unwrap_or, is_some, IsNone, ℕ, zero, suc, map, slice_index_or, slice_set, List, [], ◌∷◌, Option, Some, None, refl, sym, ap, subst}
-use Rattle.std.proofs.lemmas.Bool.{false≢true}
-use Rattle.lz_slot.specs.declared.command.Command.{Command}
-use Rattle.lz_slot.specs.Counted.{of_pass}
+use Rattle.std.proofs.Common.{◌≡◌, ◌≤◌, ◌-◌, arith, length, slice_get, unwrap_or, is_some, IsNone, ℕ, zero, suc, map, slice_index_or, slice_set, List, [], ◌∷◌}
+use Rattle.std.proofs.{Common.{Option, Some, None, refl, sym, ap, subst}, lemmas.Bool.{false≢true}}
+use Rattle.lz_slot.specs.{declared.command.Command.{Command}, Counted.{of_pass}}
 use Rattle.lz_disk.specs.Records.{Past}
-use Rattle.lz_core.specs.declared.play.Step.TheVariants.{Call as CallOf}
-use Rattle.lz_core.specs.declared.open_calls.OpenCall.{OpenCall}
-use Rattle.lz_machine.specs.declared.event.Outcome.{Outcome}
-use Rattle.lz_machine.specs.Yards.{Shape}
-use Rattle.lz_machine.specs.Calls.{event_at, progress_after}
-use Rattle.lz_machine.specs.Orders.{shape_with}
-use Rattle.lz_machine.specs.Runs.{Caller, caller_at}
+use Rattle.lz_core.specs.declared.{play.Step.TheVariants.{Call as CallOf}, open_calls.OpenCall.{OpenCall}}
+use Rattle.lz_core.{specs.Worlds.{HasRun, IsCallOn, IsLawful, MayCall, call_shown, state_shown}, proofs.Runs.PlayedStep.{shape_is}}
+use Rattle.lz_machine.specs.{declared.event.Outcome.{Outcome}, Yards.{Shape}, Calls.{event_at, progress_after}, Orders.{shape_with}, Runs.{Caller, caller_at}}
 use Rattle.lz_machine.proofs.Runs.EventOrder.{same_event, same_follows}
 use Rattle.lz_yard.specs.Parts.{YardOver}
-use Rattle.lz_core.specs.Worlds.{HasRun, IsCallOn, IsLawful, MayCall, call_shown, state_shown}
-use Rattle.lz_core.proofs.Runs.PlayedStep.{shape_is}
 
 -- the callers that a world shows
 pub shown_at : (callers : List (Option OpenCall)) (i : ℕ) → slice_index_or (map call_shown callers) i None ≡ call_shown (slice_index_or callers i None)

@@ -1,12 +1,8 @@
 -- What a turn is told as, by whether its device was tripped.
 use Rattle.std.proofs.Common.{◌≡◌, ◌≢◌, ℕ, true, false, List, [], ◌∷◌, refl, sym, ◌∙◌, subst}
 use Rattle.lz_slot.specs.declared.history.Mark.{Mark}
-use Rattle.lz_machine.specs.declared.event.Outcome.{Outcome}
-use Rattle.lz_machine.specs.declared.event.Outcome.TheVariants.{Fault}
-use Rattle.lz_machine.specs.Runs.{Turn, Fails}
-use Rattle.lz_core.specs.declared.play.Step.TheVariants.{Turn as TurnOf}
-use Rattle.lz_core.specs.Worlds.{WorldOver, PlaysOn, TakesTurn}
-use Rattle.lz_core.proofs.Runs.PlayedStep.{leads}
+use Rattle.lz_machine.specs.{declared.event.Outcome.{Outcome, TheVariants.{Fault}}, Runs.{Turn, Fails}}
+use Rattle.lz_core.{specs.{declared.play.Step.TheVariants.{Turn as TurnOf}, Worlds.{WorldOver, PlaysOn, TakesTurn}}, proofs.Runs.PlayedStep.{leads}}
 
 module _ (old mid : WorldOver) (a : ℕ) (outcome : Outcome) (marks : List Mark) (takes : TakesTurn old a outcome marks mid) where
   -- one that was done

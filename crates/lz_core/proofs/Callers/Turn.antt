@@ -1,40 +1,22 @@
 -- A world goes on by an actor's next event.
-use Rattle.std.proofs.Common.{◌≡◌, ◌≢◌, inl, inr, ◌≤◌, ◌-◌, if◌then◌else◌, IsSomeAnd, IfSome, IsTrue, ℕ, suc, Bool, true, false, map, slice_index_or, slice_set, List, [], Option, Some, None, reverse, refl, sym, ◌∙◌, ap, subst}
-use Rattle.lz_slot.specs.declared.history.Mark.{Mark}
-use Rattle.lz_slot.specs.Counted.{of_pass, set_of_pass}
-use Rattle.lz_disk.specs.Images.{Medium}
-use Rattle.lz_disk.specs.Devices.{Device}
-use Rattle.lz_disk.specs.Records.{Past, after, device_of}
-use Rattle.lz_vault.specs.Vaults.{IsDeviceCalled}
-use Rattle.lz_machine.specs.declared.event.Event.{Event}
-use Rattle.lz_machine.specs.declared.event.Outcome.{Outcome}
-use Rattle.lz_machine.specs.declared.event.Outcome.TheVariants.{Fault}
-use Rattle.lz_machine.specs.declared.event.Reply.{Reply}
-use Rattle.lz_machine.specs.declared.caller.Progress.{Progress}
-use Rattle.lz_core.specs.declared.play.Step.TheVariants.{Turn as TurnOf}
-use Rattle.lz_core.specs.declared.open_calls.OpenCall.{OpenCall}
-use Rattle.lz_machine.specs.Yards.{Shape}
-use Rattle.lz_machine.specs.Table.{line, line_call}
-use Rattle.lz_machine.specs.Orders.{MayTake}
-use Rattle.lz_yard.specs.Steps.{Played}
-use Rattle.lz_machine.specs.Runs.{Transition, Caller, Service, Up, Turn, Fails, HasFault, caller_at, next_event, reply_at, moved_on, marks_of_turn, mark_of_turn}
-use Rattle.lz_yard.specs.declared.told.Told.{Told}
-use Rattle.lz_yard.specs.Parts.{YardOver}
-use Rattle.lz_machine.proofs.Runs.CallerEvent.{Next}
-use Rattle.lz_machine.proofs.Theorem.Timing.{may_take}
-use Rattle.lz_machine.proofs.Theorem.EventNeeds.{may_take_fault}
-use Rattle.lz_machine.proofs.Theorem.BetweenLooks.{is_look}
-use Rattle.lz_machine.proofs.Runs.CallerTable.{fault_no_reply}
-use Rattle.lz_yard.proofs.Events.KeptFit.{played_shape, fault_or_not}
-use Rattle.lz_yard.proofs.Events.PassPlaces.{set_at}
-use Rattle.lz_yard.proofs.Events.RunTransition.{after_it, moved, done, failed}
 use Rattle.lz_machine.specs.declared.event.Reply.TheVariants as replies
-use Rattle.lz_judge.specs.MarkLines.{AreMarksOfRun, IsCallNumber}
-use Rattle.lz_core.specs.Trips.{CallsDevice}
-use Rattle.lz_core.specs.Worlds.{WorldOver, Goes, TakesTurn, HasOne, IsCallOn, IsWorld, armed, call_shown, call_after, mark_list, next_of, state_shown, world_shown}
+use Rattle.std.proofs.Common.{◌≡◌, ◌≢◌, inl, inr, ◌≤◌, ◌-◌, if◌then◌else◌, IsSomeAnd, IfSome, IsTrue, ℕ, suc, Bool, true, false, map, slice_index_or, slice_set}
+use Rattle.std.proofs.Common.{List, [], Option, Some, None, reverse, refl, sym, ◌∙◌, ap, subst}
+use Rattle.lz_slot.specs.{declared.history.Mark.{Mark}, Counted.{of_pass, set_of_pass}}
+use Rattle.lz_disk.specs.{Images.{Medium}, Devices.{Device}, Records.{Past, after, device_of}}
+use Rattle.lz_vault.specs.Vaults.{IsDeviceCalled}
+use Rattle.lz_machine.specs.{declared.{event.{Event.{Event}, Outcome.{Outcome, TheVariants.{Fault}}, Reply.{Reply}}, caller.Progress.{Progress}}, Yards.{Shape}}
+use Rattle.lz_machine.specs.{Table.{line, line_call}, Orders.{MayTake}, Runs.{Transition, Caller, Service, Up, Turn, Fails, HasFault, caller_at, next_event}}
+use Rattle.lz_machine.{specs.Runs.{reply_at, moved_on, marks_of_turn, mark_of_turn}, proofs.Runs.{CallerEvent.{Next}, CallerTable.{fault_no_reply}}}
+use Rattle.lz_machine.proofs.Theorem.{Timing.{may_take}, EventNeeds.{may_take_fault}, BetweenLooks.{is_look}}
+use Rattle.lz_core.specs.{declared.{play.Step.TheVariants.{Turn as TurnOf}, open_calls.OpenCall.{OpenCall}}, Trips.{CallsDevice}, Worlds.{WorldOver, Goes}}
+use Rattle.lz_core.specs.Worlds.{TakesTurn, HasOne, IsCallOn, IsWorld, armed, call_shown, call_after, mark_list, next_of, state_shown, world_shown}
 use Rattle.lz_core.proofs.Runs.PlayedStep.{runs_on}
 use Rattle.lz_core.proofs.Callers.ShownCallers.{asked_shown, get_at, of_at, of_set, on_set, same_count, shown_caller, shown_set, to_progress}
 use Rattle.lz_core.proofs.Callers.NextEvent.{called_on, in_range, medium, next, quiet_goes, same_shape, service}
+use Rattle.lz_yard.{specs.{Steps.{Played}, declared.told.Told.{Told}, Parts.{YardOver}}, proofs.Events.KeptFit.{played_shape, fault_or_not}}
+use Rattle.lz_yard.proofs.Events.{PassPlaces.{set_at}, RunTransition.{after_it, moved, done, failed}}
+use Rattle.lz_judge.specs.MarkLines.{AreMarksOfRun, IsCallNumber}
 
 abbrev shown_of : OpenCall → Caller
 shown_of own = record { number = own.number; command = own.caller.command; progress = own.caller.progress }

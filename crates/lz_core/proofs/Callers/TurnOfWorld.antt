@@ -1,22 +1,14 @@
 -- A world, with an open service or without, goes on by an actor's next event: one that has such an event has a service.
-use Rattle.std.proofs.Common.{◌≡◌, inl, inr, ◌≤◌, ◌<◌, ◌-◌, arith, length, IsSome, IfSome, ℕ, zero, suc, Bool, map, slice_index_or, slice_set, List, [], ◌∷◌, Option, Some, None, is_some, sym, ◌∙◌, ap, subst}
-use Rattle.std.proofs.lemmas.Bool.{false≢true}
-use Rattle.std.proofs.lemmas.List.{length-map, get_or-set_same}
+use Rattle.std.proofs.Common.{◌≡◌, inl, inr, ◌≤◌, ◌<◌, ◌-◌, arith, length, IsSome, IfSome, ℕ, zero, suc, Bool, map, slice_index_or, slice_set, List, [], ◌∷◌}
+use Rattle.std.proofs.{Common.{Option, Some, None, is_some, sym, ◌∙◌, ap, subst}, lemmas.{Bool.{false≢true}, List.{length-map, get_or-set_same}}}
 use Rattle.lz_slot.specs.declared.history.Mark.{Mark}
 use Rattle.lz_disk.specs.Records.{Past}
-use Rattle.lz_machine.specs.declared.event.Event.{Event}
-use Rattle.lz_machine.specs.declared.event.Outcome.{Outcome}
-use Rattle.lz_core.specs.declared.play.Step.TheVariants.{Turn as TurnOf}
-use Rattle.lz_core.specs.declared.open_calls.OpenCall.{OpenCall}
-use Rattle.lz_machine.specs.Yards.{Shape}
-use Rattle.lz_machine.specs.Orders.{MayTake}
-use Rattle.lz_machine.specs.Runs.{marks_of_turn}
-use Rattle.lz_yard.specs.Parts.{YardOver}
-use Rattle.lz_yard.proofs.Events.KeptFit.{fault_or_not}
-use Rattle.lz_core.specs.Worlds.{TakesTurn, HasOne, IsCallOn, IsLawful, IsOutcome, IsWorld, MayStepOn, StepsOn, armed_yard, call_shown, call_after, mark_list, next_of, state_shown, world_shown}
-use Rattle.lz_core.proofs.Callers.ShownCallers.{shown_caller}
-use Rattle.lz_core.proofs.Callers.NextEvent.{called_on, in_range, may_step_on, next_is, range}
+use Rattle.lz_machine.specs.{declared.event.{Event.{Event}, Outcome.{Outcome}}, Yards.{Shape}, Orders.{MayTake}, Runs.{marks_of_turn}}
+use Rattle.lz_core.specs.{declared.{play.Step.TheVariants.{Turn as TurnOf}, open_calls.OpenCall.{OpenCall}}, Worlds.{TakesTurn, HasOne, IsCallOn, IsLawful}}
+use Rattle.lz_core.specs.Worlds.{IsOutcome, IsWorld, MayStepOn, StepsOn, armed_yard, call_shown, call_after, mark_list, next_of, state_shown, world_shown}
+use Rattle.lz_core.proofs.Callers.{ShownCallers.{shown_caller}, NextEvent.{called_on, in_range, may_step_on, next_is, range}}
 use Rattle.lz_core.proofs.Callers.Turn.{takes_on, turn_taken, world_on}
+use Rattle.lz_yard.{specs.Parts.{YardOver}, proofs.Events.KeptFit.{fault_or_not}}
 
 module _ (shape : Shape) (disk : Option Past) (callers : List (Option OpenCall)) (calls a : ℕ) (tripped : Bool) (e : Event) where
   no_next : IsWorld shape None disk callers calls → next_of (state_shown shape None disk callers) a ≡ Some e → ⊥

@@ -1,9 +1,7 @@
 -- A key put at its place among ascending ones, and the members among the slots below some slot.
-use Rattle.std.proofs.Common.{◌≡◌, ◌≢◌, ◌⊎◌, inl, inr, ◌↔◌, ◌<◌, ◌≤◌, ◌+◌, ◌==◌, ◌||◌, ℕ, zero, suc, Bool, true, false, List, [], ◌∷◌, slice_get, Some, None, is_some, unwrap_or, refl, sym, ap, ◌∙◌, arith}
-use Rattle.std.specs.List.{All, insert}
-use Rattle.std.proofs.lemmas.List.Elements.{All-cons}
-use Rattle.std.proofs.lemmas.Bool.{false≢true, cases_eq, or_cases, or_left, or_right}
-use Rattle.std.proofs.lemmas.Bool.Decides.{eqb_tells}
+use Rattle.std.proofs.Common.{◌≡◌, ◌≢◌, ◌⊎◌, inl, inr, ◌↔◌, ◌<◌, ◌≤◌, ◌+◌, ◌==◌, ◌||◌, ℕ, zero, suc, Bool, true, false, List, [], ◌∷◌, slice_get, Some, None}
+use Rattle.std.proofs.{Common.{is_some, unwrap_or, refl, sym, ap, ◌∙◌, arith}, lemmas.List.Elements.{All-cons}}
+use Rattle.std.{proofs.lemmas.Bool.{false≢true, cases_eq, or_cases, or_left, or_right, Decides.{eqb_tells}}, specs.List.{All, insert}}
 use Rattle.lz_slot.specs.Sets.{members}
 use Rattle.lz_list.specs.Words.{Words}
 use Rattle.lz_core.specs.Worlds.{Ascend, IsListed, IsAmong}

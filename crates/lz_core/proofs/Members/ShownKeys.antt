@@ -1,50 +1,24 @@
 -- The keys that a yard shows: those of its slots that are members. Of a yard that was just opened they are the keys found.
-use Rattle.std.proofs.Common.{◌≡◌, inl, inr, ◌↔◌, ℕ, suc, ◌+◌, ◌<◌, ◌≤◌, ◌==◌, ◌||◌, Bool, true, false, IsTrue, List, [], ◌∷◌, length, map, Option, Some, Result, Ok, Err, IfOk, refl, sym, ap, ◌∙◌, subst, arith}
-use mathlib.Core.Bool.{false≢true}
-use Rattle.std.specs.List.{All}
-use Rattle.std.proofs.lemmas.List.{length-map}
-use Rattle.std.proofs.lemmas.List.Elements.{All-cons}
-use Rattle.std.proofs.lemmas.Bool.{cases_eq, or_cases}
-use Rattle.std.proofs.lemmas.Bool.Decides.{leb_tells}
-use Rattle.std.proofs.lemmas.Option.{slice_get-get_or}
-use Rattle.lz_slot.specs.Limits.{largest_key, most_slots}
-use Rattle.lz_slot.specs.Sets.{Keys, members}
-use Rattle.lz_slot.specs.Histories.{Life}
-use Rattle.lz_slot.specs.Bytes.{Holds, held}
-use Rattle.lz_slot.proofs.Files.ExactBytes.{key_of_format}
-use Rattle.lz_disk.specs.Images.{Medium, IsImage, AreBytes, at_rest}
-use Rattle.lz_disk.specs.Devices.{Device}
-use Rattle.lz_list.specs.Words.{Words}
-use Rattle.lz_list.specs.Lists.{home, IsMember}
-use Rattle.lz_list.specs.Traces.{Trace, Chain, IsFound, has_key, insert, on, chain, chain_of, bucket_of, key_word, member}
-use Rattle.lz_list.proofs.Traces.Absence.{has_insert}
-use Rattle.lz_list.proofs.Traces.OpeningTrace.{opening_members}
-use Rattle.lz_list.proofs.Chains.SortedChain.{node_on, node_slot}
-use Rattle.lz_list.proofs.Traces.TraceWords.{members_after}
-use Rattle.lz_vault.specs.Opens.{keys_of as cell_keys}
-use Rattle.lz_vault.specs.Members.{no_cell}
-use Rattle.lz_machine.specs.Yards.{Shape, Yard, cell_read, slots_read, first_trace, opened_yard}
-use Rattle.lz_yard.specs.Filling.{OpensYard}
-use Rattle.lz_disk.specs.Records.{Past, after}
-use Rattle.lz_core.specs.declared.open_calls.OpenCall.{OpenCall}
-use Rattle.lz_yard.specs.Parts.{YardOver}
-use Rattle.lz_machine.specs.Runs.{Service, Up, Point, Start, by_key, keys_found, opened_service}
-use Rattle.lz_machine.specs.Points.{IsReached}
-use Rattle.lz_machine.specs.Notes.{Notes}
-use Rattle.lz_machine.specs.Sound.{IsSound, UpSound}
-use Rattle.lz_judge.specs.MarkLines.{AscendFrom}
-use Rattle.lz_core.specs.Worlds.{Ascend, IsAmong, IsWorld, Shows, call_shown, state_shown}
 use Rattle.lz_machine.proofs.Theorem.ShownChains as showing
-use Rattle.lz_machine.proofs.Crash.ImageSlots.{node_stands}
-use Rattle.lz_machine.proofs.Open.FoundSlots.{first_notes}
-use Rattle.lz_machine.proofs.Open.FirstState.{opened_up}
-use Rattle.lz_machine.proofs.Open.FirstNodes.{held_found}
-use Rattle.lz_machine.proofs.Frames.LoadedWord.{bucket_range}
+use Rattle.std.proofs.Common.{◌≡◌, inl, inr, ◌↔◌, ℕ, suc, ◌+◌, ◌<◌, ◌≤◌, ◌==◌, ◌||◌, Bool, true, false, IsTrue, List, [], ◌∷◌, length, map, Option, Some}
+use Rattle.std.proofs.{Common.{Result, Ok, Err, IfOk, refl, sym, ap, ◌∙◌, subst, arith}, lemmas.List.{length-map, Elements.{All-cons}}}
+use Rattle.std.{proofs.lemmas.{Bool.{cases_eq, or_cases, Decides.{leb_tells}}, Option.{slice_get-get_or}}, specs.List.{All}}
+use mathlib.Core.Bool.{false≢true}
+use Rattle.lz_slot.specs.{Limits.{largest_key, most_slots}, Sets.{Keys, members}, Histories.{Life}, Bytes.{Holds, held}}
+use Rattle.lz_slot.proofs.Files.ExactBytes.{key_of_format}
+use Rattle.lz_disk.specs.{Images.{Medium, IsImage, AreBytes, at_rest}, Devices.{Device}, Records.{Past, after}}
+use Rattle.lz_list.specs.{Words.{Words}, Lists.{home, IsMember}}
+use Rattle.lz_list.{specs.Traces.{Trace, Chain, IsFound, has_key, insert, on, chain, chain_of, bucket_of, key_word, member}, proofs.Traces.Absence.{has_insert}}
+use Rattle.lz_list.proofs.{Traces.{OpeningTrace.{opening_members}, TraceWords.{members_after}}, Chains.SortedChain.{node_on, node_slot}}
+use Rattle.lz_vault.specs.{Opens.{keys_of as cell_keys}, Members.{no_cell}}
+use Rattle.lz_machine.specs.Yards.{Shape, Yard, cell_read, slots_read, first_trace, opened_yard}
+use Rattle.lz_machine.specs.{Runs.{Service, Up, Point, Start, by_key, keys_found, opened_service}, Points.{IsReached}, Notes.{Notes}, Sound.{IsSound, UpSound}}
+use Rattle.lz_machine.proofs.{Crash.ImageSlots.{node_stands}, Open.{FoundSlots.{first_notes}, FirstState.{opened_up}, FirstNodes.{held_found}}}
+use Rattle.lz_machine.proofs.{Open.ListedKeys.{any_key, key_by}, Frames.{LoadedWord.{bucket_range}, Ranges.{few_slots}}, Theorem.Reached.{up_at, reached_sound}}
+use Rattle.lz_yard.{specs.{Filling.{OpensYard}, Parts.{YardOver}}, proofs.Opening.SlotReads.{read_length}}
+use Rattle.lz_core.specs.{declared.open_calls.OpenCall.{OpenCall}, Worlds.{Ascend, IsAmong, IsWorld, Shows, call_shown, state_shown}}
 use Rattle.lz_core.proofs.Members.AscendingKeys.{eq_of, first_of, later_of}
-use Rattle.lz_machine.proofs.Theorem.Reached.{up_at, reached_sound}
-use Rattle.lz_yard.proofs.Opening.SlotReads.{read_length}
-use Rattle.lz_machine.proofs.Open.ListedKeys.{any_key, key_by}
-use Rattle.lz_machine.proofs.Frames.Ranges.{few_slots}
+use Rattle.lz_judge.specs.MarkLines.{AscendFrom}
 
 -- in a sound open service
 module _ (n calls : ℕ) (service : Service) (disk : Medium) (life : Life) (P : Trace) (notes : Notes) (up : UpSound n calls service disk life P notes) where

@@ -1,35 +1,20 @@
 -- A world whose disk is opened.
-use Rattle.std.proofs.Common.{◌≡◌, inl, inr, ℕ, Bool, IsTrue, if◌then◌else◌, zero, suc, ◌≤◌, true, false, List, [], ◌∷◌, length, map, slice_get, ◌%◌, ◌==◌, Option, Some, None, refl, sym, ap, ◌∙◌, subst, arith, replicate}
-use Rattle.std.proofs.lemmas.List.{length-map, length-replicate}
-use Rattle.lz_slot.specs.Limits.{most_actors, most_buckets}
-use Rattle.lz_slot.specs.declared.history.Mark.TheVariants.{Opened as opened}
-use Rattle.lz_slot.specs.declared.format.Format.{Format}
-use Rattle.lz_slot.specs.Bytes.{Holds, format_of}
-use Rattle.lz_slot.specs.Sets.{Keys, members}
-use Rattle.lz_slot.specs.Histories.{Life, lives}
-use Rattle.lz_disk.specs.Images.{Medium, AreBytes, at_rest, synced}
-use Rattle.lz_disk.specs.Records.{MustFail, Past, after, device_of}
-use Rattle.lz_vault.specs.Stages.{Suits}
-use Rattle.lz_vault.specs.Opens.{MayOpen}
-use Rattle.lz_vault.specs.Makes.{IsFresh}
-use Rattle.lz_core.specs.declared.play.Step.TheVariants.{Open}
-use Rattle.lz_core.specs.declared.open_calls.OpenCall.{OpenCall}
-use Rattle.lz_machine.specs.Yards.{Shape, opened_yard}
-use Rattle.lz_yard.specs.Filling.{OpensYard}
-use Rattle.lz_yard.specs.Parts.{YardOver}
-use Rattle.lz_machine.specs.Runs.{Caller, Start, IsStart, start_keys, State, Up, Down, Opens, Point, first_point, opened_service, keys_found}
-use Rattle.lz_list.specs.Traces.{Trace}
-use Rattle.lz_machine.specs.Sound.{DownSound, StateSound, PointSound, IsSound}
-use Rattle.lz_machine.specs.Points.{IsBetweenLooks}
-use Rattle.lz_judge.specs.MarkLines.{AscendFrom}
+use Rattle.std.proofs.Common.{◌≡◌, inl, inr, ℕ, Bool, IsTrue, if◌then◌else◌, zero, suc, ◌≤◌, true, false, List, [], ◌∷◌, length, map, slice_get, ◌%◌, ◌==◌}
+use Rattle.std.proofs.{Common.{Option, Some, None, refl, sym, ap, ◌∙◌, subst, arith, replicate}, lemmas.List.{length-map, length-replicate}}
+use Rattle.lz_slot.specs.{Limits.{most_actors, most_buckets}, declared.{history.Mark.TheVariants.{Opened as opened}, format.Format.{Format}}}
+use Rattle.lz_slot.specs.{Bytes.{Holds, format_of}, Sets.{Keys, members}, Histories.{Life, lives}}
+use Rattle.lz_disk.specs.{Images.{Medium, AreBytes, at_rest, synced}, Records.{MustFail, Past, after, device_of}}
+use Rattle.lz_vault.specs.{Stages.{Suits}, Opens.{MayOpen}, Makes.{IsFresh}}
+use Rattle.lz_core.specs.declared.{play.Step.TheVariants.{Open}, open_calls.OpenCall.{OpenCall}}
 use Rattle.lz_core.specs.Worlds.{WorldOver, Goes, IsNew, IsWorld, HasOne, HasRun, IsCallOn, PlaysOn, armed, call_shown, state_shown, world_shown}
-use Rattle.lz_machine.proofs.Theorem.Reached.{reached_sound}
-use Rattle.lz_machine.proofs.Open.FoundSlots.{pass_of}
-use Rattle.lz_machine.proofs.Open.ListedKeys.{listed}
-use Rattle.lz_machine.proofs.Open.FirstPoint.{one_set}
-use Rattle.lz_core.proofs.Runs.PlayedStep.{leads, runs_on}
-use Rattle.lz_core.proofs.Members.ShownKeys.{yard_read}
-use Rattle.lz_yard.proofs.Opening.SlotReads.{read_length}
+use Rattle.lz_core.proofs.{Runs.PlayedStep.{leads, runs_on}, Members.ShownKeys.{yard_read}}
+use Rattle.lz_machine.specs.Yards.{Shape, opened_yard}
+use Rattle.lz_machine.specs.Runs.{Caller, Start, IsStart, start_keys, State, Up, Down, Opens, Point, first_point, opened_service, keys_found}
+use Rattle.lz_machine.{specs.{Sound.{DownSound, StateSound, PointSound, IsSound}, Points.{IsBetweenLooks}}, proofs.Theorem.Reached.{reached_sound}}
+use Rattle.lz_machine.proofs.Open.{FoundSlots.{pass_of}, ListedKeys.{listed}, FirstPoint.{one_set}}
+use Rattle.lz_yard.{specs.{Filling.{OpensYard}, Parts.{YardOver}}, proofs.Opening.SlotReads.{read_length}}
+use Rattle.lz_list.specs.Traces.{Trace}
+use Rattle.lz_judge.specs.MarkLines.{AscendFrom}
 
 -- a text that holds a set has one number of slots
 one_count : (t : List ℕ) (N n : ℕ) (S T : Keys) → Holds t N S → Holds t n T → N ≡ n

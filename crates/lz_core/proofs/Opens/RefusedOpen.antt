@@ -1,22 +1,14 @@
 -- A world whose open is refused.
-use Rattle.std.proofs.Common.{◌≡◌, ◌≤◌, ◌⊎◌, inl, inr, ⊎_elim, ◌↔◌, ℕ, Bool, true, false, IsTrue, List, [], ◌∷◌, Option, Some, None, is_some, unwrap_or, refl, sym, ap, ◌∙◌, subst, arith}
-use Rattle.std.proofs.lemmas.Bool.{false≢true}
+use Rattle.std.proofs.Common.{◌≡◌, ◌≤◌, ◌⊎◌, inl, inr, ⊎_elim, ◌↔◌, ℕ, Bool, true, false, IsTrue, List, [], ◌∷◌, Option, Some, None, is_some, unwrap_or, refl}
+use Rattle.std.proofs.{Common.{sym, ap, ◌∙◌, subst, arith}, lemmas.Bool.{false≢true}}
 use Rattle.lz_slot.specs.declared.history.Mark.TheVariants.{OpenFailed as refused}
-use Rattle.lz_disk.specs.Images.{Medium, synced}
-use Rattle.lz_disk.specs.Records.{Past, after, device_of}
-use Rattle.lz_vault.specs.declared.opening.OpenFault.{OpenFault}
-use Rattle.lz_vault.specs.declared.opening.OpenFault.TheVariants.{Device, Memory}
-use Rattle.lz_vault.specs.Opens.{IsRefusedFor, open_fault_number}
-use Rattle.lz_machine.specs.OpenFailures.{IsOpenFailure}
-use Rattle.lz_machine.specs.Yards.{Shape}
-use Rattle.lz_machine.specs.Runs.{State, Down, OpenFails}
-use Rattle.lz_machine.proofs.Open.OpenFailures.{held_is_opened}
+use Rattle.lz_disk.specs.{Images.{Medium, synced}, Records.{Past, after, device_of}}
+use Rattle.lz_vault.specs.{declared.opening.OpenFault.{OpenFault, TheVariants.{Device, Memory}}, Opens.{IsRefusedFor, open_fault_number}}
+use Rattle.lz_machine.{specs.{OpenFailures.{IsOpenFailure}, Yards.{Shape}, Runs.{State, Down, OpenFails}}, proofs.Open.OpenFailures.{held_is_opened}}
 use Rattle.lz_yard.specs.Parts.{YardOver}
-use Rattle.lz_core.specs.declared.play.Step.TheVariants.{Open}
-use Rattle.lz_core.specs.declared.open_calls.OpenCall.{OpenCall}
+use Rattle.lz_core.specs.declared.{play.Step.TheVariants.{Open}, open_calls.OpenCall.{OpenCall}}
 use Rattle.lz_core.specs.Worlds.{Goes, HasOne, HasRun, IsWorld, PlaysOn, StopsEarly, WorldOver, armed, fault_told, state_shown, world_shown}
-use Rattle.lz_core.proofs.Runs.PlayedStep.{leads, runs_on}
-use Rattle.lz_core.proofs.Runs.JoinedPlays.{early_lack}
+use Rattle.lz_core.proofs.Runs.{PlayedStep.{leads, runs_on}, JoinedPlays.{early_lack}}
 use Rattle.lz_core.proofs.Opens.OpenedWorld.{must_fail, no_service, ran_down, run_holds, state_was}
 
 -- the disk is as it was, or was synced

@@ -1,10 +1,8 @@
 -- A disk in memory that was made bytewise for its file.
 use Rattle.std.proofs.Common.{◌≡◌, ◌⊎◌, inl, inr, ℕ, Bool, true, List, [], ◌∷◌, refl, sym, ap, subst}
 use Rattle.lz_slot.specs.declared.format.Format.{Format}
-use Rattle.lz_disk.specs.Images.{Medium, at_rest, written, synced}
-use Rattle.lz_disk.specs.Records.{Past, after, after_record, after_records, device_of}
-use Rattle.lz_disk.specs.declared.memory.Record.{Record}
-use Rattle.lz_disk.specs.declared.memory.Record.TheVariants.{Wrote, Failed, Synced}
+use Rattle.lz_disk.specs.{Images.{Medium, at_rest, written, synced}, Records.{Past, after, after_record, after_records, device_of}}
+use Rattle.lz_disk.specs.declared.memory.Record.{Record, TheVariants.{Wrote, Failed, Synced}}
 use Rattle.lz_vault.specs.Makes.{IsFresh}
 
 -- it is as it was but for that

@@ -1,20 +1,12 @@
 -- A world is tripped, stopped or crashed.
 use Rattle.std.proofs.Common.{◌≡◌, ℕ, suc, Bool, List, [], ◌∷◌, Option, Some, None, refl, sym, ◌∙◌, ap}
-use Rattle.lz_slot.specs.declared.history.Mark.{Mark}
-use Rattle.lz_slot.specs.declared.history.Mark.TheVariants.{Stop as stopped, Crash as crashed}
-use Rattle.lz_disk.specs.Images.{IsImage, at_rest}
-use Rattle.lz_disk.specs.declared.memory.Pick.{Pick}
-use Rattle.lz_disk.specs.Picks.{left_by}
-use Rattle.lz_disk.specs.Records.{Past}
-use Rattle.lz_core.specs.declared.play.Step.{Step as PlayStep}
-use Rattle.lz_core.specs.declared.play.Step.TheVariants.{Trip, Stop, Crash}
-use Rattle.lz_core.specs.declared.open_calls.OpenCall.{OpenCall}
-use Rattle.lz_machine.specs.Yards.{Shape}
-use Rattle.lz_machine.specs.Runs.{State, Up, Down, Transition, Trips, Stops, Crashes, MayStep, disk_of, state_after, marks_of, shape_of}
+use Rattle.lz_slot.specs.declared.history.Mark.{Mark, TheVariants.{Stop as stopped, Crash as crashed}}
+use Rattle.lz_disk.specs.{Images.{IsImage, at_rest}, declared.memory.Pick.{Pick}, Picks.{left_by}, Records.{Past}}
+use Rattle.lz_core.specs.declared.{play.Step.{Step as PlayStep, TheVariants.{Trip, Stop, Crash}}, open_calls.OpenCall.{OpenCall}}
+use Rattle.lz_core.{specs.Worlds.{WorldOver, Goes, HasRun, HasOne, IsWorld, state_shown, world_shown, disk_shown}, proofs.Runs.PlayedStep.{runs_on, shape_is}}
+use Rattle.lz_machine.specs.{Yards.{Shape}, Runs.{State, Up, Down, Transition, Trips, Stops, Crashes, MayStep, disk_of, state_after, marks_of, shape_of}}
 use Rattle.lz_machine.specs.Points.{IsBetweenLooks}
 use Rattle.lz_yard.specs.Parts.{YardOver}
-use Rattle.lz_core.specs.Worlds.{WorldOver, Goes, HasRun, HasOne, IsWorld, state_shown, world_shown, disk_shown}
-use Rattle.lz_core.proofs.Runs.PlayedStep.{runs_on, shape_is}
 
 -- what a world shows of its disk
 pub disk_is : (shape : Shape) (yard : Option (YardOver Past)) (disk : Option Past) (callers : List (Option OpenCall)) → disk_of (state_shown shape yard disk callers) ≡ disk_shown yard disk

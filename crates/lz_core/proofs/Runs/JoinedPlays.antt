@@ -1,19 +1,14 @@
 -- A play goes on by another play.
-use Rattle.std.proofs.Common.{◌≡◌, ◌≢◌, ◌⊎◌, inl, inr, ⊎_elim, IsSomeAnd, Bool, Result, Ok, Err, IsErrOf, Option, None, ◌≤◌, ◌+◌, ◌-◌, arith, slice_get, ℕ, zero, suc, take, List, [], ◌∷◌, ◌++◌, Some, reverse, refl, sym, ◌∙◌, ap, subst}
-use Rattle.std.proofs.lemmas.List.{reverse-append, append-nil, append_assoc}
-use Rattle.std.proofs.lemmas.Option.{slice_get_within, get_or_from_slice_get}
-use Rattle.std.proofs.Math.Seq.{take-suc}
+use Rattle.std.proofs.Common.{◌≡◌, ◌≢◌, ◌⊎◌, inl, inr, ⊎_elim, IsSomeAnd, Bool, Result, Ok, Err, IsErrOf, Option, None, ◌≤◌, ◌+◌, ◌-◌, arith, slice_get, ℕ}
+use Rattle.std.proofs.Common.{zero, suc, take, List, [], ◌∷◌, ◌++◌, Some, reverse, refl, sym, ◌∙◌, ap, subst}
+use Rattle.std.proofs.{lemmas.{List.{reverse-append, append-nil, append_assoc}, Option.{slice_get_within, get_or_from_slice_get}}, Math.Seq.{take-suc}}
 use Rattle.lz_slot.specs.declared.history.Mark.{Mark}
-use Rattle.lz_core.specs.declared.play.Step.{Step as PlayStep}
-use Rattle.lz_machine.specs.Runs.{Transition, MayStep, Point, run, IsRun}
-use Rattle.lz_machine.specs.Points.{IsReached}
-use Rattle.lz_core.specs.Plays.{IsPlayOf, ArePlaysOf}
-use Rattle.lz_judge.specs.MarkLines.{AreMarksOfRun}
-use Rattle.lz_core.specs.Trips.{GoAsTripped, GoesAsTripped, tripped_after, tripped_by}
+use Rattle.lz_core.specs.{declared.play.Step.{Step as PlayStep}, Plays.{IsPlayOf, ArePlaysOf}, Trips.{GoAsTripped, GoesAsTripped, tripped_after, tripped_by}}
 use Rattle.lz_core.specs.Worlds.{WorldOver, LacksMemory, LacksNext, StopsAt, StopsEarly, IsLawful, PlaysOn, IsChain, mark_list}
 use Rattle.lz_core.proofs.Runs.PlayedStep.{stays}
-use Rattle.lz_machine.proofs.Theorem.Reached.{every_history}
+use Rattle.lz_machine.{specs.{Runs.{Transition, MayStep, Point, run, IsRun}, Points.{IsReached}}, proofs.Theorem.Reached.{every_history}}
 use Rattle.lz_machine.proofs.Runs.Composition.{run_append}
+use Rattle.lz_judge.specs.MarkLines.{AreMarksOfRun}
 
 may_on : (p : Point) (later before : List Transition) → IsRun p before → IsRun (run p before) later → IsRun p (later ++ before)
 may_on p [] before first then_on = first

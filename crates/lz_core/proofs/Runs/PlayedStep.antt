@@ -1,14 +1,10 @@
 -- A step of a play leads from a world to a world.
 use Rattle.std.proofs.Common.{◌≡◌, arith, inl, List, [], ◌∷◌, ◌++◌, refl, ◌∙◌, ap, subst, ℕ}
 use Rattle.lz_slot.specs.declared.history.Mark.{Mark}
-use Rattle.lz_core.specs.declared.play.Step.{Step as PlayStep}
-use Rattle.lz_machine.specs.Yards.{Shape}
-use Rattle.lz_machine.specs.Runs.{State, Transition, shape_of, point_after}
-use Rattle.lz_machine.specs.Points.{IsBetweenLooks}
+use Rattle.lz_core.specs.{declared.play.Step.{Step as PlayStep}, Trips.{GoesAsTripped, tripped_after}, Worlds.{WorldOver, Goes, StopsEarly, HasRun, PlaysOn}}
+use Rattle.lz_machine.specs.{Yards.{Shape}, Runs.{State, Transition, shape_of, point_after}, Points.{IsBetweenLooks}}
 use Rattle.lz_machine.proofs.Runs.ReachedPoint.{reach, shape_kept}
 use Rattle.lz_judge.specs.MarkLines.{AreMarksOfRun}
-use Rattle.lz_core.specs.Trips.{GoesAsTripped, tripped_after}
-use Rattle.lz_core.specs.Worlds.{WorldOver, Goes, StopsEarly, HasRun, PlaysOn}
 
 pub leads : (old new : WorldOver) (play : PlayStep) (step : Transition) (marks : List Mark) → Goes old play step marks new → AreMarksOfRun marks
     → GoesAsTripped old.state old.tripped step → tripped_after old.tripped step ≡ new.tripped → PlaysOn old (play ∷ []) marks new

@@ -1,12 +1,8 @@
 -- The life that goes on, and the lives before it.
-use Rattle.std.proofs.Common.{◌≡◌, inl, inr, ⊎_elim, ℕ, Bool, List, [], ◌∷◌, refl, ap, subst, Some}
-use Rattle.std.proofs.lemmas.Bool.Decides.{eqb_tells}
-use Rattle.lz_slot.specs.Sets.{members}
-use Rattle.lz_slot.specs.declared.history.Mark.{Mark}
-use Rattle.lz_slot.specs.declared.history.Mark.TheVariants.{Call, Answer, Refused, Cut, Stop, Crash, Opened, OpenFailed}
+use Rattle.std.proofs.{Common.{◌≡◌, inl, inr, ⊎_elim, ℕ, Bool, List, [], ◌∷◌, refl, ap, subst, Some}, lemmas.Bool.Decides.{eqb_tells}}
+use Rattle.lz_slot.specs.{Sets.{members}, declared.history.Mark.{Mark, TheVariants.{Call, Answer, Refused, Cut, Stop, Crash, Opened, OpenFailed}}}
 use Rattle.lz_slot.specs.Histories.{HasMark, IsAnswered, IsBefore, Life, lives, with_mark}
-use Rattle.lz_judge.specs.Records.{IsLawful, IsMade, actor_of}
-use Rattle.lz_judge.specs.Plays.{lives_before, this_life, this_start}
+use Rattle.lz_judge.specs.{Records.{IsLawful, IsMade, actor_of}, Plays.{lives_before, this_life, this_start}}
 use Rattle.lz_judge.proofs.Lives.LawfulHistory.{made_more, not_ended}
 
 abbrev pub now : List Mark → Life

@@ -1,12 +1,8 @@
 -- A flaw that is told is of the first kind of which one is true.
 use Rattle.std.proofs.Common.{◌≡◌, ⊎_elim, ◌↔◌, ℕ, ◌≤◌, Bool, sym, ◌∙◌, arith, Some, None, map, BTreeMap}
 use Rattle.lz_slot.specs.Histories.{IsRefused, count_of}
-use Rattle.lz_judge.specs.Records.{IsMade, IsPoint, Record}
-use Rattle.lz_judge.specs.Flaws.{IsFirstKind, IsFlaw, flaw_turn}
-use Rattle.lz_judge.specs.declared.flaw.Flaw.{Flaw}
-use Rattle.lz_judge.specs.declared.flaw.Flaw.TheVariants.{Unlisted, NeverCalled, Misordered, ListedTwice, RefusedListed}
-use Rattle.lz_judge.specs.Readings.{IsAt}
-use Rattle.lz_judge.specs.Plays.{IsKnown}
+use Rattle.lz_judge.specs.{Records.{IsMade, IsPoint, Record}, Flaws.{IsFirstKind, IsFlaw, flaw_turn}, declared.flaw.Flaw.{Flaw}}
+use Rattle.lz_judge.specs.{declared.flaw.Flaw.TheVariants.{Unlisted, NeverCalled, Misordered, ListedTwice, RefusedListed}, Readings.{IsAt}, Plays.{IsKnown}}
 use Rattle.lz_judge.specs.Verdicts.{AreCalled, AreListed}
 
 -- each point is that of a call

@@ -1,22 +1,11 @@
 -- A judge's yes leaves no flaw.
 use Rattle.std.proofs.Common.{◌≡◌, inl, inr, ⊎_elim, ◌↔◌, ℕ, ◌<◌, Bool, true, List, [], ◌∷◌, ◌++◌, sym, refl, ◌∙◌, ap, subst, arith, BTreeMap}
-use Rattle.std.proofs.lemmas.Bool.Decides.{eqb_tells}
-use Rattle.std.proofs.lemmas.Option.{same_Some}
-use Rattle.lz_slot.specs.Sets.{Keys, Same, key_of, members, reply}
-use Rattle.lz_slot.specs.declared.command.Command.{Command}
-use Rattle.lz_slot.specs.declared.history.Mark.{Mark}
-use Rattle.lz_slot.specs.declared.history.Mark.TheVariants.{Call, Opened}
+use Rattle.std.proofs.lemmas.{Bool.Decides.{eqb_tells}, Option.{same_Some}}
+use Rattle.lz_slot.specs.{Sets.{Keys, Same, key_of, members, reply}, declared.{command.Command.{Command}, history.Mark.{Mark, TheVariants.{Call, Opened}}}}
 use Rattle.lz_slot.specs.Histories.{IsAnswered, IsCalled, IsEarlier, IsListed, Runs, lives}
-use Rattle.lz_judge.specs.Records.{IsLawful, IsMade, IsPoint, Record}
-use Rattle.lz_judge.specs.Flaws.{IsFlaw, IsInOrder, IsLifeBefore, IsReached, IsWrongSet, Leads, OrderedChain}
-use Rattle.lz_judge.specs.declared.flaw.Flaw.{Flaw}
-use Rattle.lz_judge.specs.declared.flaw.Flaw.TheVariants.{WrongReply, WrongSet}
-use Rattle.lz_judge.specs.Readings.{IsAt, is_made}
-use Rattle.lz_judge.specs.Plays.{IsKnown, lives_before, this_start}
-use Rattle.lz_judge.specs.Verdicts.{AreCalled, AreListed}
-use Rattle.lz_judge.proofs.Lives.FirstFlaw.{behind_order}
-use Rattle.lz_judge.proofs.Lives.LawfulHistory.{made_more}
-use Rattle.lz_judge.proofs.Lives.ListFront.{front_is}
+use Rattle.lz_judge.specs.{Records.{IsLawful, IsMade, IsPoint, Record}, Flaws.{IsFlaw, IsInOrder, IsLifeBefore, IsReached, IsWrongSet, Leads, OrderedChain}}
+use Rattle.lz_judge.specs.{declared.flaw.Flaw.{Flaw, TheVariants.{WrongReply, WrongSet}}, Readings.{IsAt, is_made}, Plays.{IsKnown, lives_before, this_start}}
+use Rattle.lz_judge.{specs.Verdicts.{AreCalled, AreListed}, proofs.Lives.{FirstFlaw.{behind_order}, LawfulHistory.{made_more}, ListFront.{front_is}}}
 use Rattle.lz_judge.proofs.Lives.WholeRun.{AreApart, RunIs, chain_before, chain_run, run_leads, run_replies}
 
 -- a call that is counted was made

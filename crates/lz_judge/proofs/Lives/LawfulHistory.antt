@@ -1,10 +1,7 @@
 -- What follows of a lawful history.
-use Rattle.std.proofs.Common.{◌≡◌, ◌≢◌, ◌⊎◌, inl, inr, ⊎_elim, ℕ, List, [], ◌∷◌, ◌++◌, take, drop, sym, ◌∙◌, ap, subst, Option, Some, None, reverse, if◌then◌else◌, ◌==◌}
-use Rattle.std.proofs.lemmas.List.{reverse-append, take-append-drop}
-use Rattle.std.proofs.lemmas.Bool.Decides.{eqb_tells}
-use Rattle.lz_slot.specs.declared.command.Command.{Command}
-use Rattle.lz_slot.specs.declared.history.Mark.{Mark}
-use Rattle.lz_slot.specs.declared.history.Mark.TheVariants.{Call}
+use Rattle.std.proofs.Common.{◌≡◌, ◌≢◌, ◌⊎◌, inl, inr, ⊎_elim, ℕ, List, [], ◌∷◌, ◌++◌, take, drop, sym, ◌∙◌, ap, subst, Option, Some, None, reverse}
+use Rattle.std.proofs.{Common.{if◌then◌else◌, ◌==◌}, lemmas.{List.{reverse-append, take-append-drop}, Bool.Decides.{eqb_tells}}}
+use Rattle.lz_slot.specs.declared.{command.Command.{Command}, history.Mark.{Mark, TheVariants.{Call}}}
 use Rattle.lz_judge.specs.Records.{IsLawful, IsMade}
 
 pub made_more : (m : Mark) (M : List Mark) (i : ℕ) → IsMade M i → IsMade (m ∷ M) i

@@ -1,9 +1,7 @@
 -- The calls that stand before one in a list in the order of their places.
 use Rattle.std.proofs.Common.{◌≡◌, inl, inr, ⊎_elim, ◌↔◌, ℕ, ◌<◌, List, [], ◌∷◌, ◌++◌, refl, subst, arith}
-use Rattle.lz_slot.specs.Histories.{History, IsEarlier, IsListed}
-use Rattle.lz_slot.proofs.Listings.{listed_append, listed_left, listed_right}
-use Rattle.lz_judge.specs.Records.{IsMade}
-use Rattle.lz_judge.specs.Flaws.{IsInOrder}
+use Rattle.lz_slot.{specs.Histories.{History, IsEarlier, IsListed}, proofs.Listings.{listed_append, listed_left, listed_right}}
+use Rattle.lz_judge.specs.{Records.{IsMade}, Flaws.{IsInOrder}}
 
 -- what stands earlier in a part, or in the first of two parts, stands earlier in the whole
 earlier_left : (i j : ℕ) (L R : List ℕ) → IsEarlier i j L → IsEarlier i j (L ++ R)

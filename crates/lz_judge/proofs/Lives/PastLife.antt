@@ -1,18 +1,11 @@
 -- The lives that have ended, and the life that goes on after them.
 use Rattle.std.proofs.Common.{◌≢◌, ◌⊎◌, inl, inr, ⊎_elim, ℕ, ◌<◌, List, [], ◌∷◌, ◌++◌, sym, refl, ◌∙◌}
-use Rattle.lz_slot.specs.Sets.{Keys, Same, after}
-use Rattle.lz_slot.specs.declared.command.Command.{Command}
-use Rattle.lz_slot.specs.declared.history.Mark.{Mark}
+use Rattle.lz_slot.specs.{Sets.{Keys, Same, after}, declared.{command.Command.{Command}, history.Mark.{Mark}}}
 use Rattle.lz_slot.specs.declared.history.Mark.TheVariants.{Call, Answer, Refused, Cut, Stop, Crash, Opened, OpenFailed}
-use Rattle.lz_slot.specs.Histories.{HasMark, IsCalled, IsListed}
-use Rattle.lz_judge.specs.Records.{IsMade}
-use Rattle.lz_judge.specs.Flaws.{IsInOrder, IsLifeBefore, IsPast, Leads}
-use Rattle.lz_judge.specs.Plays.{Follows, past_of, this_life}
-use Rattle.lz_judge.specs.declared.playing.Listed.{Listed}
-use Rattle.lz_judge.proofs.Lives.LawfulHistory.{made_less, made_more}
-use Rattle.lz_slot.proofs.Listings.{earlier_append, listed_append, listed_left, listed_right}
+use Rattle.lz_slot.{specs.Histories.{HasMark, IsCalled, IsListed}, proofs.Listings.{earlier_append, listed_append, listed_left, listed_right}}
 use Rattle.lz_slot.proofs.Sets.{after_same}
-use Rattle.lz_judge.proofs.Lives.CurrentLife.{life_made}
+use Rattle.lz_judge.specs.{Records.{IsMade}, Flaws.{IsInOrder, IsLifeBefore, IsPast, Leads}, Plays.{Follows, past_of, this_life}}
+use Rattle.lz_judge.{specs.declared.playing.Listed.{Listed}, proofs.Lives.{LawfulHistory.{made_less, made_more}, CurrentLife.{life_made}}}
 use Rattle.lz_judge.proofs.Lives.PlaceOrder.{Among, calls_of}
 
 -- what was seen in the past was seen

@@ -1,23 +1,12 @@
 -- A life's calls in the order of their places fit it.
-use Rattle.std.proofs.Common.{◌≡◌, ◌≢◌, ◌⊎◌, inl, inr, ⊎_elim, ℕ, ◌<◌, ◌≤◌, Bool, true, false, List, [], ◌∷◌, sym, refl, ◌∙◌, ap, subst, arith, Some, map, nat_cmp, Less}
-use Rattle.std.specs.Map.{values_of, keys_of, lookup}
 use Rattle.std.specs.BTreeMap as tree
-use Rattle.std.specs.BTreeMap.{BTreeMap, is_at}
-use Rattle.std.specs.List.{AllByRecursion}
+use Rattle.std.proofs.Common.{◌≡◌, ◌≢◌, ◌⊎◌, inl, inr, ⊎_elim, ℕ, ◌<◌, ◌≤◌, Bool, true, false, List, [], ◌∷◌, sym, refl, ◌∙◌, ap, subst, arith, Some, map}
+use Rattle.std.proofs.{Common.{nat_cmp, Less}, lemmas.{Map.Keys.{sorted_head, sorted_tail}, Option.{same_Some}, Bool.{cases_eq}}}
+use Rattle.std.{proofs.lemmas.Bool.Decides.{nat_tests, eqb_tells}, specs.{Map.{values_of, keys_of, lookup}, BTreeMap.{BTreeMap, is_at}, List.{AllByRecursion}}}
 use Rattle.std.specs.List.Sorted.{IsStrictlySortedBy}
-use Rattle.std.proofs.lemmas.Map.Keys.{sorted_head, sorted_tail}
-use Rattle.std.proofs.lemmas.Option.{same_Some}
-use Rattle.std.proofs.lemmas.Bool.{cases_eq}
-use Rattle.std.proofs.lemmas.Bool.Decides.{nat_tests, eqb_tells}
-use Rattle.lz_slot.specs.Sets.{Keys, Same, after}
-use Rattle.lz_slot.specs.declared.history.Mark.{Mark}
-use Rattle.lz_slot.specs.Histories.{IsAnswered, IsCalled, IsEarlier, IsListed, Runs, count_of}
+use Rattle.lz_slot.specs.{Sets.{Keys, Same, after}, declared.history.Mark.{Mark}, Histories.{IsAnswered, IsCalled, IsEarlier, IsListed, Runs, count_of}}
 use Rattle.lz_slot.proofs.Sets.{after_same}
-use Rattle.lz_judge.specs.Records.{IsMade}
-use Rattle.lz_judge.specs.Flaws.{IsInOrder}
-use Rattle.lz_judge.specs.Readings.{IsAt}
-use Rattle.lz_judge.specs.Plays.{IsLife, Plays}
-use Rattle.lz_judge.specs.declared.playing.Listed.{Listed}
+use Rattle.lz_judge.specs.{Records.{IsMade}, Flaws.{IsInOrder}, Readings.{IsAt}, Plays.{IsLife, Plays}, declared.playing.Listed.{Listed}}
 
 abbrev pub Among : {X : Type 0} → X → List X → Type 0
 Among x [] = ⊥

@@ -1,17 +1,11 @@
 -- The calls of all lives, one list after another: where the lives are a chain, it is one run from the empty set.
 use Rattle.std.proofs.Common.{◌≡◌, ◌⊎◌, inl, inr, ⊎_elim, ℕ, ◌<◌, Bool, List, [], ◌∷◌, ◌++◌, sym, refl, ◌∙◌, ap, subst, arith}
-use Rattle.lz_slot.specs.Sets.{Keys, Same, after, key_of, members, reply}
-use Rattle.lz_slot.specs.declared.command.Command.{Command}
-use Rattle.lz_slot.specs.declared.history.Mark.{Mark}
+use Rattle.lz_slot.specs.{Sets.{Keys, Same, after, key_of, members, reply}, declared.{command.Command.{Command}, history.Mark.{Mark}}}
 use Rattle.lz_slot.specs.declared.history.Mark.TheVariants.{Call, Answer, Refused, Cut, Opened}
-use Rattle.lz_slot.specs.Histories.{HasMark, IsAnswered, IsCalled, IsListed, Runs, lives}
-use Rattle.lz_judge.specs.Records.{IsLawful, IsMade, MayFollow}
-use Rattle.lz_judge.specs.Flaws.{IsInOrder, IsLifeBefore, Leads, OrderedChain}
-use Rattle.lz_judge.specs.Plays.{lives_before, past_of, this_life, this_start}
-use Rattle.lz_judge.proofs.Lives.CurrentLife.{answered_life, life_mark, lives_parts, now}
-use Rattle.lz_slot.proofs.Sets.{after_same}
-use Rattle.lz_judge.proofs.Lives.PastLife.{join_order, past_before, past_mark}
-use Rattle.lz_judge.proofs.Readings.ReadingTable.{told_made}
+use Rattle.lz_slot.{specs.Histories.{HasMark, IsAnswered, IsCalled, IsListed, Runs, lives}, proofs.Sets.{after_same}}
+use Rattle.lz_judge.specs.{Records.{IsLawful, IsMade, MayFollow}, Flaws.{IsInOrder, IsLifeBefore, Leads, OrderedChain}}
+use Rattle.lz_judge.{specs.Plays.{lives_before, past_of, this_life, this_start}, proofs.Lives.CurrentLife.{answered_life, life_mark, lives_parts, now}}
+use Rattle.lz_judge.proofs.{Lives.PastLife.{join_order, past_before, past_mark}, Readings.ReadingTable.{told_made}}
 
 -- a call has one command
 one_command : (M : List Mark) (i : ℕ) (c d : Command) → IsLawful M → IsCalled M i c → IsCalled M i d → c ≡ d

@@ -1,20 +1,12 @@
 -- A call that was answered otherwise than the calls below it say.
-use Rattle.std.proofs.Common.{◌≡◌, ◌≢◌, ◌⊎◌, inl, inr, ⊎_elim, ℕ, suc, ◌<◌, ◌≤◌, Bool, List, length, [], ◌∷◌, ◌++◌, sym, refl, ◌∙◌, ap, subst, arith, append_assoc, Option, Some, None, BTreeSet, BTreeMap, nat_cmp}
-use Rattle.std.specs.Map.{values_of}
 use Rattle.std.specs.BTreeMap as tree
-use Rattle.std.proofs.lemmas.Option.{same_Some}
-use Rattle.std.proofs.lemmas.List.{map-append}
-use Rattle.lz_slot.specs.Sets.{Keys, Same, after, key_of, members, reply}
-use Rattle.lz_slot.specs.declared.history.Mark.{Mark}
-use Rattle.lz_slot.specs.declared.history.Mark.TheVariants.{Call, Opened}
-use Rattle.lz_slot.specs.Histories.{IsCalled}
-use Rattle.lz_judge.specs.Records.{IsMade}
-use Rattle.lz_judge.specs.Flaws.{IsInOrder, Leads, opens}
-use Rattle.lz_judge.specs.Readings.{IsAt}
+use Rattle.std.proofs.Common.{◌≡◌, ◌≢◌, ◌⊎◌, inl, inr, ⊎_elim, ℕ, suc, ◌<◌, ◌≤◌, Bool, List, length, [], ◌∷◌, ◌++◌, sym, refl, ◌∙◌, ap, subst, arith}
+use Rattle.std.proofs.{Common.{append_assoc, Option, Some, None, BTreeSet, BTreeMap, nat_cmp}, lemmas.{Option.{same_Some}, List.{map-append}}}
+use Rattle.std.specs.Map.{values_of}
+use Rattle.lz_slot.specs.{Sets.{Keys, Same, after, key_of, members, reply}, declared.history.Mark.{Mark, TheVariants.{Call, Opened}}, Histories.{IsCalled}}
+use Rattle.lz_judge.specs.{Records.{IsMade}, Flaws.{IsInOrder, Leads, opens}, Readings.{IsAt}}
 use Rattle.lz_judge.specs.Plays.{Compared, Finds, Follows, IsKnown, IsLife, IsSet, IsWrong, Ran, WrongAt, past_of, this_life}
-use Rattle.lz_judge.specs.declared.playing.Listed.{Listed}
-use Rattle.lz_judge.proofs.Lives.CurrentLife.{life_mark}
-use Rattle.lz_judge.proofs.Lives.PlaceOrder.{Among, calls_of, in_order, OfLife, of_life}
+use Rattle.lz_judge.{specs.declared.playing.Listed.{Listed}, proofs.Lives.{CurrentLife.{life_mark}, PlaceOrder.{Among, calls_of, in_order, OfLife, of_life}}}
 use Rattle.lz_judge.proofs.Lives.ListFront.{IsFront, front_is}
 use Rattle.lz_judge.proofs.Lives.PastLife.{join_order, follows_leads, leads_more, leads_then, made_split, past_before, past_made_all, past_mark}
 

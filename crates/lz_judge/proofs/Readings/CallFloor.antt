@@ -1,18 +1,11 @@
 -- One mark more in the pass over the order of the calls.
-use Rattle.std.proofs.Common.{◌≡◌, ◌≢◌, ◌⊎◌, inl, inr, ⊎_elim, ℕ, ◌+◌, ◌<◌, ◌≤◌, max, Bool, true, false, List, [], ◌∷◌, sym, refl, ◌∙◌, ap, subst, arith, Option, Some, None, BTreeMap, BTreeSet, nat_cmp}
 use Rattle.std.specs.BTreeMap as tree
 use Rattle.std.specs.BTreeSet as set
-use Rattle.std.proofs.lemmas.Grind.{common_steps}
-use Rattle.std.proofs.lemmas.Option.{same_Some}
-use Rattle.std.proofs.lemmas.Bool.{cases_eq, cases_lt}
-use Rattle.lz_slot.specs.declared.command.Command.{Command}
-use Rattle.lz_slot.specs.declared.history.Mark.{Mark}
-use Rattle.lz_slot.specs.declared.history.Mark.TheVariants.{Call, Answer, Opened}
-use Rattle.lz_judge.specs.Records.{IsMade}
-use Rattle.lz_judge.specs.Flaws.{IsMisplaced, IsPast}
-use Rattle.lz_judge.specs.Readings.{Floored, IsAt, Ordered}
-use Rattle.lz_judge.proofs.Lives.LawfulHistory.{made_cases, made_less, made_more}
-use Rattle.lz_judge.proofs.Readings.NextMark.{IsLesser, lesser_one, lesser_some}
+use Rattle.std.proofs.Common.{◌≡◌, ◌≢◌, ◌⊎◌, inl, inr, ⊎_elim, ℕ, ◌+◌, ◌<◌, ◌≤◌, max, Bool, true, false, List, [], ◌∷◌, sym, refl, ◌∙◌, ap, subst, arith}
+use Rattle.std.proofs.{Common.{Option, Some, None, BTreeMap, BTreeSet, nat_cmp}, lemmas.{Grind.{common_steps}, Option.{same_Some}, Bool.{cases_eq, cases_lt}}}
+use Rattle.lz_slot.specs.declared.{command.Command.{Command}, history.Mark.{Mark, TheVariants.{Call, Answer, Opened}}}
+use Rattle.lz_judge.specs.{Records.{IsMade}, Flaws.{IsMisplaced, IsPast}, Readings.{Floored, IsAt, Ordered}}
+use Rattle.lz_judge.proofs.{Lives.LawfulHistory.{made_cases, made_less, made_more}, Readings.NextMark.{IsLesser, lesser_one, lesser_some}}
 
 misplaced_more : (M : List Mark) (m : Mark) (i j p q : ℕ) → IsMisplaced M i j p q → IsMisplaced (m ∷ M) i j p q
 misplaced_more M m i j p q (made, why) = (inr made, ⊎_elim (λ same. inl same) (λ (order, le). inr (⊎_elim (λ told. inl (inr told)) (λ past. inr (inr past)) order, le)) why)

@@ -1,23 +1,14 @@
 -- One mark more in the run of the calls, and what the run comes to.
-use Rattle.std.proofs.Common.{◌≡◌, ◌≢◌, inl, inr, ⊎_elim, ℕ, Bool, List, [], ◌∷◌, ◌++◌, take, drop, sym, refl, ◌∙◌, ap, subst, arith, Option, Some, None, reverse, BTreeMap, BTreeSet, nat_cmp}
-use Rattle.std.specs.Map.{values_of}
 use Rattle.std.specs.BTreeMap as tree
 use Rattle.std.specs.BTreeSet as set
-use Rattle.std.proofs.lemmas.Grind.{common_steps}
-use Rattle.std.proofs.lemmas.Option.{same_Some}
-use Rattle.std.proofs.lemmas.Bool.{cases_eq}
-use Rattle.lz_slot.specs.Sets.{Keys, Same, members}
-use Rattle.lz_slot.specs.declared.command.Command.{Command}
-use Rattle.lz_slot.specs.declared.history.Mark.{Mark}
-use Rattle.lz_slot.specs.declared.history.Mark.TheVariants.{Call, Answer, Refused, Cut, Opened}
-use Rattle.lz_slot.specs.Histories.{Fits, IsCalled, Life, lives}
-use Rattle.lz_judge.specs.Records.{IsMade}
-use Rattle.lz_judge.specs.Flaws.{IsInOrder, OrderedChain}
-use Rattle.lz_judge.specs.Readings.{IsAt}
-use Rattle.lz_judge.specs.Plays.{Finishes, IsKnown, IsLife, IsSet, Played, Plays, lives_before, this_life, this_start}
-use Rattle.lz_judge.specs.declared.playing.Listed.{Listed}
-use Rattle.lz_judge.proofs.Lives.LawfulHistory.{made_cases, made_less, so_far}
-use Rattle.lz_judge.proofs.Lives.CurrentLife.{answered_life, life_before, life_made, life_mark, lives_parts}
+use Rattle.std.proofs.Common.{◌≡◌, ◌≢◌, inl, inr, ⊎_elim, ℕ, Bool, List, [], ◌∷◌, ◌++◌, take, drop, sym, refl, ◌∙◌, ap, subst, arith, Option, Some, None}
+use Rattle.std.proofs.{Common.{reverse, BTreeMap, BTreeSet, nat_cmp}, lemmas.{Grind.{common_steps}, Option.{same_Some}, Bool.{cases_eq}}}
+use Rattle.std.specs.Map.{values_of}
+use Rattle.lz_slot.specs.{Sets.{Keys, Same, members}, declared.{command.Command.{Command}, history.Mark.{Mark}}}
+use Rattle.lz_slot.specs.{declared.history.Mark.TheVariants.{Call, Answer, Refused, Cut, Opened}, Histories.{Fits, IsCalled, Life, lives}}
+use Rattle.lz_judge.specs.{Records.{IsMade}, Flaws.{IsInOrder, OrderedChain}, Readings.{IsAt}}
+use Rattle.lz_judge.specs.{Plays.{Finishes, IsKnown, IsLife, IsSet, Played, Plays, lives_before, this_life, this_start}, declared.playing.Listed.{Listed}}
+use Rattle.lz_judge.proofs.Lives.{LawfulHistory.{made_cases, made_less, so_far}, CurrentLife.{answered_life, life_before, life_made, life_mark, lives_parts}}
 use Rattle.lz_judge.proofs.Lives.PlaceOrder.{calls_of, earlier, in_order, once, runs, OfLife, of_life}
 
 -- what is known of more marks is known of fewer

@@ -1,17 +1,10 @@
 -- One mark more in the ledger of a history's calls.
-use Rattle.std.proofs.Common.{◌≡◌, inl, inr, ⊎_elim, ℕ, Bool, true, false, List, ◌∷◌, sym, ◌∙◌, ap, subst, arith, Some, None, ◌==◌, if◌then◌else◌, BTreeMap, BTreeSet, nat_cmp}
 use Rattle.std.specs.BTreeMap as tree
 use Rattle.std.specs.BTreeSet as set
-use Rattle.std.proofs.lemmas.Grind.{common_steps}
-use Rattle.std.proofs.lemmas.Option.{same_Some}
-use Rattle.std.proofs.lemmas.Bool.{cases_eq}
-use Rattle.std.proofs.lemmas.Bool.Decides.{eqb_tells}
-use Rattle.lz_slot.specs.declared.command.Command.{Command}
-use Rattle.lz_slot.specs.declared.history.Mark.{Mark}
-use Rattle.lz_slot.specs.declared.history.Mark.TheVariants.{Call}
-use Rattle.lz_judge.specs.Records.{IsMade, MayFollow, actor_of}
-use Rattle.lz_judge.specs.Ledgers.{IsLedger}
-use Rattle.lz_judge.proofs.Lives.LawfulHistory.{made_cases, made_more}
+use Rattle.std.proofs.Common.{◌≡◌, inl, inr, ⊎_elim, ℕ, Bool, true, false, List, ◌∷◌, sym, ◌∙◌, ap, subst, arith, Some, None, ◌==◌, if◌then◌else◌, BTreeMap}
+use Rattle.std.proofs.{Common.{BTreeSet, nat_cmp}, lemmas.{Grind.{common_steps}, Option.{same_Some}, Bool.{cases_eq, Decides.{eqb_tells}}}}
+use Rattle.lz_slot.specs.declared.{command.Command.{Command}, history.Mark.{Mark, TheVariants.{Call}}}
+use Rattle.lz_judge.{specs.{Records.{IsMade, MayFollow, actor_of}, Ledgers.{IsLedger}}, proofs.Lives.LawfulHistory.{made_cases, made_more}}
 use Rattle.lz_judge.proofs.Lives.CurrentLife.{open_made}
 
 module _ (M : List Mark) (calls : BTreeSet ℕ) (actors busy : BTreeMap ℕ ℕ) (living : Bool) (before : IsLedger M calls actors busy living) where

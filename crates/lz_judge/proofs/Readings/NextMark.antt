@@ -1,16 +1,11 @@
 -- One mark, or one point, more in a pass.
-use Rattle.std.proofs.Common.{◌≡◌, ◌≢◌, ◌⊎◌, inl, inr, ⊎_elim, ℕ, ◌+◌, ◌<◌, Bool, true, false, List, [], ◌∷◌, length, get_or, take, sym, refl, ◌∙◌, ap, subst, Option, Some, None, Result, Ok, Err, reverse, IsSome, OnOk, is_some, BTreeMap, BTreeSet, nat_cmp}
 use Rattle.std.specs.BTreeMap as tree
 use Rattle.std.specs.BTreeSet as set
-use Rattle.std.proofs.lemmas.List.{reverse-append, take_more}
-use Rattle.std.proofs.lemmas.Option.{same_Some}
-use Rattle.lz_slot.specs.declared.history.Refusal.{Refusal}
-use Rattle.lz_slot.specs.declared.history.Mark.{Mark}
-use Rattle.lz_slot.specs.declared.history.Mark.TheVariants.{Answer, Refused}
-use Rattle.lz_slot.specs.Histories.{IsAnswered, IsRefused}
-use Rattle.lz_judge.specs.declared.history.Point.{Point}
-use Rattle.lz_judge.specs.Records.{IsPoint}
-use Rattle.lz_judge.specs.Readings.{Strangers, RefusedOnes, UnlistedOnes}
+use Rattle.std.proofs.Common.{◌≡◌, ◌≢◌, ◌⊎◌, inl, inr, ⊎_elim, ℕ, ◌+◌, ◌<◌, Bool, true, false, List, [], ◌∷◌, length, get_or, take, sym, refl, ◌∙◌, ap, subst}
+use Rattle.std.proofs.Common.{Option, Some, None, Result, Ok, Err, reverse, IsSome, OnOk, is_some, BTreeMap, BTreeSet, nat_cmp}
+use Rattle.std.proofs.lemmas.{List.{reverse-append, take_more}, Option.{same_Some}}
+use Rattle.lz_slot.specs.{declared.history.{Refusal.{Refusal}, Mark.{Mark, TheVariants.{Answer, Refused}}}, Histories.{IsAnswered, IsRefused}}
+use Rattle.lz_judge.specs.{declared.history.Point.{Point}, Records.{IsPoint}, Readings.{Strangers, RefusedOnes, UnlistedOnes}}
 
 -- one element more of a list that is read newest first
 pub newest_at : {X : Type 0} (xs : List X) (i : ℕ) (d : X) → i < length xs → reverse (take (i + 1) xs) ≡ get_or xs i d ∷ reverse (take i xs)

@@ -1,22 +1,13 @@
 -- What the tables of the passes say of the history.
-use Rattle.std.proofs.Common.{◌≡◌, inl, inr, ⊎_elim, ◌↔◌, ℕ, ◌≤◌, Bool, true, List, [], ◌∷◌, sym, refl, ◌∙◌, ap, subst, arith, Some, None, map, BTreeMap, nat_cmp}
 use Rattle.std.specs.BTreeMap as tree
-use Rattle.std.proofs.lemmas.Option.{same_Some}
-use Rattle.std.proofs.lemmas.Bool.Decides.{eqb_tells}
-use Rattle.lz_slot.specs.Sets.{Keys}
-use Rattle.lz_slot.specs.declared.history.Mark.{Mark}
-use Rattle.lz_slot.specs.declared.history.Mark.TheVariants.{Call, Answer, Refused, Cut, Opened, OpenFailed}
+use Rattle.std.proofs.Common.{◌≡◌, inl, inr, ⊎_elim, ◌↔◌, ℕ, ◌≤◌, Bool, true, List, [], ◌∷◌, sym, refl, ◌∙◌, ap, subst, arith, Some, None, map, BTreeMap}
+use Rattle.std.proofs.{Common.{nat_cmp}, lemmas.{Option.{same_Some}, Bool.Decides.{eqb_tells}}}
+use Rattle.lz_slot.specs.{Sets.{Keys}, declared.history.Mark.{Mark, TheVariants.{Call, Answer, Refused, Cut, Opened, OpenFailed}}}
 use Rattle.lz_slot.specs.Histories.{ChainTo, IsAnswered, Life, count_of}
-use Rattle.lz_judge.specs.declared.history.Point.{Point}
-use Rattle.lz_judge.specs.Limits.{largest_place}
-use Rattle.lz_judge.specs.Records.{ArePlaces, IsLawful, IsMade, IsPoint, actor_of}
-use Rattle.lz_judge.specs.Flaws.{IsFlaw, IsInOrder, IsWrongSet, OrderedChain}
-use Rattle.lz_judge.specs.declared.flaw.Flaw.TheVariants.{WrongReply}
-use Rattle.lz_judge.specs.Readings.{AreLow, HasPlaces, IsAt, Ordered, answer_of, is_made, place_of}
-use Rattle.lz_judge.specs.Plays.{IsKnown, IsWrong}
-use Rattle.lz_judge.specs.Verdicts.{AreListed}
-use Rattle.lz_judge.proofs.Lives.LawfulHistory.{made_more, not_ended}
-use Rattle.lz_judge.proofs.Lives.CurrentLife.{open_made}
+use Rattle.lz_judge.specs.{declared.{history.Point.{Point}, flaw.Flaw.TheVariants.{WrongReply}}, Limits.{largest_place}}
+use Rattle.lz_judge.specs.{Records.{ArePlaces, IsLawful, IsMade, IsPoint, actor_of}, Flaws.{IsFlaw, IsInOrder, IsWrongSet, OrderedChain}}
+use Rattle.lz_judge.specs.{Readings.{AreLow, HasPlaces, IsAt, Ordered, answer_of, is_made, place_of}, Plays.{IsKnown, IsWrong}, Verdicts.{AreListed}}
+use Rattle.lz_judge.proofs.Lives.{LawfulHistory.{made_more, not_ended}, CurrentLife.{open_made}}
 
 -- a call that was made is counted
 pub made_is : (M : List Mark) (i : ℕ) → IsMade M i → is_made M i ≡ true

@@ -1,23 +1,14 @@
 -- What a reader gave, piece by piece.
-use Rattle.std.proofs.Common.{◌≡◌, ◌≢◌, ℕ, ◌+◌, ◌*◌, ◌/◌, ◌-◌, ◌<◌, ◌≤◌, List, [], ◌∷◌, ◌++◌, length, take, drop, refl, sym, ◌∙◌, ap, subst, arith, le_refl, append_assoc, length-append, Option, Some, None, Ok, Err, true, false, nat_lt, slice_range}
-use Rattle.std.proofs.lemmas.List.{length-take-le, take-append-le, drop-append-le, take-append-drop}
-use Rattle.std.proofs.Math.Seq.{drop-append-add, take-append-add}
-use Rattle.std.proofs.lemmas.Slice.{take-put_mid_below}
-use Rattle.std.specs.Io.KnownBytes.{Consumes, IsAtEnd, Keeps}
-use Rattle.std.proofs.KnownBytes.{Consumes-trans}
+use Rattle.std.proofs.Common.{◌≡◌, ◌≢◌, ℕ, ◌+◌, ◌*◌, ◌/◌, ◌-◌, ◌<◌, ◌≤◌, List, [], ◌∷◌, ◌++◌, length, take, drop, refl, sym, ◌∙◌, ap, subst, arith, le_refl}
+use Rattle.std.proofs.Common.{append_assoc, length-append, Option, Some, None, Ok, Err, true, false, nat_lt, slice_range}
+use Rattle.std.proofs.lemmas.{List.{length-take-le, take-append-le, drop-append-le, take-append-drop}, Slice.{take-put_mid_below}, Bool.Decides.{nat_tests}}
+use Rattle.std.{proofs.{Math.Seq.{drop-append-add, take-append-add}, KnownBytes.{Consumes-trans}}, specs.Io.KnownBytes.{Consumes, IsAtEnd, Keeps}}
 use borrow.Rule.Slice.PartMut.{put_mid}
-use Rattle.std.proofs.lemmas.Bool.Decides.{nat_tests}
-use Rattle.lz_slot.specs.Bytes.{header_body, header_read, of_size, open_byte, slot_at, slot_bytes}
-use Rattle.lz_slot.specs.declared.format.Format.{Format}
-use Rattle.lz_slot.specs.declared.header.Header.{Header}
-use Rattle.lz_slot.specs.declared.header.HeaderFault.{HeaderFault}
-use Rattle.lz_slot.specs.declared.header.HeaderFault.TheVariants.{NotMade, WrongLength}
-use Rattle.lz_slot.specs.declared.slot.SlotRead.{SlotRead}
+use Rattle.lz_slot.specs.{Bytes.{header_body, header_read, of_size, open_byte, slot_at, slot_bytes}, declared.{format.Format.{Format}, header.Header.{Header}}}
+use Rattle.lz_slot.specs.declared.{header.HeaderFault.{HeaderFault, TheVariants.{NotMade, WrongLength}}, slot.SlotRead.{SlotRead}}
 use Rattle.lz_slot.proofs.Files.HeadBytes.{format_alike, head_alone}
-use Rattle.lz_judge.specs.declared.finding.Survey.TheVariants.{Found, Refused}
-use Rattle.lz_judge.specs.declared.scan.Scan.{Scan}
-use Rattle.lz_judge.specs.Scans.{BeginsWith, EndsWithin, GivesPiece, HadMore, IsPieceAt, Scanned}
-use Rattle.lz_judge.specs.Surveys.{AreFindings, IsSurveyed, OfText}
+use Rattle.lz_judge.specs.declared.{finding.Survey.TheVariants.{Found, Refused}, scan.Scan.{Scan}}
+use Rattle.lz_judge.specs.{Scans.{BeginsWith, EndsWithin, GivesPiece, HadMore, IsPieceAt, Scanned}, Surveys.{AreFindings, IsSurveyed, OfText}}
 use Rattle.lz_judge.proofs.Surveys.SoundFile.{refused_surveyed, sound_holds}
 
 -- more bytes of a buffer were read

@@ -1,20 +1,13 @@
 -- One slot more in a survey, and what a survey without damage says.
-use Rattle.std.proofs.Common.{◌≡◌, ◌≢◌, ⊎_elim, ◌↔◌, ℕ, zero, suc, ◌+◌, ◌<◌, Bool, true, List, [], ◌∷◌, ◌++◌, get_or, sym, refl, ◌∙◌, ap, subst, arith, Some, None, Ok, Err, IsTrue, add-one, rules, length, Result, All, map, ◌==◌, ◌||◌, Contains, OnOk}
-use Rattle.std.specs.List.{list_any}
-use Rattle.std.proofs.lemmas.List.{get_or-map, map-append}
-use Rattle.std.proofs.lemmas.List.Elements.{All-push, All-contains, Contains-get_or}
-use Rattle.std.proofs.lemmas.List.Folds.{list_any-append, list_any_at}
-use Rattle.std.proofs.lemmas.Option.{same_Some}
-use Rattle.std.proofs.lemmas.Bool.{cases_eq, cases_lt, eqb-true, eq-eqb, or_cases}
-use Rattle.std.proofs.lemmas.Bool.Decides.{nat_tests}
-use Rattle.lz_slot.specs.declared.slot.SlotRead.{SlotRead}
 use Rattle.lz_slot.specs.declared.slot.SlotRead.TheVariants as read
-use Rattle.lz_judge.specs.declared.finding.Finding.{Finding}
-use Rattle.lz_judge.specs.declared.finding.Finding.TheVariants.{Key, BadKey, Twice}
-use Rattle.lz_judge.specs.declared.scan.Scan.{Scan}
+use Rattle.std.proofs.Common.{◌≡◌, ◌≢◌, ⊎_elim, ◌↔◌, ℕ, zero, suc, ◌+◌, ◌<◌, Bool, true, List, [], ◌∷◌, ◌++◌, get_or, sym, refl, ◌∙◌, ap, subst, arith, Some}
+use Rattle.std.proofs.Common.{None, Ok, Err, IsTrue, add-one, rules, length, Result, All, map, ◌==◌, ◌||◌, Contains, OnOk}
+use Rattle.std.proofs.lemmas.List.{get_or-map, map-append, Elements.{All-push, All-contains, Contains-get_or}, Folds.{list_any-append, list_any_at}}
+use Rattle.std.{proofs.lemmas.{Option.{same_Some}, Bool.{cases_eq, cases_lt, eqb-true, eq-eqb, or_cases, Decides.{nat_tests}}}, specs.List.{list_any}}
+use Rattle.lz_slot.specs.declared.slot.SlotRead.{SlotRead}
+use Rattle.lz_judge.specs.declared.{finding.Finding.{Finding, TheVariants.{Key, BadKey, Twice}}, scan.Scan.{Scan}}
 use Rattle.lz_judge.specs.Surveys.{AreFindings, IsFinding, IsFirst, finding_key, found_keys, is_key, is_sound, open_slot, open_slots, slot_of}
-use Rattle.lz_judge.specs.Places.{IsTable}
-use Rattle.lz_judge.specs.Scans.{Scanned}
+use Rattle.lz_judge.specs.{Places.{IsTable}, Scans.{Scanned}}
 
 -- the slot is open
 abbrev pub IsOpened : SlotRead → Type 0

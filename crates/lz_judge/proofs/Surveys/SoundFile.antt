@@ -1,16 +1,10 @@
 -- A survey without damage is one of a file that holds a set.
 use Rattle.std.proofs.Common.{◌≡◌, ◌↔◌, ℕ, ◌+◌, ◌*◌, ◌≤◌, List, ◌∷◌, length, take, sym, ◌∙◌, ap, subst, arith, Ok, Err, IsTrue}
-use Rattle.std.specs.List.{list_all}
-use Rattle.std.proofs.lemmas.List.Sums.{AllPass-from_list_all, list_all-from_AllPass}
-use Rattle.lz_slot.specs.Limits.{most_slots_of}
-use Rattle.lz_slot.specs.declared.header.HeaderFault.{HeaderFault}
-use Rattle.lz_slot.specs.Sets.{Keys}
-use Rattle.lz_slot.specs.Bytes.{Holds, format_of, header_read, header_body, open_byte, slot_at}
-use Rattle.lz_slot.proofs.Files.HeadBytes.{head_alone}
+use Rattle.std.{proofs.lemmas.List.Sums.{AllPass-from_list_all, list_all-from_AllPass}, specs.List.{list_all}}
+use Rattle.lz_slot.specs.{Limits.{most_slots_of}, declared.header.HeaderFault.{HeaderFault}, Sets.{Keys}}
+use Rattle.lz_slot.{specs.Bytes.{Holds, format_of, header_read, header_body, open_byte, slot_at}, proofs.Files.HeadBytes.{head_alone}}
 use Rattle.lz_slot.proofs.Files.ExactBytes.{header_counts, header_reads_back}
-use Rattle.lz_judge.specs.declared.finding.Finding.{Finding}
-use Rattle.lz_judge.specs.declared.finding.Survey.TheVariants.{Refused}
-use Rattle.lz_judge.specs.Surveys.{AreFindings, IsSurveyed, found_keys, is_sound}
+use Rattle.lz_judge.specs.{declared.finding.{Finding.{Finding}, Survey.TheVariants.{Refused}}, Surveys.{AreFindings, IsSurveyed, found_keys, is_sound}}
 use Rattle.lz_judge.proofs.Surveys.SlotFinding.{no_bad_key, no_key_twice, set_found, sound_where}
 
 -- a file that holds a set has no fault of the head

@@ -1,10 +1,7 @@
 -- Worked lines of histories.
 use Rattle.std.specs.Prelude.{◌≡◌, [], ◌∷◌, refl, codes, None, Some}
-use Rattle.lz_slot.specs.declared.command.Command.TheVariants.{Add, Has}
-use Rattle.lz_slot.specs.declared.history.Refusal.TheVariants.{OldFile}
-use Rattle.lz_slot.specs.declared.history.Mark.TheVariants.{Call, Refused, Opened}
-use Rattle.lz_judge.specs.declared.line.Line.TheVariants.{Seen, Other}
-use Rattle.lz_judge.specs.LinesRead.{line_read}
+use Rattle.lz_slot.specs.declared.{command.Command.TheVariants.{Add, Has}, history.{Refusal.TheVariants.{OldFile}, Mark.TheVariants.{Call, Refused, Opened}}}
+use Rattle.lz_judge.specs.{declared.line.Line.TheVariants.{Seen, Other}, LinesRead.{line_read}}
 
 -- a key of any room, and both spellings of one in room 0
 calls : (line_read (codes "call 1 2 add 3:17") ≡ Some (Seen (Call 1 2 (Add 3000000000000000017)))) × (line_read (codes "call 1 2 has 0:17") ≡ Some (Seen (Call 1 2 (Has 17))))

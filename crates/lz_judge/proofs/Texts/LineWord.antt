@@ -1,16 +1,10 @@
 -- Words and the end of a line.
 use Rattle.std.proofs.Common.{◌≡◌, ℕ, ◌+◌, ◌-◌, ◌≤◌, false, ◌==◌, List, [], ◌∷◌, ◌++◌, length, take, drop, All, Option, Some, None, sym, refl, ap, ◌∙◌, arith}
-use Rattle.std.proofs.lemmas.Bool.Decides.{nat_tests}
-use Rattle.std.proofs.lemmas.List.{take_rest}
-use Rattle.std.proofs.lemmas.List.Elements.{All-nil, All-cons}
-use Rattle.std.proofs.lemmas.List.Splits.{length-slice_split, slice_split_at, slice_split_none}
-use Rattle.std.specs.List.{join_with_byte}
+use Rattle.std.proofs.lemmas.{Bool.Decides.{nat_tests}, List.{take_rest, Elements.{All-nil, All-cons}}}
+use Rattle.std.{proofs.lemmas.List.Splits.{length-slice_split, slice_split_at, slice_split_none}, specs.List.{join_with_byte}}
 use Rattle.memchr.specs.Find.{IsFirstByte, is_byte}
-use Rattle.lz_slot.proofs.Texts.Cuts.{Lacks, cut_at, lacks_all, lacks_first, lacks_more}
-use Rattle.lz_slot.proofs.Texts.Spellings.{lacks_join}
-use Rattle.lz_judge.specs.declared.line.Line.{Line}
-use Rattle.lz_judge.specs.LinesRead.{at_end, kind_read, line_read, words_of}
-use Rattle.lz_judge.specs.TextsRead.{IsClear}
+use Rattle.lz_slot.proofs.Texts.{Cuts.{Lacks, cut_at, lacks_all, lacks_first, lacks_more}, Spellings.{lacks_join}}
+use Rattle.lz_judge.specs.{declared.line.Line.{Line}, LinesRead.{at_end, kind_read, line_read, words_of}, TextsRead.{IsClear}}
 
 no_end : (line : Line) (words : List (List ℕ)) → 1 ≤ length words → at_end line words ≡ None
 no_end line [] some = absurd (omega (arith, some))

@@ -1,33 +1,18 @@
 -- What is written of a mark is read as the mark.
-use Rattle.std.proofs.Common.{◌≡◌, ℕ, suc, ◌+◌, ◌≤◌, Bool, List, [], ◌∷◌, ◌++◌, map, reverse, length, length-append, decimal, codes, true, false, Some, arith, refl, sym, ap, subst, ◌∙◌, append_assoc, option_map}
-use Rattle.std.specs.Cmp.Lexicographic.{same_text}
-use Rattle.std.specs.List.{join_with_byte}
-use Rattle.std.proofs.lemmas.Bool.{false_from_ne_true, false≢true}
-use Rattle.std.proofs.lemmas.Bool.Decides.{nat_tests}
-use Rattle.std.proofs.lemmas.List.{append-nil, reverse-append}
-use Rattle.lz_slot.specs.Limits.{largest_key, most_actors}
-use Rattle.lz_slot.specs.Sets.{key_of}
-use Rattle.lz_slot.specs.Numerals.{largest_read, number_in}
-use Rattle.lz_slot.specs.Texts.{key_text}
-use Rattle.lz_slot.specs.MarkTexts.{answer_word, command_word, keys_text, mark_text, marks_text, refusal_word}
-use Rattle.lz_slot.specs.declared.command.Command.{Command}
-use Rattle.lz_slot.specs.declared.command.Command.TheVariants.{Add, Remove, Has}
-use Rattle.lz_slot.specs.declared.history.Cut.TheVariants.{Halted, Device}
-use Rattle.lz_slot.specs.declared.history.Refusal.{Refusal}
-use Rattle.lz_slot.specs.declared.history.Refusal.TheVariants.{Full, Worn, OldFile}
-use Rattle.lz_slot.specs.declared.history.Mark.{Mark}
-use Rattle.lz_slot.specs.declared.history.Mark.TheVariants.{Call, Answer, Refused, Cut, Stop, Crash, Opened, OpenFailed}
-use Rattle.lz_slot.proofs.Texts.Cuts.{Lacks}
-use Rattle.lz_slot.proofs.Texts.MarkTexts.{marks_join}
-use Rattle.lz_slot.proofs.Texts.Numerals.{decimal_read}
+use Rattle.std.proofs.Common.{◌≡◌, ℕ, suc, ◌+◌, ◌≤◌, Bool, List, [], ◌∷◌, ◌++◌, map, reverse, length, length-append, decimal, codes, true, false, Some, arith}
+use Rattle.std.proofs.{Common.{refl, sym, ap, subst, ◌∙◌, append_assoc, option_map}, lemmas.Bool.{false_from_ne_true, false≢true, Decides.{nat_tests}}}
+use Rattle.std.{proofs.lemmas.List.{append-nil, reverse-append}, specs.{Cmp.Lexicographic.{same_text}, List.{join_with_byte}}}
+use Rattle.lz_slot.specs.{Limits.{largest_key, most_actors}, Sets.{key_of}, Numerals.{largest_read, number_in}, Texts.{key_text}}
+use Rattle.lz_slot.specs.{MarkTexts.{answer_word, command_word, keys_text, mark_text, marks_text, refusal_word}, declared.command.Command.{Command}}
+use Rattle.lz_slot.specs.declared.{command.Command.TheVariants.{Add, Remove, Has}, history.{Cut.TheVariants.{Halted, Device}, Refusal.{Refusal}}}
+use Rattle.lz_slot.specs.declared.history.{Refusal.TheVariants.{Full, Worn, OldFile}, Mark.{Mark}}
+use Rattle.lz_slot.{specs.declared.history.Mark.TheVariants.{Call, Answer, Refused, Cut, Stop, Crash, Opened, OpenFailed}, proofs.Texts.Cuts.{Lacks}}
+use Rattle.lz_slot.proofs.Texts.{MarkTexts.{marks_join}, Numerals.{decimal_read}}
 use Rattle.lz_slot.proofs.Texts.Spellings.{decimal_lacks, key_text_lacks, spelled_read, written_keys_are_spelled}
-use Rattle.lz_judge.specs.declared.line.Line.{Line}
-use Rattle.lz_judge.specs.declared.line.Line.TheVariants.{Seen}
+use Rattle.lz_judge.specs.declared.line.Line.{Line, TheVariants.{Seen}}
 use Rattle.lz_judge.specs.LinesRead.{answer_read, call_number, command_named, is_word, key_from, key_named, key_told, keys_from, kind_read, refusal_read}
-use Rattle.lz_judge.specs.Records.{Record}
-use Rattle.lz_judge.specs.MarkLines.{AscendFrom, IsCallNumber, IsMarkOfRun, MarksReadBack, HistoriesReadBack}
-use Rattle.lz_judge.specs.Limits.{most_bytes, most_faults}
-use Rattle.lz_judge.specs.TextsRead.{MayCome, Reads, nothing, line, with_line}
+use Rattle.lz_judge.specs.{Records.{Record}, MarkLines.{AscendFrom, IsCallNumber, IsMarkOfRun, MarksReadBack, HistoriesReadBack}}
+use Rattle.lz_judge.specs.{Limits.{most_bytes, most_faults}, TextsRead.{MayCome, Reads, nothing, line, with_line}}
 use Rattle.lz_judge.proofs.Texts.LineWord.{AreWords, IsField, IsWord, IsWritten, plain, written_clear, written_reads}
 
 pub number_field : (low high n : ℕ) → high ≤ largest_read → low ≤ n → n ≤ high → IsField (number_in low high) (decimal n) n

@@ -1,14 +1,10 @@
 -- One line more of a text.
-use Rattle.std.proofs.Common.{◌≡◌, inr, ℕ, ◌+◌, ◌-◌, ◌<◌, ◌≤◌, List, [], ◌∷◌, ◌++◌, length, take, drop, Some, None, sym, refl, ap, subst, ◌∙◌, arith, append_assoc, length-append}
-use Rattle.std.proofs.lemmas.List.{length-take, take_rest}
+use Rattle.std.proofs.Common.{◌≡◌, inr, ℕ, ◌+◌, ◌-◌, ◌<◌, ◌≤◌, List, [], ◌∷◌, ◌++◌, length, take, drop, Some, None, sym, refl, ap, subst, ◌∙◌, arith}
+use Rattle.std.proofs.{Common.{append_assoc, length-append}, lemmas.List.{length-take, take_rest}}
 use Rattle.memchr.specs.Find.{IsFirstByte, is_byte}
 use Rattle.lz_slot.proofs.Texts.Cuts.{cut_at, lacks_all, lacks_first}
-use Rattle.lz_judge.specs.declared.line.Line.{Line}
-use Rattle.lz_judge.specs.Records.{Record}
-use Rattle.lz_judge.specs.LinesRead.{line_read}
-use Rattle.lz_judge.specs.Limits.{most_bytes}
-use Rattle.lz_judge.proofs.Texts.LineWord.{none_of}
-use Rattle.lz_judge.specs.TextsRead.{HasRead, IsFirstUnread, IsNext, MayCome, Reads, nothing, line, with_line}
+use Rattle.lz_judge.specs.{declared.line.Line.{Line}, Records.{Record}, LinesRead.{line_read}, Limits.{most_bytes}}
+use Rattle.lz_judge.{specs.TextsRead.{HasRead, IsFirstUnread, IsNext, MayCome, Reads, nothing, line, with_line}, proofs.Texts.LineWord.{none_of}}
 
 lengths : (n : ℕ) (text rest : List ℕ) (h : Record) (so_far : HasRead n text rest h) → length text ≡ length so_far.front + length rest
 lengths n text rest h so_far = ap length so_far.whole ∙ length-append so_far.front rest

@@ -1,14 +1,9 @@
 -- Chains that words show: there is one for each bucket, and where its places stand.
-use Rattle.std.proofs.Common.{◌≡◌, ◌≢◌, inl, inr, ℕ, suc, ◌<◌, true, [], ◌∷◌, length, refl, sym, ap, ◌∙◌, subst, arith}
-use Rattle.std.proofs.lemmas.Bool.{cases_eq}
+use Rattle.std.proofs.{Common.{◌≡◌, ◌≢◌, inl, inr, ℕ, suc, ◌<◌, true, [], ◌∷◌, length, refl, sym, ap, ◌∙◌, subst, arith}, lemmas.Bool.{cases_eq}}
 use Rattle.std.proofs.lemmas.Bool.Decides.{nat_tests}
-use Rattle.lz_list.specs.declared.place.Place.{Place}
-use Rattle.lz_list.specs.declared.word.Word.TheVariants.{Key}
-use Rattle.lz_list.specs.Words.{Words, get, next_at, place_number}
+use Rattle.lz_list.specs.{declared.{place.Place.{Place}, word.Word.TheVariants.{Key}}, Words.{Words, get, next_at, place_number}}
 use Rattle.lz_list.specs.Traces.{Chain, insert, without, on, rank_at, WordsShow, bucket_of}
-use Rattle.lz_list.specs.Lists.{next_in, home, AreSlots, ShowsChain, IsNodeIn, IsOfBucket, IsTable}
-use Rattle.lz_list.proofs.Chains.PlaceRank.{apart}
-use Rattle.lz_list.proofs.Chains.TraceChain.{bucket_on}
+use Rattle.lz_list.{specs.Lists.{next_in, home, AreSlots, ShowsChain, IsNodeIn, IsOfBucket, IsTable}, proofs.Chains.{PlaceRank.{apart}, TraceChain.{bucket_on}}}
 use Rattle.lz_list.proofs.Traces.NodeBits.{one_node}
 
 pub same_pair : (n m : ℕ × ℕ) → n.0 ≡ m.0 → n.1 ≡ m.1 → n ≡ m

@@ -1,8 +1,10 @@
 -- After a lawful trace the words of each bucket show its chain.
 use Rattle.std.proofs.Common.{◌≡◌, ◌≢◌, inl, inr, ℕ, zero, suc, true, false, ◌==◌, [], ◌∷◌, refl, sym, ap, ◌∙◌, subst, arith}
 use Rattle.std.proofs.lemmas.Bool.Decides.{nat_tests, eqb_tells}
-use Rattle.lz_list.specs.declared.publishing.Publishing.TheVariants.{Linked as linked, Unlinked as unlinked, KeyPrepared as key_prepared, LinkPrepared as link_prepared}
-use Rattle.lz_list.specs.Traces.{Trace, Chain, insert, without, on, rank_at, WordsShow, bucket_of, chain, chain_of, place_of, key_word, node_next, next_link, IsLoose, MayLink, MayUnlink, Lawful, KeysBelong, IsShown}
+use Rattle.lz_list.specs.declared.publishing.Publishing.TheVariants.{Linked as linked, Unlinked as unlinked, KeyPrepared as key_prepared}
+use Rattle.lz_list.specs.{declared.publishing.Publishing.TheVariants.{LinkPrepared as link_prepared}, Traces.{Trace, Chain, insert, without, on, rank_at}}
+use Rattle.lz_list.specs.Traces.{WordsShow, bucket_of, chain, chain_of, place_of, key_word, node_next, next_link, IsLoose, MayLink, MayUnlink, Lawful}
+use Rattle.lz_list.specs.Traces.{KeysBelong, IsShown}
 use Rattle.lz_list.proofs.Chains.PlaceRank.{before_on, shows_frame, shows_keys, shows_insert, shows_without, next_is_above, has_on}
 
 module _ (buckets : ℕ) where

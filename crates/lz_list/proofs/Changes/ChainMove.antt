@@ -1,11 +1,8 @@
 -- What a change of words makes of the chains, and of the members.
 use Rattle.std.proofs.Common.{◌≡◌, ◌↔◌, ℕ, zero, suc, ◌<◌, true, length, refl, sym, ap, ◌∙◌, subst, arith}
-use Rattle.lz_list.specs.declared.place.Place.TheVariants.{Node}
-use Rattle.lz_list.specs.declared.word.Word.TheVariants.{Key}
-use Rattle.lz_list.specs.Words.{Words, get, is_marked_at}
+use Rattle.lz_list.specs.{declared.{place.Place.TheVariants.{Node}, word.Word.TheVariants.{Key}}, Words.{Words, get, is_marked_at}}
 use Rattle.lz_list.specs.Traces.{Chain, on, rank_at, KeysBelong, bucket_of}
-use Rattle.lz_list.specs.Lists.{next_in, home, AreSlots, ShowsChain, IsSorted, IsNodeIn, IsMember, IsTable}
-use Rattle.lz_list.proofs.Chains.PlaceRank.{shows_frame, shows_keys}
+use Rattle.lz_list.{specs.Lists.{next_in, home, AreSlots, ShowsChain, IsSorted, IsNodeIn, IsMember, IsTable}, proofs.Chains.PlaceRank.{shows_frame, shows_keys}}
 use Rattle.lz_list.proofs.Chains.SortedChain.{bucket_below, node_on}
 
 -- In bucket b the nodes whose keys stay are the same ones, before and after.

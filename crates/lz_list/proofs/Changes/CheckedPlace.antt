@@ -1,8 +1,6 @@
 -- What Check found is where the machine's change goes.
-use Rattle.std.proofs.Common.{◌≡◌, ◌⊎◌, inl, inr, ℕ, suc, ◌<◌, ◌≤◌, [], ◌∷◌, sym, arith}
-use Rattle.std.proofs.lemmas.Bool.Decides.{nat_tests}
-use Rattle.lz_list.specs.Traces.{Chain, place_before, link_above, rank_at, WordsShow, Adjacent}
-use Rattle.lz_list.proofs.Chains.PlaceRank.{rank_on, adjacent_on}
+use Rattle.std.proofs.{Common.{◌≡◌, ◌⊎◌, inl, inr, ℕ, suc, ◌<◌, ◌≤◌, [], ◌∷◌, sym, arith}, lemmas.Bool.Decides.{nat_tests}}
+use Rattle.lz_list.{specs.Traces.{Chain, place_before, link_above, rank_at, WordsShow, Adjacent}, proofs.Chains.PlaceRank.{rank_on, adjacent_on}}
 
 module _ (next keys : ℕ → ℕ) where
   pub place_between : (k x : ℕ) (c : Chain) → WordsShow next keys x c → (y n : ℕ) → Adjacent x c y n → rank_at keys y ≤ k → (n ≡ 0) ⊎ (suc k < rank_at keys n) → (place_before k x c ≡ y) × (link_above k c ≡ n)

@@ -1,20 +1,13 @@
 -- A node is linked after a place, or unlinked from it.
 use Rattle.std.proofs.Common.{◌≡◌, ◌≢◌, ◌⊎◌, ◌↔◌, inl, inr, ℕ, zero, suc, ◌<◌, ◌^◌, true, false, [], ◌∷◌, length, refl, sym, ap, ◌∙◌, subst, arith}
-use Rattle.std.specs.Prelude.{slice_index, List}
-use Rattle.std.proofs.lemmas.Bool.{cases_eq}
-use Rattle.lz_list.specs.declared.place.Place.{Place}
-use Rattle.lz_list.specs.declared.place.Place.TheVariants.{Node}
-use Rattle.lz_list.specs.declared.word.Word.TheVariants.{Key}
+use Rattle.std.{proofs.lemmas.Bool.{cases_eq}, specs.Prelude.{slice_index, List}}
+use Rattle.lz_list.specs.declared.{place.Place.{Place, TheVariants.{Node}}, word.Word.TheVariants.{Key}}
 use Rattle.lz_list.specs.Words.{Words, get, redirect, place_number, next_at, is_marked_at}
 use Rattle.lz_list.specs.Traces.{Chain, insert, has_key, on, place_before, link_above, rank_at, WordsShow, Adjacent, KeysBelong, bucket_of}
 use Rattle.lz_list.specs.Lists.{next_in, home, AreSlots, ShowsChain, IsSorted, IsNodeIn, IsMember, IsTable, IsPlace, IsPredecessor, MayLinkAt, OthersStay}
-use Rattle.lz_list.proofs.Chains.PlaceRank.{adjacent, adjacent_none, shows_insert}
-use Rattle.lz_list.proofs.Chains.TraceChain.{bucket_on, within_insert}
-use Rattle.lz_list.proofs.Traces.NodeBits.{on_insert_other}
-use Rattle.lz_list.proofs.Traces.WalkEnd.{on_insert}
-use Rattle.lz_list.proofs.Changes.CheckedPlace.{place_between}
-use Rattle.lz_list.proofs.Chains.SortedChain.{slot_on, slots_insert, bucket_below, same_node, next_of_place}
-use Rattle.lz_list.proofs.Changes.ChainMove.{Moved, moved_sorted, members_stay, frame_moved}
+use Rattle.lz_list.proofs.Chains.{PlaceRank.{adjacent, adjacent_none, shows_insert}, TraceChain.{bucket_on, within_insert}}
+use Rattle.lz_list.proofs.{Chains.SortedChain.{slot_on, slots_insert, bucket_below, same_node, next_of_place}, Traces.NodeBits.{on_insert_other}}
+use Rattle.lz_list.proofs.{Traces.WalkEnd.{on_insert}, Changes.{CheckedPlace.{place_between}, ChainMove.{Moved, moved_sorted, members_stay, frame_moved}}}
 use Rattle.lz_list.proofs.Tables.Redirect.{heads_redirect, links_redirect, keys_redirect, next_at_place, next_off_place, head_elsewhere, mark_stays}
 
 -- a place before a key is one of the table

@@ -1,20 +1,13 @@
 -- A node is unlinked from the place that leads to it.
 use Rattle.std.proofs.Common.{◌≡◌, ◌≢◌, ℕ, suc, ◌<◌, ◌^◌, true, length, refl, sym, ap, ◌∙◌, subst, arith}
 use mathlib.Core.Bool.{false≢true}
-use Rattle.lz_list.specs.declared.place.Place.{Place}
-use Rattle.lz_list.specs.declared.place.Place.TheVariants.{Node}
-use Rattle.lz_list.specs.declared.word.Word.TheVariants.{Key, Link}
-use Rattle.lz_list.specs.Words.{Words, get, redirect, place_number, next_at}
-use Rattle.lz_list.specs.Traces.{without, on, Adjacent, bucket_of}
+use Rattle.lz_list.specs.declared.{place.Place.{Place, TheVariants.{Node}}, word.Word.TheVariants.{Key, Link}}
+use Rattle.lz_list.specs.{Words.{Words, get, redirect, place_number, next_at}, Traces.{without, on, Adjacent, bucket_of}}
 use Rattle.lz_list.specs.Lists.{next_in, home, ShowsChain, IsSorted, IsNodeIn, IsMember, IsTable, IsPlace, IsWord, MayUnlinkAt, OthersStay}
-use Rattle.lz_list.proofs.Chains.PlaceRank.{adjacent, adjacent_next, next_is_above, has_on, shows_without}
-use Rattle.lz_list.proofs.Chains.TraceChain.{within_without}
-use Rattle.lz_list.proofs.Traces.NodeBits.{on_without, none_without}
-use Rattle.lz_list.proofs.Changes.CheckedPlace.{place_to}
-use Rattle.lz_list.proofs.Chains.SortedChain.{slot_on, slots_without, on_without_other, node_on, next_of_place}
-use Rattle.lz_list.proofs.Changes.ChainMove.{Moved, moved_sorted, members_stay}
+use Rattle.lz_list.proofs.Chains.{PlaceRank.{adjacent, adjacent_next, next_is_above, has_on, shows_without}, TraceChain.{within_without}}
+use Rattle.lz_list.proofs.{Chains.SortedChain.{slot_on, slots_without, on_without_other, node_on, next_of_place}, Traces.NodeBits.{on_without, none_without}}
+use Rattle.lz_list.proofs.Changes.{CheckedPlace.{place_to}, ChainMove.{Moved, moved_sorted, members_stay}, NodeLink.{place_in, shown_there, moved_there}}
 use Rattle.lz_list.proofs.Tables.Redirect.{heads_redirect, next_at_place, next_off_place}
-use Rattle.lz_list.proofs.Changes.NodeLink.{place_in, shown_there, moved_there}
 
 module _ (w : Words) (pred : Place) (s : ℕ) (table : IsTable w) (sorted : IsSorted w) (may : MayUnlinkAt w pred s) where
   abbrev key : ℕ

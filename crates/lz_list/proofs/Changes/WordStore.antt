@@ -1,14 +1,10 @@
 -- A word is stored: one that changes no chain, or the mark of a node.
 use Rattle.std.proofs.Common.{◌≡◌, ◌≢◌, ℕ, suc, ◌<◌, true, length, refl, sym, ap, subst, arith, length-set, get_or-set_same, get_or-set_other}
 use Rattle.std.proofs.lemmas.Bool.Decides.{nat_tests}
-use Rattle.lz_list.specs.declared.place.Place.TheVariants.{Node}
-use Rattle.lz_list.specs.declared.word.Word.{Word}
-use Rattle.lz_list.specs.declared.word.Word.TheVariants.{Key}
-use Rattle.lz_list.specs.Words.{Words, get, set, is_marked_at, change_flags, marked_flags}
-use Rattle.lz_list.specs.Traces.{Chain, on}
+use Rattle.lz_list.specs.declared.{place.Place.TheVariants.{Node}, word.Word.{Word, TheVariants.{Key}}}
+use Rattle.lz_list.specs.{Words.{Words, get, set, is_marked_at, change_flags, marked_flags}, Traces.{Chain, on}}
 use Rattle.lz_list.specs.Lists.{next_in, home, ShowsChain, IsSorted, IsNodeOf, IsNodeIn, IsMember, IsTable, IsWord, KeepsList, AllStay, OthersStay}
-use Rattle.lz_list.proofs.Chains.SortedChain.{node_home, same_node}
-use Rattle.lz_list.proofs.Changes.ChainMove.{Moved, moved_sorted, members_stay, frame_shown, frame_moved}
+use Rattle.lz_list.proofs.{Chains.SortedChain.{node_home, same_node}, Changes.ChainMove.{Moved, moved_sorted, members_stay, frame_shown, frame_moved}}
 
 -- a node of a bucket's chain stands in the bucket of its key
 linked : (w : Words) (b : ℕ) (c : Chain) → ShowsChain w b c → (t : ℕ) → on 0 c (suc t) ≡ true → IsNodeOf w (get w (Key t)) t

@@ -1,14 +1,8 @@
 -- A chain is looked for along a bucket's links.
 use Rattle.std.proofs.Common.{◌≡◌, ◌↔◌, IsTrue, ◌==◌, ℕ, zero, suc, ◌<◌, true, [], ◌∷◌, length, refl, sym, ◌∙◌, subst, arith}
-use Rattle.lz_list.specs.declared.place.Place.{Place}
-use Rattle.lz_list.specs.declared.place.Place.TheVariants.{Bucket, Node}
-use Rattle.lz_list.specs.declared.word.Word.TheVariants.{Key}
-use Rattle.lz_list.specs.Words.{Words, get, next_at, place_number}
-use Rattle.lz_list.specs.Traces.{Chain, on, WordsShow, Adjacent, KeysBelong}
-use Rattle.lz_list.specs.Lists.{next_in, AreSlots, ShowsChain, IsPlace, IsOfBucket, Follows}
-use Rattle.lz_list.proofs.Chains.PlaceRank.{on_start, adjacent, adjacent_next}
-use Rattle.lz_list.proofs.Chains.TraceChain.{bucket_on}
-use Rattle.lz_list.proofs.Chains.SortedChain.{slot_on, next_of_place}
+use Rattle.lz_list.specs.{declared.{place.Place.{Place, TheVariants.{Bucket, Node}}, word.Word.TheVariants.{Key}}, Words.{Words, get, next_at, place_number}}
+use Rattle.lz_list.specs.{Traces.{Chain, on, WordsShow, Adjacent, KeysBelong}, Lists.{next_in, AreSlots, ShowsChain, IsPlace, IsOfBucket, Follows}}
+use Rattle.lz_list.proofs.Chains.{PlaceRank.{on_start, adjacent, adjacent_next}, TraceChain.{bucket_on}, SortedChain.{slot_on, next_of_place}}
 use Rattle.lz_list.proofs.Searches.KeySearch.{next_rank}
 
 -- the words of bucket b show this chain from place x on

@@ -1,13 +1,10 @@
 -- A key is looked for along its bucket.
 use Rattle.std.proofs.Common.{◌≡◌, ◌≢◌, ◌⊎◌, ◌↔◌, IsTrue, not, inl, inr, ℕ, zero, suc, ◌<◌, ◌≤◌, true, [], ◌∷◌, length, refl, sym, ap, ◌∙◌, subst, arith}
-use mathlib.Core.Bool.{false≢true}
 use Rattle.std.proofs.lemmas.Bool.{cases_Bool}
+use mathlib.Core.Bool.{false≢true}
 use Rattle.lz_slot.specs.Limits.{most_slots}
-use Rattle.lz_list.specs.declared.place.Place.{Place}
-use Rattle.lz_list.specs.declared.place.Place.TheVariants.{Bucket, Node}
-use Rattle.lz_list.specs.declared.word.Word.TheVariants.{Key}
-use Rattle.lz_list.specs.Words.{Words, get, next_at, place_number, is_marked_at}
-use Rattle.lz_list.specs.Traces.{Chain, on, rank_at, WordsShow, Adjacent}
+use Rattle.lz_list.specs.declared.{place.Place.{Place, TheVariants.{Bucket, Node}}, word.Word.TheVariants.{Key}}
+use Rattle.lz_list.specs.{Words.{Words, get, next_at, place_number, is_marked_at}, Traces.{Chain, on, rank_at, WordsShow, Adjacent}}
 use Rattle.lz_list.specs.Lists.{next_in, home, IsSorted, IsNodeOf, IsMember, IsTable, IsPredecessor, IsBelow}
 use Rattle.lz_list.proofs.Chains.PlaceRank.{on_start, adjacent, adjacent_next, adjacent_none, has_on}
 use Rattle.lz_list.proofs.Chains.SortedChain.{slot_on, bucket_below, node_on, same_node, next_of_place}

@@ -1,11 +1,7 @@
 -- Each word has a place of its own in the row of all words.
-use Rattle.std.proofs.Common.{◌≡◌, ◌≢◌, ℕ, ◌+◌, ◌-◌, ◌<◌, ◌≤◌, ◌==◌, sym, ap, ◌∙◌, arith, ne_eqb}
-use Rattle.std.specs.Prelude.{nat_lt, if◌then◌else◌}
-use Rattle.std.proofs.lemmas.Bool.{eq-eqb, le-ltb, lt-ltb}
-use Rattle.std.proofs.lemmas.Bool.Decides.{leb_tells, eqb_tells}
-use Rattle.lz_list.specs.declared.word.Word.{Word}
-use Rattle.lz_list.specs.declared.word.Word.TheVariants.{Head, Link, Key, Pin, Halt}
-use Rattle.lz_list.specs.declared.layout.Sizes.{Sizes}
+use Rattle.std.proofs.{Common.{◌≡◌, ◌≢◌, ℕ, ◌+◌, ◌-◌, ◌<◌, ◌≤◌, ◌==◌, sym, ap, ◌∙◌, arith, ne_eqb}, lemmas.Bool.{eq-eqb, le-ltb, lt-ltb}}
+use Rattle.std.{proofs.lemmas.Bool.Decides.{leb_tells, eqb_tells}, specs.Prelude.{nat_lt, if◌then◌else◌}}
+use Rattle.lz_list.specs.declared.{word.Word.{Word, TheVariants.{Head, Link, Key, Pin, Halt}}, layout.Sizes.{Sizes}}
 use Rattle.lz_list.specs.Addresses.{index, word_at, words_count, HasPlace}
 
 pub in_range : (z : Sizes) (w : Word) → HasPlace z w → index z w < words_count z

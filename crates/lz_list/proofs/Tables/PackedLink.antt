@@ -1,7 +1,6 @@
 -- A link word gives back what was put into it.
 use Rattle.std.proofs.Common.{◌≡◌, ℕ, ◌^◌, ◌<◌, arith}
-use Rattle.lz_list.specs.declared.flags.Flags.{Flags}
-use Rattle.lz_list.specs.Words.{link_with, next_of, flags_of}
+use Rattle.lz_list.specs.{declared.flags.Flags.{Flags}, Words.{link_with, next_of, flags_of}}
 
 -- a link word without flags is its number
 pub small_next : (x : ℕ) → x < 2 ^ 32 → next_of x ≡ x

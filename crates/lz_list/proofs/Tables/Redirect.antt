@@ -1,8 +1,6 @@
 -- What redirecting a place changes.
 use Rattle.std.proofs.Common.{◌≡◌, ◌≢◌, ℕ, ◌<◌, ◌^◌, length, arith, get_or-set_other, get_or-set_same, length-set}
-use Rattle.lz_list.specs.declared.place.Place.{Place}
-use Rattle.lz_list.specs.declared.place.Place.TheVariants.{Node}
-use Rattle.lz_list.specs.Words.{Words, redirect, place_number, is_marked_at}
+use Rattle.lz_list.specs.{declared.place.Place.{Place, TheVariants.{Node}}, Words.{Words, redirect, place_number, is_marked_at}}
 use Rattle.lz_list.specs.Lists.{next_in, IsPlace, IsOfBucket, IsTable}
 
 module _ (w : Words) (n : ℕ) where

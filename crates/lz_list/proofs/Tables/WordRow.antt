@@ -1,16 +1,10 @@
 -- The words of a row: each is what stands at its place, at first and after a store.
-use Rattle.std.proofs.Common.{◌≡◌, ◌≢◌, ℕ, zero, suc, ◌<◌, List, [], ◌∷◌, ◌++◌, length, refl, sym, ap, ◌∙◌, subst, arith, get_or-set_other, get_or-set_same, length-set, ext_get_or}
-use Rattle.std.specs.Prelude.{replicate, slice_index, slice_set}
-use Rattle.lz_list.specs.declared.word.Word.{Word}
-use Rattle.lz_list.specs.declared.word.Word.TheVariants.{Head, Link, Key, Pin, Halt}
-use Rattle.lz_list.specs.declared.layout.Sizes.{Sizes}
 use Rattle.lz_list.specs.Words as words
-use Rattle.lz_list.specs.Words.{Words, get}
-use Rattle.lz_list.specs.Traces.{table}
-use Rattle.lz_list.specs.Lists.{IsTable, IsWord, new_words}
-use Rattle.lz_list.specs.Addresses.{index, sizes_in, word_at, words_count, row_of, words_in, HasPlace, IsAtRest, IsRow}
-use Rattle.lz_list.proofs.Tables.WordTable.{length-table, table_at, table_set}
-use Rattle.lz_list.proofs.Tables.Address.{encode, in_range, places_apart}
+use Rattle.std.proofs.Common.{◌≡◌, ◌≢◌, ℕ, zero, suc, ◌<◌, List, [], ◌∷◌, ◌++◌, length, refl, sym, ap, ◌∙◌, subst, arith, get_or-set_other, get_or-set_same}
+use Rattle.std.{proofs.Common.{length-set, ext_get_or}, specs.Prelude.{replicate, slice_index, slice_set}}
+use Rattle.lz_list.specs.{declared.{word.Word.{Word, TheVariants.{Head, Link, Key, Pin, Halt}}, layout.Sizes.{Sizes}}, Words.{Words, get}, Traces.{table}}
+use Rattle.lz_list.specs.{Lists.{IsTable, IsWord, new_words}, Addresses.{index, sizes_in, word_at, words_count, row_of, words_in, HasPlace, IsAtRest, IsRow}}
+use Rattle.lz_list.proofs.Tables.{WordTable.{length-table, table_at, table_set}, Address.{encode, in_range, places_apart}}
 
 -- a table of one number
 pub table_of : (n x : ℕ) → replicate n x ≡ table n (λ i. x)

@@ -1,9 +1,8 @@
 -- A key between two places that stand next to each other is absent, and its absence is settled.
 use Rattle.std.proofs.Common.{◌≡◌, ◌≢◌, ◌⊎◌, inl, ℕ, suc, ◌<◌, ◌≤◌, true, false, ◌==◌, ◌||◌, [], ◌∷◌, refl, arith}
-use Rattle.lz_list.specs.declared.publishing.Publishing.TheVariants.{Linked as linked, Unlinked as unlinked}
-use Rattle.lz_list.specs.Traces.{Trace, Begins, Chain, insert, without, has_key, rank_at, Adjacent, chain_of, key_word, member, linking, is_removed, MayUnlink, Lawful, SettledNo}
-use Rattle.lz_list.proofs.Chains.PlaceRank.{adjacent_none}
-use Rattle.lz_list.proofs.Chains.TraceChain.{words_show_chain}
+use Rattle.lz_list.specs.{declared.publishing.Publishing.TheVariants.{Linked as linked, Unlinked as unlinked}, Traces.{Trace, Begins, Chain, insert, without}}
+use Rattle.lz_list.specs.Traces.{has_key, rank_at, Adjacent, chain_of, key_word, member, linking, is_removed, MayUnlink, Lawful, SettledNo}
+use Rattle.lz_list.proofs.Chains.{PlaceRank.{adjacent_none}, TraceChain.{words_show_chain}}
 
 pub begins_itself : (P : Trace) → Begins P P
 begins_itself [] = refl

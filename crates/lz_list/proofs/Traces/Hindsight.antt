@@ -1,12 +1,10 @@
 -- What a walker read of a node that was taken out was so in a state since it was pinned.
 use Rattle.std.proofs.Common.{◌≡◌, ◌≢◌, ◌⊎◌, inl, inr, ℕ, zero, suc, ◌<◌, ◌≤◌, Bool, true, false, [], ◌∷◌, refl, sym, ap, ◌∙◌, subst, arith}
 use Rattle.std.proofs.lemmas.Bool.Decides.{nat_tests}
-use Rattle.lz_list.specs.declared.publishing.Publishing.{Publishing}
-use Rattle.lz_list.specs.Traces.{Trace, Begins, Chain, insert, without, on, place_before, rank_at, Adjacent, bucket_of, chain, chain_of, place_of, key_word, node_next, next_link, Lawful, SettledNo}
-use Rattle.lz_list.specs.Pinned.{Once, Stood, IsKept, IsQuiet}
-use Rattle.lz_list.proofs.Chains.PlaceRank.{before_on, on_start, adjacent, adjacent_on, adjacent_next}
-use Rattle.lz_list.proofs.Chains.TraceChain.{bucket_on, words_show_chain}
-use Rattle.lz_list.proofs.Traces.Absence.{adjacent_is_absent}
+use Rattle.lz_list.specs.{declared.publishing.Publishing.{Publishing}, Traces.{Trace, Begins, Chain, insert, without, on, place_before, rank_at, Adjacent}}
+use Rattle.lz_list.specs.Traces.{bucket_of, chain, chain_of, place_of, key_word, node_next, next_link, Lawful, SettledNo}
+use Rattle.lz_list.{specs.Pinned.{Once, Stood, IsKept, IsQuiet}, proofs.Chains.PlaceRank.{before_on, on_start, adjacent, adjacent_on, adjacent_next}}
+use Rattle.lz_list.proofs.{Chains.TraceChain.{bucket_on, words_show_chain}, Traces.Absence.{adjacent_is_absent}}
 
 -- the place before k stays when k is put in or taken out
 before_insert : (k s x : ℕ) (c : Chain) → on x (insert k s c) (place_before k x c) ≡ true

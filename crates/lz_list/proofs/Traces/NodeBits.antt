@@ -1,11 +1,9 @@
 -- A node's bits tell whether its key is a member, and whether its last change is settled.
 use Rattle.std.proofs.Common.{◌≡◌, ◌≢◌, inl, inr, ℕ, suc, ◌<◌, ◌≤◌, true, false, not, ◌==◌, [], ◌∷◌, length, refl, sym, ap, ◌∙◌, subst, arith}
-use Rattle.std.proofs.lemmas.Bool.{cases_eq}
-use Rattle.std.proofs.lemmas.Bool.Decides.{nat_tests}
-use Rattle.lz_list.specs.declared.publishing.Publishing.TheVariants.{Linked as linked}
-use Rattle.lz_list.specs.Traces.{Trace, Chain, insert, without, has_key, on, rank_at, WordsShow, chain_of, key_word, linking, linking_in, is_settled, is_removed, MayLink, Lawful, IsNode}
-use Rattle.lz_list.proofs.Chains.PlaceRank.{apart, rank_on, no_key_below, has_on}
-use Rattle.lz_list.proofs.Chains.TraceChain.{words_show_chain}
+use Rattle.std.proofs.lemmas.Bool.{cases_eq, Decides.{nat_tests}}
+use Rattle.lz_list.specs.{declared.publishing.Publishing.TheVariants.{Linked as linked}, Traces.{Trace, Chain, insert, without, has_key, on, rank_at}}
+use Rattle.lz_list.specs.Traces.{WordsShow, chain_of, key_word, linking, linking_in, is_settled, is_removed, MayLink, Lawful, IsNode}
+use Rattle.lz_list.proofs.Chains.{PlaceRank.{apart, rank_on, no_key_below, has_on}, TraceChain.{words_show_chain}}
 
 on_skip : (x y : ℕ) (n : ℕ × ℕ) (c : Chain) → on x c y ≡ true → on x (n ∷ c) y ≡ true
 on_skip x y n [] there = grind arith

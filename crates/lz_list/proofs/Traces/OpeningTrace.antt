@@ -1,11 +1,8 @@
 -- What an open found is a lawful trace, whose members are the keys found, each settled.
-use Rattle.std.proofs.Common.{◌≡◌, inl, inr, ℕ, suc, true, false, [], ◌∷◌, refl, sym, ◌∙◌, arith}
+use Rattle.std.proofs.{Common.{◌≡◌, inl, inr, ℕ, suc, true, false, [], ◌∷◌, refl, sym, ◌∙◌, arith}, lemmas.Bool.{cases_Bool, Decides.{nat_tests}}}
 use mathlib.Core.Bool.{false≢true}
-use Rattle.std.proofs.lemmas.Bool.{cases_Bool}
-use Rattle.std.proofs.lemmas.Bool.Decides.{nat_tests}
 use Rattle.lz_list.specs.Traces.{Chain, has_key, has_slot, on, chain, member, linking, is_settled, halt_word, Lawful, SettledYes, opening, IsFound}
-use Rattle.lz_list.proofs.Traces.Absence.{has_insert, begins_itself}
-use Rattle.lz_list.proofs.Traces.NodeBits.{on_insert_other}
+use Rattle.lz_list.proofs.Traces.{Absence.{has_insert, begins_itself}, NodeBits.{on_insert_other}}
 
 module _ (buckets : ℕ) where
   none_key : (k b : ℕ) (found : Chain) → has_key k found ≡ false → has_key k (chain buckets b (opening buckets found)) ≡ false

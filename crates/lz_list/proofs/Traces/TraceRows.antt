@@ -1,11 +1,9 @@
 -- Worked rows of traces: one bucket, one key added, settled and taken out again.
 use Rattle.std.proofs.Common.{◌≡◌, ℕ, ◌^◌, ◌+◌, [], ◌∷◌, List, refl, inl, inr, arith}
-use Rattle.lz_list.specs.declared.publishing.Change.TheVariants.{Added, Removed}
-use Rattle.lz_list.specs.declared.publishing.Publishing.TheVariants.{Linked as linked, Marked as marked, Unlinked as unlinked, Settled as settled, KeyPrepared as key_prepared, LinkPrepared as link_prepared}
-use Rattle.lz_list.specs.declared.place.Place.TheVariants.{Node}
-use Rattle.lz_list.specs.Words.{Words, redirect}
-use Rattle.lz_list.specs.Lists.{MayLinkAt, MayUnlinkAt}
-use Rattle.lz_list.specs.Traces.{Trace, Lawful, bucket_of, SettledYes, SettledNo, words_of_trace, opening, keys_shown}
+use Rattle.lz_list.specs.declared.publishing.{Change.TheVariants.{Added, Removed}, Publishing.TheVariants.{Linked as linked, Marked as marked}}
+use Rattle.lz_list.specs.declared.publishing.Publishing.TheVariants.{Unlinked as unlinked, Settled as settled, KeyPrepared as key_prepared}
+use Rattle.lz_list.specs.{declared.{publishing.Publishing.TheVariants.{LinkPrepared as link_prepared}, place.Place.TheVariants.{Node}}, Words.{Words, redirect}}
+use Rattle.lz_list.specs.{Lists.{MayLinkAt, MayUnlinkAt}, Traces.{Trace, Lawful, bucket_of, SettledYes, SettledNo, words_of_trace, opening, keys_shown}}
 
 abbrev one_key : Trace
 one_key = settled 0 Added ∷ linked 5 0 1 ∷ link_prepared 0 0 ∷ key_prepared 0 5 ∷ []

@@ -1,24 +1,15 @@
 -- After a lawful trace the table of words is sorted, and has the trace's members.
 use Rattle.std.proofs.Common.{◌≡◌, ◌↔◌, inl, inr, ℕ, zero, suc, ◌<◌, ◌≤◌, ◌^◌, Bool, true, false, not, List, [], ◌∷◌, length, refl, sym, ap, ◌∙◌, subst, arith}
+use Rattle.std.{proofs.lemmas.Bool.{cases_eq, cases_Bool, Decides.{nat_tests}}, specs.Prelude.{◌==◌, if◌then◌else◌, slice_index}}
 use mathlib.Core.Bool.{false≢true}
-use Rattle.std.proofs.lemmas.Bool.{cases_eq, cases_Bool}
-use Rattle.std.proofs.lemmas.Bool.Decides.{nat_tests}
-use Rattle.std.specs.Prelude.{◌==◌, if◌then◌else◌}
 use Rattle.lz_slot.specs.Limits.{most_slots}
-use Rattle.std.specs.Prelude.{slice_index}
-use Rattle.lz_list.specs.declared.place.Place.TheVariants.{Node}
-use Rattle.lz_list.specs.declared.word.Word.TheVariants.{Head, Link, Key}
-use Rattle.lz_list.specs.Words.{Words, get, is_marked_at, link_with, flags_of}
-use Rattle.lz_list.specs.Traces.{Trace, Chain, on, rank_at, WordsShow, has_key, KeysBelong, Lawful, chain, bucket_of, next_link, node_next, key_word, is_marked, member, flags_after, word_after, words_of_trace, table}
-use Rattle.lz_list.specs.Lists.{next_in, home, AreSlots, ShowsChain, IsSorted, IsMember, IsMemberIn, IsNodeIn, IsTable}
-use Rattle.lz_list.specs.Members.{key_changes}
-use Rattle.lz_list.proofs.Chains.PlaceRank.{adjacent, adjacent_next, shows_frame, shows_keys, on_start}
-use Rattle.lz_list.proofs.Chains.TraceChain.{words_show_chain}
-use Rattle.lz_list.proofs.Traces.NodeBits.{node}
-use Rattle.lz_list.proofs.Traces.Absence.{unlinked_is_settled}
-use Rattle.lz_list.proofs.Tables.WordTable.{table_at, length-table}
-use Rattle.lz_list.proofs.Tables.PackedLink.{mark_of_link}
-use Rattle.lz_list.proofs.Chains.SortedChain.{slot_on, slots_insert, slots_without, bucket_below, node_on, node_home}
+use Rattle.lz_list.specs.declared.{place.Place.TheVariants.{Node}, word.Word.TheVariants.{Head, Link, Key}}
+use Rattle.lz_list.specs.{Words.{Words, get, is_marked_at, link_with, flags_of}, Traces.{Trace, Chain, on, rank_at, WordsShow, has_key, KeysBelong, Lawful}}
+use Rattle.lz_list.specs.Traces.{chain, bucket_of, next_link, node_next, key_word, is_marked, member, flags_after, word_after, words_of_trace, table}
+use Rattle.lz_list.specs.{Lists.{next_in, home, AreSlots, ShowsChain, IsSorted, IsMember, IsMemberIn, IsNodeIn, IsTable}, Members.{key_changes}}
+use Rattle.lz_list.proofs.Chains.{PlaceRank.{adjacent, adjacent_next, shows_frame, shows_keys, on_start}, TraceChain.{words_show_chain}}
+use Rattle.lz_list.proofs.{Chains.SortedChain.{slot_on, slots_insert, slots_without, bucket_below, node_on, node_home}, Traces.NodeBits.{node}}
+use Rattle.lz_list.proofs.{Traces.Absence.{unlinked_is_settled}, Tables.{WordTable.{table_at, length-table}, PackedLink.{mark_of_link}}}
 
 module _ (buckets slots b : ℕ) where
   pub chain_slots : (P : Trace) → Lawful buckets slots P → AreSlots slots (chain buckets b P)

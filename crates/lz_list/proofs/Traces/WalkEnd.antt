@@ -1,16 +1,11 @@
 -- What a walker knows of the node on which its walk ended.
-use Rattle.std.proofs.Common.{◌≡◌, ◌≢◌, ◌⊎◌, ⊎_elim, inl, inr, ℕ, suc, true, false, not, [], ◌∷◌, sym, ap, ◌∙◌, subst, arith}
-use mathlib.Core.Bool.{false≢true}
-use Rattle.std.proofs.lemmas.Bool.{cases_Bool}
+use Rattle.std.proofs.{Common.{◌≡◌, ◌≢◌, ◌⊎◌, ⊎_elim, inl, inr, ℕ, suc, true, false, not, [], ◌∷◌, sym, ap, ◌∙◌, subst, arith}, lemmas.Bool.{cases_Bool}}
 use Rattle.std.proofs.lemmas.Bool.Decides.{nat_tests}
-use Rattle.lz_list.specs.declared.publishing.Publishing.{Publishing}
-use Rattle.lz_list.specs.Traces.{Trace, Begins, Chain, insert, without, on, WordsShow, bucket_of, chain_of, key_word, member, linking, linking_in, is_settled, is_removed, is_marked, has_added, has_removed, Lawful, IsNode, SettledYes, SettledNo}
-use Rattle.lz_list.specs.Pinned.{Once, Stood, IsKept, IsQuiet}
-use Rattle.lz_list.proofs.Chains.PlaceRank.{on_start}
-use Rattle.lz_list.proofs.Chains.TraceChain.{words_show_chain}
-use Rattle.lz_list.proofs.Traces.Absence.{begins_itself}
-use Rattle.lz_list.proofs.Traces.Hindsight.{once_begins, once_from, once_weaker, key_stays, stood_bucket}
-use Rattle.lz_list.proofs.Traces.NodeBits.{node}
+use mathlib.Core.Bool.{false≢true}
+use Rattle.lz_list.specs.{declared.publishing.Publishing.{Publishing}, Traces.{Trace, Begins, Chain, insert, without, on, WordsShow, bucket_of, chain_of}}
+use Rattle.lz_list.specs.Traces.{key_word, member, linking, linking_in, is_settled, is_removed, is_marked, has_added, has_removed, Lawful, IsNode, SettledYes}
+use Rattle.lz_list.{specs.{Traces.{SettledNo}, Pinned.{Once, Stood, IsKept, IsQuiet}}, proofs.Chains.{PlaceRank.{on_start}, TraceChain.{words_show_chain}}}
+use Rattle.lz_list.proofs.Traces.{Absence.{begins_itself}, Hindsight.{once_begins, once_from, once_weaker, key_stays, stood_bucket}, NodeBits.{node}}
 
 pub on_insert : (k s x y : ℕ) (c : Chain) → on x c y ≡ true → on x (insert k s c) y ≡ true
 on_insert k s x y [] there = grind arith

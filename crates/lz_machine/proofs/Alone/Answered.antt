@@ -1,22 +1,12 @@
 -- What a call of one actor alone has answered, and what a call that was cut off leaves.
 use Rattle.std.proofs.Common.{◌≡◌, ℕ, suc, ◌<◌, true, false, List, [], ◌∷◌, Option, refl, arith}
-use Rattle.lz_slot.specs.declared.command.Command.{Command}
-use Rattle.lz_slot.specs.declared.history.Mark.TheVariants.{Call}
-use Rattle.lz_slot.specs.declared.history.Cut.TheVariants.{Halted as cut_halted, Device as cut_device}
-use Rattle.lz_slot.specs.Sets.{Keys}
-use Rattle.lz_slot.specs.Bytes.{Holds}
-use Rattle.lz_slot.specs.Histories.{History, Life, Fits, lives}
+use Rattle.lz_slot.specs.declared.{command.Command.{Command}, history.{Mark.TheVariants.{Call}, Cut.TheVariants.{Halted as cut_halted, Device as cut_device}}}
+use Rattle.lz_slot.specs.{Sets.{Keys}, Bytes.{Holds}, Histories.{History, Life, Fits, lives}}
 use Rattle.lz_list.specs.Traces.{Trace, halt_word}
-use Rattle.lz_machine.specs.declared.event.Reply.{Reply}
-use Rattle.lz_machine.specs.declared.event.Reply.TheVariants.{Yes, Halted, Device}
-use Rattle.lz_machine.specs.declared.caller.Progress.TheVariants.{Answering}
-use Rattle.lz_machine.specs.Runs.{Start, State, Up, Down, Point, MayLeave, mark_of, start_keys}
-use Rattle.lz_machine.specs.CallersSound.{View, Relies}
-use Rattle.lz_machine.specs.Sound.{IsSound}
-use Rattle.lz_machine.specs.Alone.{has_cut, IsPlain, ArePlain}
-use Rattle.lz_machine.proofs.Crash.Leftovers.{IsLeft, may_leave_has}
-use Rattle.lz_machine.proofs.Alone.Service.{Ended, IsEnd, served, served_cut}
-use Rattle.lz_machine.proofs.Alone.Run.{IsHalting, AloneUp}
+use Rattle.lz_machine.specs.declared.{event.Reply.{Reply, TheVariants.{Yes, Halted, Device}}, caller.Progress.TheVariants.{Answering}}
+use Rattle.lz_machine.specs.{Runs.{Start, State, Up, Down, Point, MayLeave, mark_of, start_keys}, CallersSound.{View, Relies}, Sound.{IsSound}}
+use Rattle.lz_machine.{specs.Alone.{has_cut, IsPlain, ArePlain}, proofs.Crash.Leftovers.{IsLeft, may_leave_has}}
+use Rattle.lz_machine.proofs.Alone.{Service.{Ended, IsEnd, served, served_cut}, Run.{IsHalting, AloneUp}}
 
 -- a text holds a set to which the life leads
 abbrev pub HasSet : ℕ → Life → List ℕ → Type 0

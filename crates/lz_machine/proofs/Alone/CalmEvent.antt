@@ -2,17 +2,10 @@
 use Rattle.std.proofs.Common.{◌≡◌, ℕ, Bool, true, false, Option, arith}
 use mathlib.Core.Bool.{false≢true}
 use Rattle.lz_slot.specs.declared.command.Command.{Command}
-use Rattle.lz_list.specs.Words.{Words}
-use Rattle.lz_list.specs.Traces.{Trace}
-use Rattle.lz_machine.specs.declared.event.Event.{Event}
-use Rattle.lz_machine.specs.declared.caller.Sequence.{Sequence}
-use Rattle.lz_machine.specs.declared.caller.Sequence.TheVariants.{Adding, Removing}
-use Rattle.lz_machine.specs.declared.caller.Progress.TheVariants.{Playing}
-use Rattle.lz_machine.specs.Yards.{Yard}
-use Rattle.lz_machine.specs.Calls.{event_of, loaded, goes_on}
-use Rattle.lz_machine.specs.CallersSound.{View, ReliesOn}
-use Rattle.lz_machine.proofs.Alone.Frame.{is_use_event, is_opening_event}
-use Rattle.lz_machine.proofs.Alone.Full.{WalkStands, AddsTo}
+use Rattle.lz_list.specs.{Words.{Words}, Traces.{Trace}}
+use Rattle.lz_machine.specs.declared.{event.Event.{Event}, caller.{Sequence.{Sequence, TheVariants.{Adding, Removing}}, Progress.TheVariants.{Playing}}}
+use Rattle.lz_machine.specs.{Yards.{Yard}, Calls.{event_of, loaded, goes_on}, CallersSound.{View, ReliesOn}}
+use Rattle.lz_machine.proofs.Alone.{Frame.{is_use_event, is_opening_event}, Full.{WalkStands, AddsTo}}
 
 -- what a sequence leads to
 pub sequence_goes : (y : Yard) (Q : Trace) (v : View) (c : Command) (sequence : Sequence) (i : ℕ) (P0 P : Trace) (changed : Option ℕ) → ReliesOn v c sequence i P0 P changed → WalkStands y Q (goes_on sequence) c

@@ -1,44 +1,25 @@
 -- Where one actor is alone, each text that a crash may leave holds a set that its calls lead to.
-use Rattle.std.proofs.Common.{◌≡◌, ◌≢◌, inl, inr, ℕ, suc, ◌≤◌, Bool, true, false, List, [], ◌∷◌, ◌++◌, length, Option, Some, None, refl, sym, ap, ◌∙◌, subst, arith}
-use Rattle.std.proofs.lemmas.Bool.{cases_Bool}
-use Rattle.std.proofs.lemmas.Option.{none-some}
-use Rattle.lz_slot.specs.declared.command.Command.{Command}
-use Rattle.lz_slot.specs.declared.history.Mark.{Mark}
-use Rattle.lz_slot.specs.declared.history.Mark.TheVariants.{Call}
-use Rattle.lz_slot.specs.Sets.{Keys, members}
-use Rattle.lz_slot.specs.Bytes.{Holds}
-use Rattle.lz_slot.specs.Counted.{set_of_pass}
-use Rattle.lz_slot.specs.Histories.{History, Life, Fits, lives, with_mark}
-use Rattle.lz_slot.proofs.Counted.{of_pass_same, of_pass_other}
+use Rattle.std.proofs.Common.{◌≡◌, ◌≢◌, inl, inr, ℕ, suc, ◌≤◌, Bool, true, false, List, [], ◌∷◌, ◌++◌, length, Option, Some, None, refl, sym, ap, ◌∙◌, subst}
+use Rattle.std.proofs.{Common.{arith}, lemmas.{Bool.{cases_Bool}, Option.{none-some}}}
+use Rattle.lz_slot.specs.{declared.{command.Command.{Command}, history.Mark.{Mark, TheVariants.{Call}}}, Sets.{Keys, members}, Bytes.{Holds}}
+use Rattle.lz_slot.{specs.{Counted.{set_of_pass}, Histories.{History, Life, Fits, lives, with_mark}}, proofs.Counted.{of_pass_same, of_pass_other}}
 use Rattle.lz_disk.specs.Images.{Medium, IsImage, at_rest}
 use Rattle.lz_vault.specs.Vaults.{DeviceCall, NoCall, medium_after, MayFail}
 use Rattle.lz_list.specs.Traces.{Trace}
-use Rattle.lz_machine.specs.declared.event.Event.{Event}
-use Rattle.lz_machine.specs.declared.event.Event.TheVariants.{Answer}
-use Rattle.lz_machine.specs.declared.event.Outcome.{Outcome}
-use Rattle.lz_machine.specs.declared.event.Reply.{Reply}
-use Rattle.lz_machine.specs.declared.caller.Progress.{Progress}
-use Rattle.lz_machine.specs.declared.caller.Progress.TheVariants.{Answering}
-use Rattle.lz_machine.specs.Yards.{Shape, Yard, actor_at, pin_in}
-use Rattle.lz_machine.specs.Table.{course, line, line_call, line_failed, is_old}
-use Rattle.lz_machine.specs.Calls.{progress_after, begun}
-use Rattle.lz_machine.specs.Runs.{Start, IsStart, Caller, Service, State, Up, Down, Transition, Calls, Turn, Fails, Looks, Trips, Stops, Crashes, CrashesIn, Opens, OpenFails, Point, MayStep, MayLeave, LeftInside, looked, HasTurn, HasFault, IsRun, run, first_point, point_after, caller_at, next_event, reply_at, moved_on, after_turn, after_fault, opened_service, marks_of_turn, mark_of_turn, mark_of, turn_publishes, start_keys, keys_found, IsActor, invoked}
-use Rattle.lz_machine.specs.CallersSound.{Relies, IsCaller, view_of}
-use Rattle.lz_machine.specs.Sound.{StateSound, HasList, PointSound, IsSound}
-use Rattle.lz_machine.specs.Alone.{IsOwn, IsAlone, has_cut, IsPlain, ArePlain, AloneIsPlain}
-use Rattle.lz_machine.proofs.Runs.PointParts.{point}
-use Rattle.lz_machine.proofs.Crash.Leftovers.{IsLeft}
-use Rattle.lz_machine.proofs.Crash.Down.{rest_image}
-use Rattle.lz_machine.proofs.Open.FirstPoint.{one_set, down_seen}
-use Rattle.lz_machine.proofs.Open.FoundSlots.{pass_of}
-use Rattle.lz_machine.proofs.Frames.OneActor.{caller_range}
-use Rattle.lz_machine.proofs.Runs.Shape.{line_keeps_shape}
-use Rattle.lz_machine.proofs.Theorem.Reached.{reached_sound}
-use Rattle.lz_machine.proofs.Alone.Service.{Ended, served_open, served_same}
-use Rattle.lz_machine.proofs.Alone.Run.{IsHalting, HasHalting, IsTold, AloneUp, IsQuietCall, answer_is_quiet, halting_quiet, only_images, turn_halted, answer_halt, begun_halting}
-use Rattle.lz_machine.proofs.Runs.CallerTable.{none_of, fault_no_reply}
-use Rattle.lz_machine.proofs.Steps.Point.{reply_lives}
+use Rattle.lz_machine.specs.declared.{event.{Event.{Event, TheVariants.{Answer}}, Outcome.{Outcome}, Reply.{Reply}}, caller.Progress.{Progress}}
+use Rattle.lz_machine.specs.{declared.caller.Progress.TheVariants.{Answering}, Yards.{Shape, Yard, actor_at, pin_in}}
+use Rattle.lz_machine.specs.{Table.{course, line, line_call, line_failed, is_old}, Calls.{progress_after, begun}, Runs.{Start, IsStart, Caller, Service, State}}
+use Rattle.lz_machine.specs.Runs.{Up, Down, Transition, Calls, Turn, Fails, Looks, Trips, Stops, Crashes, CrashesIn, Opens, OpenFails, Point, MayStep, MayLeave}
+use Rattle.lz_machine.specs.Runs.{LeftInside, looked, HasTurn, HasFault, IsRun, run, first_point, point_after, caller_at, next_event, reply_at, moved_on}
+use Rattle.lz_machine.specs.Runs.{after_turn, after_fault, opened_service, marks_of_turn, mark_of_turn, mark_of, turn_publishes, start_keys, keys_found}
+use Rattle.lz_machine.specs.{Runs.{IsActor, invoked}, CallersSound.{Relies, IsCaller, view_of}, Sound.{StateSound, HasList, PointSound, IsSound}}
+use Rattle.lz_machine.{specs.Alone.{IsOwn, IsAlone, has_cut, IsPlain, ArePlain, AloneIsPlain}, proofs.Runs.{PointParts.{point}, Shape.{line_keeps_shape}}}
+use Rattle.lz_machine.proofs.{Runs.CallerTable.{none_of, fault_no_reply}, Crash.{Leftovers.{IsLeft}, Down.{rest_image}}, Open.FirstPoint.{one_set, down_seen}}
+use Rattle.lz_machine.proofs.{Open.FoundSlots.{pass_of}, Frames.OneActor.{caller_range}, Theorem.Reached.{reached_sound}}
+use Rattle.lz_machine.proofs.Alone.{Service.{Ended, served_open, served_same}, Run.{IsHalting, HasHalting, IsTold, AloneUp, IsQuietCall, answer_is_quiet}}
+use Rattle.lz_machine.proofs.Alone.Run.{halting_quiet, only_images, turn_halted, answer_halt, begun_halting}
 use Rattle.lz_machine.proofs.Alone.Answered.{AloneAt, AloneLives, AloneState, HasSet, cut_word, left_at, reply_ends, served_halting, served_reply}
+use Rattle.lz_machine.proofs.Steps.Point.{reply_lives}
 
 -- From point to point the newest life goes on, by a mark or by none.
 module _ (start : Start) (a : ℕ) (p q : Point) where

@@ -1,34 +1,20 @@
 -- What an event leaves of the other actors, where one actor is alone, and of the slots whose gate isn't durable to be open.
-use Rattle.std.proofs.Common.{◌≡◌, ◌≢◌, ◌⊎◌, inl, inr, ℕ, zero, suc, ◌%◌, Bool, true, false, List, [], ◌∷◌, map, Option, Some, None, refl, sym, ap, ◌∙◌, arith, length-set, get_or-set_same, get_or-set_other}
+use Rattle.std.proofs.Common.{◌≡◌, ◌≢◌, ◌⊎◌, inl, inr, ℕ, zero, suc, ◌%◌, Bool, true, false, List, [], ◌∷◌, map, Option, Some, None, refl, sym, ap, ◌∙◌, arith}
+use Rattle.std.proofs.{Common.{length-set, get_or-set_same, get_or-set_other}, lemmas.{Bool.{cases_eq, cases_lt}, List.{get_or_past}}}
 use Rattle.std.specs.Prelude.{if◌then◌else◌, slice_set}
 use mathlib.Core.Bool.{false≢true}
-use Rattle.std.proofs.lemmas.Bool.{cases_eq, cases_lt}
-use Rattle.std.proofs.lemmas.List.{get_or_past}
-use Rattle.lz_slot.specs.Counted.{of_pass}
-use Rattle.lz_slot.proofs.Counted.{of_pass_other}
-use Rattle.lz_vault.specs.declared.vault.Stage.{Stage}
-use Rattle.lz_vault.specs.declared.vault.Stage.TheVariants.{Opening, Closing}
-use Rattle.lz_vault.specs.Stages.{Cell, cell_synced}
-use Rattle.lz_list.specs.Words.{change_flags}
-use Rattle.lz_list.specs.Locks.{is_pair_free}
+use Rattle.lz_slot.{specs.Counted.{of_pass}, proofs.Counted.{of_pass_other}}
+use Rattle.lz_vault.specs.{declared.vault.Stage.{Stage, TheVariants.{Opening, Closing}}, Stages.{Cell, cell_synced}}
+use Rattle.lz_list.specs.{Words.{change_flags}, Locks.{is_pair_free}}
 use Rattle.lz_flush.specs.Settling.{settle}
-use Rattle.lz_machine.specs.declared.course.Course.{Course}
-use Rattle.lz_machine.specs.declared.course.Course.TheVariants.{Refused, Dies, Plays}
-use Rattle.lz_machine.specs.declared.actor.Actor.{Actor}
-use Rattle.lz_machine.specs.declared.actor.Hold.TheVariants.{Nothing, Locks}
-use Rattle.lz_machine.specs.declared.event.Event.{Event}
-use Rattle.lz_machine.specs.declared.event.Event.TheVariants.{Invoke, Pin, Reserve, WriteKey, Claim, Check, WriteOpen, Link, WriteClose, Mark, Release, Sync, Settle, Unlink, Retire, SeePin, Answer}
-use Rattle.lz_machine.specs.declared.event.Outcome.TheVariants.{NotNow, Dead}
-use Rattle.lz_machine.specs.Yards.{Yard, idle_actor, actor_at, cell_at, cell_in, stage_in}
-use Rattle.lz_machine.specs.Table.{course, course_alive, line, line_on, pin_of, is_played_dead, actors_after, words_after, cells_after, uses_after, reserved, is_sure, set_actor}
+use Rattle.lz_machine.specs.declared.{course.Course.{Course, TheVariants.{Refused, Dies, Plays}}, actor.{Actor.{Actor}, Hold.TheVariants.{Nothing, Locks}}}
+use Rattle.lz_machine.specs.declared.event.Event.{Event, TheVariants.{Invoke, Pin, Reserve, WriteKey, Claim, Check, WriteOpen, Link, WriteClose, Mark, Release}}
+use Rattle.lz_machine.specs.declared.event.{Event.TheVariants.{Sync, Settle, Unlink, Retire, SeePin, Answer}, Outcome.TheVariants.{NotNow, Dead}}
+use Rattle.lz_machine.specs.{Yards.{Yard, idle_actor, actor_at, cell_at, cell_in, stage_in}, Table.{course, course_alive, line, line_on, pin_of}}
+use Rattle.lz_machine.specs.Table.{is_played_dead, actors_after, words_after, cells_after, uses_after, reserved, is_sure, set_actor}
+use Rattle.lz_machine.proofs.{Alone.Sights.{HasLeft, left_set, left_collect, left_seen}, Steps.{Unlink.{redirect_pins}, Sync.{not_opening}}}
+use Rattle.lz_machine.proofs.{Frames.{BesideKey.{opened_shut}, Outside.{answered_other}, SlotWrite.{put_free}}, Runs.Course.{course_by}}
 use Rattle.lz_allot.specs.Uses.{Use, Taken, collect, lowest_free}
-use Rattle.lz_machine.proofs.Alone.Sights.{HasLeft, left_set, left_collect, left_seen}
-use Rattle.lz_machine.proofs.Steps.Unlink.{redirect_pins}
-use Rattle.lz_machine.proofs.Steps.Sync.{not_opening}
-use Rattle.lz_machine.proofs.Frames.BesideKey.{opened_shut}
-use Rattle.lz_machine.proofs.Frames.Outside.{answered_other}
-use Rattle.lz_machine.proofs.Frames.SlotWrite.{put_free}
-use Rattle.lz_machine.proofs.Runs.Course.{course_by}
 
 -- the course of an event that was played at all
 abbrev pub IsCourse : Yard → ℕ → Event → Type 0

@@ -1,47 +1,24 @@
 -- Where one actor is alone, a call that is answered full has found each slot to be the node of another key.
-use Rattle.std.proofs.Common.{◌≡◌, ◌≢◌, inl, inr, ℕ, zero, suc, ◌≤◌, ◌<◌, not, Bool, true, false, List, [], ◌∷◌, length, Option, Some, None, refl, sym, ap, ◌∙◌, subst, arith}
-use Rattle.std.specs.Prelude.{if◌then◌else◌}
+use Rattle.std.proofs.Common.{◌≡◌, ◌≢◌, inl, inr, ℕ, zero, suc, ◌≤◌, ◌<◌, not, Bool, true, false, List, [], ◌∷◌, length, Option, Some, None, refl, sym, ap, ◌∙◌}
+use Rattle.std.{proofs.{Common.{subst, arith}, lemmas.{Bool.Decides.{nat_tests}, Option.{none-some}, List.{length-map}}}, specs.Prelude.{if◌then◌else◌}}
 use Rattle.std.specs.List.{list_all}
 use mathlib.Core.Bool.{false≢true}
-use Rattle.std.proofs.lemmas.Bool.Decides.{nat_tests}
-use Rattle.std.proofs.lemmas.Option.{none-some}
-use Rattle.std.proofs.lemmas.List.{length-map}
-use Rattle.lz_slot.specs.declared.command.Command.{Command}
-use Rattle.lz_slot.specs.declared.command.Command.TheVariants.{Add, Remove, Has}
-use Rattle.lz_slot.specs.Limits.{most_slots}
-use Rattle.lz_slot.specs.Histories.{History}
+use Rattle.lz_slot.specs.{declared.command.Command.{Command, TheVariants.{Add, Remove, Has}}, Limits.{most_slots}, Histories.{History}}
 use Rattle.lz_disk.specs.Images.{Medium}
 use Rattle.lz_vault.specs.declared.vault.Stage.TheVariants.{Opening, Open}
-use Rattle.lz_allot.specs.declared.sight.Sight.{Sight}
-use Rattle.lz_allot.specs.Uses.{Use, Free, Limbo, use_of, collect, collect_at, lowest_free, is_free as is_free_use, has_left}
-use Rattle.lz_list.specs.declared.walk.Met.TheVariants.{Absent, Unmarked, Marked}
-use Rattle.lz_list.specs.declared.place.Place.{Place}
-use Rattle.lz_list.specs.Words.{Words}
-use Rattle.lz_list.specs.Walks.{Hopped, More, End}
-use Rattle.lz_list.specs.Traces.{Trace, on, chain_of, key_word, is_marked, member}
-use Rattle.lz_list.proofs.Traces.NodeBits.{node}
-use Rattle.lz_flush.specs.declared.need.Need.{Need}
-use Rattle.lz_flush.specs.declared.need.Need.TheVariants.{Now}
-use Rattle.lz_flush.specs.Settling.{may_answer}
-use Rattle.lz_machine.specs.declared.actor.Hold.TheVariants.{Nothing}
-use Rattle.lz_machine.specs.declared.event.Outcome.{Outcome}
+use Rattle.lz_allot.specs.{declared.sight.Sight.{Sight}, Uses.{Use, Free, Limbo, use_of, collect, collect_at, lowest_free, is_free as is_free_use, has_left}}
+use Rattle.lz_list.specs.{declared.{walk.Met.TheVariants.{Absent, Unmarked, Marked}, place.Place.{Place}}, Words.{Words}, Walks.{Hopped, More, End}}
+use Rattle.lz_list.{specs.Traces.{Trace, on, chain_of, key_word, is_marked, member}, proofs.Traces.NodeBits.{node}}
+use Rattle.lz_flush.specs.{declared.need.Need.{Need, TheVariants.{Now}}, Settling.{may_answer}}
+use Rattle.lz_machine.specs.declared.{actor.Hold.TheVariants.{Nothing}, event.Outcome.{Outcome}}
 use Rattle.lz_machine.specs.declared.event.Outcome.TheVariants.{Done, Value, Slot, NoSlot, Taken as was_taken, Busy, True, False, NotNow}
-use Rattle.lz_machine.specs.declared.event.Reply.TheVariants.{Yes, No, Full}
-use Rattle.lz_machine.specs.declared.caller.Sequence.{Sequence}
-use Rattle.lz_machine.specs.declared.caller.Sequence.TheVariants.{Adding}
-use Rattle.lz_machine.specs.declared.caller.Progress.{Progress}
+use Rattle.lz_machine.specs.declared.{event.Reply.TheVariants.{Yes, No, Full}, caller.{Sequence.{Sequence, TheVariants.{Adding}}, Progress.{Progress}}}
 use Rattle.lz_machine.specs.declared.caller.Progress.TheVariants.{Playing, LoadsHalt, Walking, Reserving, SeeingPins, Claiming, Checking, Answering}
-use Rattle.lz_machine.specs.Yards.{Shape, Yard, actor_in, cell_in, stage_in}
-use Rattle.lz_machine.specs.Calls.{progress_after, goes_on, hops_on, rests, after_event, changes}
-use Rattle.lz_machine.specs.Runs.{Caller}
-use Rattle.lz_machine.specs.Notes.{Notes}
+use Rattle.lz_machine.specs.{Yards.{Shape, Yard, actor_in, cell_in, stage_in}, Calls.{progress_after, goes_on, hops_on, rests, after_event, changes}}
+use Rattle.lz_machine.specs.{Runs.{Caller}, Notes.{Notes}}
 use Rattle.lz_machine.specs.SlotsSound.{closes, has_removed_node, IsGateOpened, IsNodeStage, IsOnChain, SlotStands, is_node, is_held, is_out, is_free, is_limbo}
-use Rattle.lz_machine.specs.CallersSound.{IsLooking}
-use Rattle.lz_machine.specs.Sound.{TraceSound, Sound}
-use Rattle.lz_machine.proofs.Alone.Sights.{HasLeft, no_limbo}
-use Rattle.lz_machine.proofs.Alone.Frame.{IsIdleNow, NoneOpening}
-use Rattle.lz_machine.proofs.Alone.Walk.{Finds}
-use Rattle.lz_machine.proofs.Frames.Uses.{use_map}
+use Rattle.lz_machine.{specs.{CallersSound.{IsLooking}, Sound.{TraceSound, Sound}}, proofs.Alone.{Sights.{HasLeft, no_limbo}, Frame.{IsIdleNow, NoneOpening}}}
+use Rattle.lz_machine.proofs.{Alone.Walk.{Finds}, Frames.Uses.{use_map}}
 
 -- each slot surely holds another key
 abbrev pub AreOther : Yard → ℕ → Type 0

@@ -1,40 +1,20 @@
 -- In a set of one pass an adding that finds no slot, once it has seen all pins, finds as many members as there are slots.
-use Rattle.std.proofs.Common.{◌≡◌, inl, inr, ℕ, zero, suc, ◌<◌, ◌≤◌, not, Bool, true, false, List, [], ◌∷◌, ◌++◌, length, Option, Some, None, refl, sym, ap, ◌∙◌, subst, arith}
-use Rattle.std.specs.Prelude.{nat_eq}
-use Rattle.std.specs.List.{list_any, IsDistinct}
-use Rattle.std.specs.Cmp.{nat_eq_equiv}
+use Rattle.std.proofs.Common.{◌≡◌, inl, inr, ℕ, zero, suc, ◌<◌, ◌≤◌, not, Bool, true, false, List, [], ◌∷◌, ◌++◌, length, Option, Some, None, refl, sym, ap}
+use Rattle.std.proofs.{Common.{◌∙◌, subst, arith}, lemmas.{Map.Keys.{IsDistinct-push}, Bool.{cases_Bool, cases_eq, or_left, or_right, Decides.{nat_tests}}}}
+use Rattle.std.{proofs.lemmas.List.{length-append}, specs.{Prelude.{nat_eq}, List.{list_any, IsDistinct}, Cmp.{nat_eq_equiv}}}
 use mathlib.Core.Bool.{false≢true}
-use Rattle.std.proofs.lemmas.Map.Keys.{IsDistinct-push}
-use Rattle.std.proofs.lemmas.Bool.{cases_Bool, cases_eq, or_left, or_right}
-use Rattle.std.proofs.lemmas.Bool.Decides.{nat_tests}
-use Rattle.std.proofs.lemmas.List.{length-append}
-use Rattle.lz_slot.specs.declared.command.Command.{Command}
-use Rattle.lz_slot.specs.declared.command.Command.TheVariants.{Add}
-use Rattle.lz_slot.specs.Sets.{members, HasMembers}
-use Rattle.lz_slot.specs.Histories.{History, Life, lives}
+use Rattle.lz_slot.specs.{declared.command.Command.{Command, TheVariants.{Add}}, Sets.{members, HasMembers}, Histories.{History, Life, lives}}
+use Rattle.lz_slot.proofs.Sets.{members_among}
 use Rattle.lz_disk.specs.Images.{Medium}
 use Rattle.lz_allot.specs.Uses.{collect, lowest_free}
-use Rattle.lz_list.specs.Traces.{Trace, on, chain_of, key_word, member, is_marked}
-use Rattle.lz_list.proofs.Traces.NodeBits.{node}
-use Rattle.lz_machine.specs.declared.actor.Hold.TheVariants.{Nothing}
-use Rattle.lz_machine.specs.declared.caller.Progress.{Progress}
-use Rattle.lz_machine.specs.declared.caller.Progress.TheVariants.{Reserving}
-use Rattle.lz_machine.specs.Yards.{Yard, actor_in}
-use Rattle.lz_machine.specs.Alone.{IsOwn, IsAlone, FullOfOnePass}
-use Rattle.lz_machine.specs.Runs.{Start, IsStart, Caller, Service, State, Up, Down, Transition, Calls, Turn, Fails, Looks, CrashesIn, MayStep, HasTurn, HasFault, LeftInside, IsRun, run, first_point, caller_at, start_keys, shape_of}
-use Rattle.lz_machine.specs.Notes.{Notes}
-use Rattle.lz_machine.specs.CallersSound.{IsAdder, view_of, Relies}
-use Rattle.lz_machine.specs.Sound.{Sound, PointSound}
-use Rattle.lz_machine.proofs.Frames.ActorTable.{by_actor}
-use Rattle.lz_machine.proofs.Runs.PointParts.{point}
-use Rattle.lz_machine.proofs.Frames.OneActor.{caller_range, mine}
-use Rattle.lz_machine.proofs.Crash.ImageSlots.{member_node, one_node_slot}
-use Rattle.lz_machine.proofs.Theorem.Reached.{reached_sound, up_at}
-use Rattle.lz_machine.proofs.Runs.Shape.{run_keeps_shape}
-use Rattle.lz_machine.proofs.Alone.Full.{AloneFull, LeftBelow, WalkStands, all_nodes}
-use Rattle.lz_machine.proofs.Alone.Room.{FullAt, reached_full}
-use Rattle.lz_slot.proofs.Sets.{members_among}
-use Rattle.lz_machine.proofs.Alone.Size.{members_append, none_distinct}
+use Rattle.lz_list.{specs.Traces.{Trace, on, chain_of, key_word, member, is_marked}, proofs.Traces.NodeBits.{node}}
+use Rattle.lz_machine.specs.{declared.{actor.Hold.TheVariants.{Nothing}, caller.Progress.{Progress, TheVariants.{Reserving}}}, Yards.{Yard, actor_in}}
+use Rattle.lz_machine.specs.{Alone.{IsOwn, IsAlone, FullOfOnePass}, Runs.{Start, IsStart, Caller, Service, State, Up, Down, Transition, Calls, Turn, Fails}}
+use Rattle.lz_machine.specs.Runs.{Looks, CrashesIn, MayStep, HasTurn, HasFault, LeftInside, IsRun, run, first_point, caller_at, start_keys, shape_of}
+use Rattle.lz_machine.{specs.{Notes.{Notes}, CallersSound.{IsAdder, view_of, Relies}, Sound.{Sound, PointSound}}, proofs.Frames.ActorTable.{by_actor}}
+use Rattle.lz_machine.proofs.{Frames.OneActor.{caller_range, mine}, Runs.{PointParts.{point}, Shape.{run_keeps_shape}}}
+use Rattle.lz_machine.proofs.{Crash.ImageSlots.{member_node, one_node_slot}, Theorem.Reached.{reached_sound, up_at}}
+use Rattle.lz_machine.proofs.Alone.{Full.{AloneFull, LeftBelow, WalkStands, all_nodes}, Room.{FullAt, reached_full}, Size.{members_append, none_distinct}}
 
 -- an actor of a service of one pass is the first
 module _ (service : Service) (count : length service.callers ≡ 1) (b : ℕ) where

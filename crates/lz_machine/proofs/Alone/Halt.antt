@@ -1,20 +1,11 @@
 -- Halted is answered only where the vault is dead, and worn only at the last pin.
-use Rattle.std.proofs.Common.{◌≡◌, ℕ, true, Option, Some, ap, subst, arith}
-use Rattle.std.proofs.lemmas.Option.{none-some, same_Some}
-use Rattle.lz_slot.specs.declared.command.Command.{Command}
-use Rattle.lz_slot.specs.declared.command.Command.TheVariants.{Add}
+use Rattle.std.proofs.{Common.{◌≡◌, ℕ, true, Option, Some, ap, subst, arith}, lemmas.Option.{none-some, same_Some}}
+use Rattle.lz_slot.specs.declared.command.Command.{Command, TheVariants.{Add}}
 use Rattle.lz_list.specs.Traces.{Trace, halt_word}
-use Rattle.lz_machine.specs.declared.event.Reply.{Reply}
-use Rattle.lz_machine.specs.declared.event.Reply.TheVariants.{Worn as SaysWorn, OldFile as SaysOldFile, Halted, Device}
-use Rattle.lz_machine.specs.declared.caller.Progress.{Progress}
-use Rattle.lz_machine.specs.declared.caller.Progress.TheVariants.{Answering}
-use Rattle.lz_machine.specs.Table.{pin_of, is_old}
-use Rattle.lz_machine.specs.Runs.{Caller, run, first_point, reply_at}
-use Rattle.lz_machine.specs.CallersSound.{View, Relies, view_of, IsCaller}
-use Rattle.lz_machine.specs.Alone.{RefusalsAreRight}
-use Rattle.lz_machine.proofs.Theorem.Reached.{reached_sound, up_at}
-use Rattle.lz_machine.proofs.Theorem.Timeliness.{worn_there}
-use Rattle.lz_machine.proofs.Frames.OneActor.{mine}
+use Rattle.lz_machine.specs.declared.{event.Reply.{Reply, TheVariants.{Worn as SaysWorn, OldFile as SaysOldFile, Halted, Device}}, caller.Progress.{Progress}}
+use Rattle.lz_machine.specs.{declared.caller.Progress.TheVariants.{Answering}, Table.{pin_of, is_old}, Runs.{Caller, run, first_point, reply_at}}
+use Rattle.lz_machine.{specs.{CallersSound.{View, Relies, view_of, IsCaller}, Alone.{RefusalsAreRight}}, proofs.Theorem.Reached.{reached_sound, up_at}}
+use Rattle.lz_machine.proofs.{Theorem.Timeliness.{worn_there}, Frames.OneActor.{mine}}
 
 -- what is about to be answered
 pub replies : (at : Progress) (reply : Reply) → reply_at at ≡ Some reply → at ≡ Answering reply

@@ -1,54 +1,26 @@
 -- Where one actor is alone, full comes exactly where there is no room.
-use Rattle.std.proofs.Common.{◌≡◌, inl, ℕ, suc, ◌≤◌, ◌<◌, ◌%◌, if◌then◌else◌, Bool, true, false, List, [], ◌∷◌, ◌++◌, length, Option, Some, None, refl, sym, ap, ◌∙◌, subst, arith}
-use Rattle.lz_slot.specs.declared.command.Command.{Command}
-use Rattle.lz_slot.specs.declared.command.Command.TheVariants.{Add}
-use Rattle.lz_slot.specs.declared.history.Mark.TheVariants.{Call}
-use Rattle.lz_slot.specs.Sets.{Keys}
-use Rattle.lz_slot.specs.declared.format.Format.{Format}
-use Rattle.lz_slot.specs.Bytes.{Holds, format_of, slot_at}
-use Rattle.lz_slot.specs.Counted.{set_of_pass}
-use Rattle.lz_slot.specs.Histories.{History, Life, lives, with_mark}
+use Rattle.std.proofs.Common.{◌≡◌, inl, ℕ, suc, ◌≤◌, ◌<◌, ◌%◌, if◌then◌else◌, Bool, true, false, List, [], ◌∷◌, ◌++◌, length, Option, Some, None, refl, sym, ap}
+use Rattle.std.proofs.{Common.{◌∙◌, subst, arith}, lemmas.Option.{same_Some}}
+use Rattle.lz_slot.specs.{declared.{command.Command.{Command, TheVariants.{Add}}, history.Mark.TheVariants.{Call}, format.Format.{Format}}, Sets.{Keys}}
+use Rattle.lz_slot.specs.{Bytes.{Holds, format_of, slot_at}, Counted.{set_of_pass}, Histories.{History, Life, lives, with_mark}}
 use Rattle.lz_slot.proofs.Counted.{of_pass_same, of_pass_other}
 use Rattle.lz_disk.specs.Images.{Medium, IsImage, at_rest}
-use Rattle.lz_vault.specs.declared.vault.Stage.{Stage}
-use Rattle.lz_vault.specs.Stages.{MayRead}
-use Rattle.lz_vault.specs.Vaults.{DeviceCall, medium_after}
+use Rattle.lz_vault.specs.{declared.vault.Stage.{Stage}, Stages.{MayRead}, Vaults.{DeviceCall, medium_after}}
 use Rattle.lz_allot.specs.declared.counts.Counts.{Counts}
 use Rattle.lz_list.specs.Traces.{Trace}
-use Rattle.lz_machine.specs.declared.event.Reply.{Reply}
-use Rattle.lz_machine.specs.declared.event.Reply.TheVariants.{Yes, No, Full, OldFile, Device}
-use Rattle.lz_machine.specs.declared.caller.Progress.{Progress}
-use Rattle.lz_machine.specs.declared.caller.Progress.TheVariants.{Answering}
-use Rattle.lz_machine.specs.Yards.{Shape, Yard, first_trace, cell_in, pin_in}
-use Rattle.lz_machine.specs.Table.{line, line_failed, is_old}
-use Rattle.lz_machine.specs.Calls.{first_progress, halts, begun}
-use Rattle.lz_machine.specs.Runs.{Start, IsStart, Caller, Service, State, Up, Down, Transition, Calls, Turn, Fails, Looks, Stops, Crashes, CrashesIn, Opens, OpenFails, Point, MayStep, HasTurn, HasFault, IsRun, run, first_point, point_after, state_after, trace_after, caller_at, next_event, reply_at, moved_on, after_turn, after_fault, opened_service, marks_of_turn, mark_of, turn_publishes, start_keys, looked, invoked}
-use Rattle.lz_machine.specs.Notes.{Notes}
-use Rattle.lz_machine.specs.CallersSound.{view_of, CallerSound}
-use Rattle.lz_machine.specs.Sound.{Sound, PointSound, IsSound}
-use Rattle.lz_machine.specs.Alone.{IsOwn, IsAlone, IsPlain, IsFull, HasRoomFor, IsSized, AreSized, FullIsRight}
-use Rattle.lz_machine.proofs.Runs.PointParts.{point}
-use Rattle.lz_machine.proofs.Open.FoundSlots.{no_limbo_read, no_opening_read, pass_of}
-use Rattle.lz_machine.proofs.Frames.OneActor.{caller_range}
-use Rattle.lz_machine.proofs.Steps.Hop.{call_at, own}
-use Rattle.lz_machine.specs.Formats.{HasFormat}
-use Rattle.lz_machine.proofs.Theorem.Formats.{run_format}
-use Rattle.lz_machine.proofs.Alone.Halt.{old_command, told_old}
-use Rattle.std.proofs.lemmas.Option.{same_Some}
-use Rattle.lz_machine.proofs.Crash.ImageSlots.{reads}
-use Rattle.lz_machine.proofs.Theorem.Reached.{reached_sound}
-use Rattle.lz_machine.proofs.Alone.Service.{Ended}
-use Rattle.lz_machine.proofs.Alone.Run.{IsTold, answer_is_quiet}
-use Rattle.lz_machine.proofs.Alone.Answered.{AloneAt, AloneLives, HasSet}
-use Rattle.lz_machine.proofs.Alone.Crash.{reached_alone}
-use Rattle.lz_machine.proofs.Alone.Size.{HoldsOther, has_room, is_full}
-use Rattle.lz_machine.proofs.Alone.Full.{AreOther, WalkStands, AloneFull}
-use Rattle.lz_machine.proofs.Alone.Turn.{turned, faulted}
-use Rattle.lz_machine.proofs.Runs.CallerTable.{none_of, fault_no_reply}
-use Rattle.lz_machine.proofs.Steps.Point.{reply_lives}
-use Rattle.lz_machine.specs.declared.event.Event.TheVariants.{Invoke}
-use Rattle.lz_machine.specs.declared.course.Course.TheVariants.{Plays}
-use Rattle.lz_machine.proofs.Alone.Frame.{idle_on}
+use Rattle.lz_machine.specs.declared.event.{Reply.{Reply, TheVariants.{Yes, No, Full, OldFile, Device}}, Event.TheVariants.{Invoke}}
+use Rattle.lz_machine.specs.declared.{caller.Progress.{Progress, TheVariants.{Answering}}, course.Course.TheVariants.{Plays}}
+use Rattle.lz_machine.specs.{Yards.{Shape, Yard, first_trace, cell_in, pin_in}, Table.{line, line_failed, is_old}, Calls.{first_progress, halts, begun}}
+use Rattle.lz_machine.specs.Runs.{Start, IsStart, Caller, Service, State, Up, Down, Transition, Calls, Turn, Fails, Looks, Stops, Crashes, CrashesIn, Opens}
+use Rattle.lz_machine.specs.Runs.{OpenFails, Point, MayStep, HasTurn, HasFault, IsRun, run, first_point, point_after, state_after, trace_after, caller_at}
+use Rattle.lz_machine.specs.Runs.{next_event, reply_at, moved_on, after_turn, after_fault, opened_service, marks_of_turn, mark_of, turn_publishes, start_keys}
+use Rattle.lz_machine.specs.{Runs.{looked, invoked}, Notes.{Notes}, CallersSound.{view_of, CallerSound}, Sound.{Sound, PointSound, IsSound}}
+use Rattle.lz_machine.specs.{Alone.{IsOwn, IsAlone, IsPlain, IsFull, HasRoomFor, IsSized, AreSized, FullIsRight}, Formats.{HasFormat}}
+use Rattle.lz_machine.proofs.{Runs.{PointParts.{point}, CallerTable.{none_of, fault_no_reply}}, Open.FoundSlots.{no_limbo_read, no_opening_read, pass_of}}
+use Rattle.lz_machine.proofs.{Frames.OneActor.{caller_range}, Steps.{Hop.{call_at, own}, Point.{reply_lives}}, Theorem.Formats.{run_format}}
+use Rattle.lz_machine.proofs.{Theorem.Reached.{reached_sound}, Alone.{Halt.{old_command, told_old}, Service.{Ended}, Run.{IsTold, answer_is_quiet}}}
+use Rattle.lz_machine.proofs.Alone.{Answered.{AloneAt, AloneLives, HasSet}, Crash.{reached_alone}, Size.{HoldsOther, has_room, is_full}}
+use Rattle.lz_machine.proofs.{Alone.{Full.{AreOther, WalkStands, AloneFull}, Turn.{turned, faulted}, Frame.{idle_on}}, Crash.ImageSlots.{reads}}
 
 -- of a state
 abbrev pub FullAt : ℕ → State → Trace → Type 0

@@ -1,31 +1,17 @@
 -- What runs of one actor keep: its calls end one after the other, and once a call was cut off, each later one loads the halt word.
 use Rattle.std.proofs.Common.{◌≡◌, ◌≢◌, ◌⊎◌, inl, inr, ℕ, ◌<◌, Bool, true, false, List, ◌∷◌, Option, Some, None, refl, sym, subst, arith}
 use Rattle.std.specs.Prelude.{if◌then◌else◌}
-use Rattle.lz_slot.specs.declared.command.Command.{Command}
-use Rattle.lz_slot.specs.declared.history.Mark.TheVariants.{Call}
-use Rattle.lz_slot.specs.Histories.{History}
+use Rattle.lz_slot.specs.{declared.{command.Command.{Command}, history.Mark.TheVariants.{Call}}, Histories.{History}}
 use Rattle.lz_disk.specs.Images.{Medium, IsImage}
 use Rattle.lz_vault.specs.Vaults.{NoCall}
 use Rattle.lz_list.specs.declared.word.Word.TheVariants.{Halt as halt_word}
 use mathlib.Core.Bool.{false≢true}
-use Rattle.lz_machine.proofs.Runs.Course.{course_by, each_course}
-use Rattle.lz_machine.specs.declared.course.Course.{Course}
-use Rattle.lz_machine.specs.declared.course.Course.TheVariants.{Plays}
-use Rattle.lz_machine.specs.declared.actor.Actor.{Actor}
-use Rattle.lz_machine.specs.declared.event.Event.{Event}
-use Rattle.lz_machine.specs.declared.event.Event.TheVariants.{Pin, Hop, Answer}
-use Rattle.lz_machine.specs.declared.event.Outcome.TheVariants.{NotNow}
-use Rattle.lz_machine.specs.declared.event.Reply.{Reply}
-use Rattle.lz_machine.specs.declared.event.Reply.TheVariants.{Worn as SaysWorn, OldFile as SaysOldFile, Halted}
-use Rattle.lz_machine.specs.declared.caller.Sequence.TheVariants.{Pinning}
-use Rattle.lz_machine.specs.declared.caller.Progress.{Progress}
-use Rattle.lz_machine.specs.declared.caller.Progress.TheVariants.{Playing, LoadsHalt, Answering}
-use Rattle.lz_machine.specs.Yards.{Yard, actor_at}
-use Rattle.lz_machine.specs.Table.{course, line, line_on, line_call, call_on, call_of}
-use Rattle.lz_machine.specs.Calls.{event_at, loaded, progress_after, first_progress}
-use Rattle.lz_machine.specs.Runs.{Caller, Service, Up, caller_at, next_event, MayLeave}
-use Rattle.lz_machine.specs.Alone.{has_cut}
-use Rattle.lz_machine.proofs.Alone.Service.{Ended}
+use Rattle.lz_machine.{proofs.{Runs.Course.{course_by, each_course}, Alone.Service.{Ended}}, specs.declared.course.Course.{Course, TheVariants.{Plays}}}
+use Rattle.lz_machine.specs.declared.{actor.Actor.{Actor}, event.{Event.{Event, TheVariants.{Pin, Hop, Answer}}, Outcome.TheVariants.{NotNow}, Reply.{Reply}}}
+use Rattle.lz_machine.specs.declared.{event.Reply.TheVariants.{Worn as SaysWorn, OldFile as SaysOldFile, Halted}, caller.Sequence.TheVariants.{Pinning}}
+use Rattle.lz_machine.specs.{declared.caller.Progress.{Progress, TheVariants.{Playing, LoadsHalt, Answering}}, Yards.{Yard, actor_at}}
+use Rattle.lz_machine.specs.{Table.{course, line, line_on, line_call, call_on, call_of}, Calls.{event_at, loaded, progress_after, first_progress}}
+use Rattle.lz_machine.specs.{Runs.{Caller, Service, Up, caller_at, next_event, MayLeave}, Alone.{has_cut}}
 
 -- a call that finds the halt word
 abbrev pub IsHalting : Progress → Type 0

@@ -1,18 +1,13 @@
 -- A history of calls one after the other: a list that fits it is that of its answered calls, and at most the call without an answer.
 use Rattle.std.proofs.Common.{◌≡◌, ◌≢◌, ◌⊎◌, ⊎_elim, inl, inr, ℕ, ◌+◌, ◌≤◌, ◌<◌, Bool, false, List, [], ◌∷◌, ◌++◌, refl, sym, ap, ◌∙◌, subst, arith}
+use Rattle.std.proofs.lemmas.Bool.{cases_eq, Decides.{nat_tests}}
 use mathlib.Core.Bool.{false≢true}
-use Rattle.std.proofs.lemmas.Bool.{cases_eq}
-use Rattle.std.proofs.lemmas.Bool.Decides.{nat_tests}
-use Rattle.lz_slot.specs.declared.command.Command.{Command}
-use Rattle.lz_slot.specs.declared.history.Refusal.TheVariants.{Full, Worn, OldFile}
-use Rattle.lz_slot.specs.declared.history.Cut.{Cut}
-use Rattle.lz_slot.specs.declared.history.Mark.{Mark}
+use Rattle.lz_slot.specs.declared.{command.Command.{Command}, history.{Refusal.TheVariants.{Full, Worn, OldFile}, Cut.{Cut}, Mark.{Mark}}}
 use Rattle.lz_slot.specs.declared.history.Mark.TheVariants.{Call, Answer, Refused, Cut as CutOff, Stop, Crash, Opened, OpenFailed}
 use Rattle.lz_slot.specs.Sets.{Keys, Same, key_of, after, reply}
 use Rattle.lz_slot.specs.Histories.{History, IsCalled, IsAnswered, IsRefused, IsBefore, IsListed, count_of, IsEarlier, Runs, Fits}
 use Rattle.lz_slot.proofs.Listings.{listed_left}
-use Rattle.lz_machine.specs.Alone.{has_cut, IsPlain}
-use Rattle.lz_machine.proofs.Ledger.CallMark.{number_of, is_call}
+use Rattle.lz_machine.{specs.Alone.{has_cut, IsPlain}, proofs.Ledger.CallMark.{number_of, is_call}}
 
 -- the mark ends call j
 abbrev pub IsEnd : Mark → ℕ → Type 0

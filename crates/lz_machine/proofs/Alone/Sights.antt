@@ -1,13 +1,10 @@
 -- What has been seen of the passes, where one actor is alone: which limbo slots a pass has left.
-use Rattle.std.proofs.Common.{◌≡◌, ◌≢◌, ◌⊎◌, ⊎_elim, inl, inr, ℕ, zero, suc, ◌≤◌, ◌%◌, true, false, List, [], ◌∷◌, length, refl, sym, ap, ◌∙◌, subst, arith, length-set, get_or-set_same, get_or-set_other}
-use Rattle.std.specs.Prelude.{slice_set}
-use Rattle.std.specs.List.{list_all}
+use Rattle.std.proofs.Common.{◌≡◌, ◌≢◌, ◌⊎◌, ⊎_elim, inl, inr, ℕ, zero, suc, ◌≤◌, ◌%◌, true, false, List, [], ◌∷◌, length, refl, sym, ap, ◌∙◌, subst, arith}
+use Rattle.std.proofs.{Common.{length-set, get_or-set_same, get_or-set_other}, lemmas.{Bool.{cases_eq, cases_lt}, List.{get_or_past}}}
+use Rattle.std.specs.{Prelude.{slice_set}, List.{list_all}}
 use mathlib.Core.Bool.{false≢true}
-use Rattle.std.proofs.lemmas.Bool.{cases_eq, cases_lt}
-use Rattle.std.proofs.lemmas.List.{get_or_past}
 use Rattle.lz_slot.specs.Counted.{of_pass, set_of_pass}
-use Rattle.lz_allot.specs.declared.sight.Sight.{Sight}
-use Rattle.lz_allot.specs.declared.sight.Sight.TheVariants.{Inside, Left}
+use Rattle.lz_allot.specs.declared.sight.Sight.{Sight, TheVariants.{Inside, Left}}
 use Rattle.lz_allot.specs.Uses.{Use, Taken, Limbo, use_of, collect_at, collect, see_pin_at, see_pin, sight_after, has_left}
 use Rattle.lz_machine.proofs.Frames.Uses.{use_map, limbo_same}
 

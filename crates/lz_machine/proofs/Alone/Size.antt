@@ -1,26 +1,14 @@
 -- How many keys a text of N slots holds, and what that says of an adding.
-use Rattle.std.proofs.Common.{◌≡◌, ◌≢◌, inl, inr, ℕ, zero, suc, ◌≤◌, ◌<◌, ◌&&◌, ◌||◌, not, Bool, true, false, List, [], ◌∷◌, ◌++◌, length, length-append, refl, sym, ap, ◌∙◌, subst, arith}
-use Rattle.std.specs.Prelude.{if◌then◌else◌, ◌==◌, nat_eq}
-use Rattle.std.specs.List.{list_any, IsDistinct}
-use Rattle.std.specs.Cmp.{nat_eq_equiv, both_ways}
-use Rattle.std.proofs.lemmas.Map.Keys.{IsDistinct-push}
-use Rattle.std.proofs.lemmas.List.Folds.{list_any-append}
+use Rattle.std.proofs.Common.{◌≡◌, ◌≢◌, inl, inr, ℕ, zero, suc, ◌≤◌, ◌<◌, ◌&&◌, ◌||◌, not, Bool, true, false, List, [], ◌∷◌, ◌++◌, length, length-append, refl}
+use Rattle.std.proofs.{Common.{sym, ap, ◌∙◌, subst, arith}, lemmas.{Map.Keys.{IsDistinct-push}, List.{append-nil, Folds.{list_any-append}}}}
+use Rattle.std.{proofs.lemmas.Bool.{cases_eq, cases_Bool, and_parts, not-true, Decides.{nat_tests}}, specs.Prelude.{if◌then◌else◌, ◌==◌, nat_eq}}
+use Rattle.std.specs.{List.{list_any, IsDistinct}, Cmp.{nat_eq_equiv, both_ways}}
 use mathlib.Core.Bool.{false≢true}
-use Rattle.std.proofs.lemmas.Bool.{cases_eq, cases_Bool, and_parts, not-true}
-use Rattle.std.proofs.lemmas.List.{append-nil}
-use Rattle.std.proofs.lemmas.Bool.Decides.{nat_tests}
-use Rattle.lz_slot.specs.declared.command.Command.{Command}
-use Rattle.lz_slot.specs.declared.command.Command.TheVariants.{Add, Remove, Has}
-use Rattle.lz_slot.specs.declared.history.Refusal.TheVariants.{Full, Worn, OldFile}
-use Rattle.lz_slot.specs.declared.history.Mark.TheVariants.{Call, Answer, Refused, Cut, Stop, Crash, Opened, OpenFailed}
-use Rattle.lz_slot.specs.declared.slot.SlotRead.{SlotRead}
-use Rattle.lz_slot.specs.declared.slot.SlotRead.TheVariants.{Closed as Shut, Member}
-use Rattle.lz_slot.specs.Sets.{Keys, Same, members, HasMembers}
-use Rattle.lz_slot.specs.Bytes.{Holds, slot_at}
-use Rattle.lz_slot.specs.Histories.{History}
-use Rattle.lz_slot.proofs.Sets.{members_among, after_same}
-use Rattle.lz_machine.specs.Alone.{has_cut, IsPlain, HasRoomFor, IsFull}
-use Rattle.lz_machine.proofs.Crash.ImageSlots.{found, found_in, in_found, reads_key}
+use Rattle.lz_slot.specs.declared.{command.Command.{Command, TheVariants.{Add, Remove, Has}}, history.Refusal.TheVariants.{Full, Worn, OldFile}}
+use Rattle.lz_slot.specs.declared.{history.Mark.TheVariants.{Call, Answer, Refused, Cut, Stop, Crash, Opened, OpenFailed}, slot.SlotRead.{SlotRead}}
+use Rattle.lz_slot.specs.{declared.slot.SlotRead.TheVariants.{Closed as Shut, Member}, Sets.{Keys, Same, members, HasMembers}, Bytes.{Holds, slot_at}}
+use Rattle.lz_slot.{specs.Histories.{History}, proofs.Sets.{members_among, after_same}}
+use Rattle.lz_machine.{specs.Alone.{has_cut, IsPlain, HasRoomFor, IsFull}, proofs.Crash.ImageSlots.{found, found_in, in_found, reads_key}}
 use Rattle.lz_machine.proofs.Alone.Service.{Ended}
 
 -- the keys that the first n slots hold, but k

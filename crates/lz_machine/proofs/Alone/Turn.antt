@@ -1,57 +1,30 @@
 -- Where one actor is alone, each turn keeps what makes full right.
-use Rattle.std.proofs.Common.{◌≡◌, ◌≢◌, ⊎_elim, inl, inr, ℕ, zero, suc, ◌+◌, ◌≤◌, ◌&&◌, not, nat_lt, Bool, true, false, List, ◌++◌, map, unwrap_or, Option, Some, None, refl, sym, ap, ◌∙◌, subst, arith}
+use Rattle.std.proofs.Common.{◌≡◌, ◌≢◌, ⊎_elim, inl, inr, ℕ, zero, suc, ◌+◌, ◌≤◌, ◌&&◌, not, nat_lt, Bool, true, false, List, ◌++◌, map, unwrap_or, Option}
+use Rattle.std.proofs.{Common.{Some, None, refl, sym, ap, ◌∙◌, subst, arith}, lemmas.Bool.{cases_eq, cases_Bool, Decides.{nat_tests}}}
 use Rattle.std.specs.Prelude.{if◌then◌else◌}
 use mathlib.Core.Bool.{false≢true}
-use Rattle.std.proofs.lemmas.Bool.{cases_eq, cases_Bool}
-use Rattle.std.proofs.lemmas.Bool.Decides.{nat_tests}
-use Rattle.lz_slot.specs.declared.command.Command.{Command}
-use Rattle.lz_slot.specs.declared.command.Command.TheVariants.{Add, Remove, Has}
-use Rattle.lz_slot.specs.Sets.{key_of}
-use Rattle.lz_slot.specs.Histories.{History}
+use Rattle.lz_slot.specs.{declared.command.Command.{Command, TheVariants.{Add, Remove, Has}}, Sets.{key_of}, Histories.{History}}
 use Rattle.lz_disk.specs.Images.{Medium}
-use Rattle.lz_vault.specs.declared.vault.Stage.TheVariants.{Opening}
-use Rattle.lz_vault.specs.Stages.{Cell, cell_synced, is_covered}
-use Rattle.lz_allot.specs.declared.sight.Sight.{Sight}
-use Rattle.lz_allot.specs.Uses.{Free, collect, see_pin, lowest_free, give_back}
-use Rattle.lz_list.specs.declared.word.Word.TheVariants.{Halt as halt_at}
-use Rattle.lz_list.specs.declared.walk.Look.{Look}
-use Rattle.lz_list.specs.declared.place.Place.{Place}
-use Rattle.lz_list.specs.Words.{get}
-use Rattle.lz_list.specs.Walks.{wants, hopped}
+use Rattle.lz_vault.specs.{declared.vault.Stage.TheVariants.{Opening}, Stages.{Cell, cell_synced, is_covered}}
+use Rattle.lz_allot.specs.{declared.sight.Sight.{Sight}, Uses.{Free, collect, see_pin, lowest_free, give_back}}
+use Rattle.lz_list.specs.{declared.{word.Word.TheVariants.{Halt as halt_at}, walk.Look.{Look}, place.Place.{Place}}, Words.{get}, Walks.{wants, hopped}}
 use Rattle.lz_list.specs.Traces.{Trace}
-use Rattle.lz_machine.specs.declared.course.Course.{Course}
-use Rattle.lz_machine.specs.declared.course.Course.TheVariants.{Refused, Dies, Plays}
-use Rattle.lz_machine.specs.declared.actor.Actor.{Actor}
-use Rattle.lz_machine.specs.declared.actor.Hold.TheVariants.{Nothing}
-use Rattle.lz_machine.specs.declared.event.Event.{Event}
-use Rattle.lz_machine.specs.declared.event.Event.TheVariants.{Hop, Reserve, Claim, Check, WriteOpen, Link, WriteClose, Mark, Release, Sync, Settle, Unlink, Retire, SeePin, Answer}
-use Rattle.lz_machine.specs.declared.event.Outcome.{Outcome}
-use Rattle.lz_machine.specs.declared.event.Outcome.TheVariants.{Done, Early, NotNow, Dead}
-use Rattle.lz_machine.specs.declared.event.Reply.{Reply}
-use Rattle.lz_machine.specs.declared.event.Reply.TheVariants.{Yes, Halted, Device}
-use Rattle.lz_machine.specs.declared.caller.Sequence.{Sequence}
-use Rattle.lz_machine.specs.declared.caller.Sequence.TheVariants.{Pinning, Resting, Writing, Adding, Removing, Releasing, Halting}
-use Rattle.lz_machine.specs.declared.caller.Progress.{Progress}
+use Rattle.lz_machine.specs.declared.{course.Course.{Course, TheVariants.{Refused, Dies, Plays}}, actor.{Actor.{Actor}, Hold.TheVariants.{Nothing}}}
+use Rattle.lz_machine.specs.declared.event.Event.{Event, TheVariants.{Hop, Reserve, Claim, Check, WriteOpen, Link, WriteClose, Mark, Release, Sync, Settle}}
+use Rattle.lz_machine.specs.declared.event.{Event.TheVariants.{Unlink, Retire, SeePin, Answer}, Outcome.{Outcome, TheVariants.{Done, Early, NotNow, Dead}}}
+use Rattle.lz_machine.specs.declared.{event.Reply.{Reply, TheVariants.{Yes, Halted, Device}}, caller.Sequence.{Sequence}}
+use Rattle.lz_machine.specs.declared.caller.{Sequence.TheVariants.{Pinning, Resting, Writing, Adding, Removing, Releasing, Halting}, Progress.{Progress}}
 use Rattle.lz_machine.specs.declared.caller.Progress.TheVariants.{Playing, LoadsHalt, Walking, Reserving, SeeingPins, Claiming, Checking, Answering}
-use Rattle.lz_machine.specs.Yards.{Shape, Yard, actor_at, cell_at, actor_in, stage_in, pin_in}
-use Rattle.lz_machine.specs.Table.{line_publishes, line_failed, course, course_alive, line, line_on, published_on, pin_of, slot_found, given_back, is_unused, is_sure, is_spent, slot_of, pin_answered}
-use Rattle.lz_machine.specs.Calls.{halts, progress_after, event_of, loaded}
-use Rattle.lz_machine.specs.Runs.{Caller, caller_at, reply_at, next_event, moved_on}
-use Rattle.lz_machine.specs.CallersSound.{IsAdder, view_of, Relies}
-use Rattle.lz_machine.specs.Notes.{Notes}
-use Rattle.lz_machine.specs.Sound.{Sound}
-use Rattle.lz_machine.specs.Limbo.{IsRightSight}
-use Rattle.lz_machine.proofs.Frames.ActorTable.{by_actor}
-use Rattle.lz_machine.proofs.Steps.Hop.{call_at, own}
+use Rattle.lz_machine.specs.{Yards.{Shape, Yard, actor_at, cell_at, actor_in, stage_in, pin_in}, Table.{line_publishes, line_failed, course, course_alive}}
+use Rattle.lz_machine.specs.Table.{line, line_on, published_on, pin_of, slot_found, given_back, is_unused, is_sure, is_spent, slot_of, pin_answered}
+use Rattle.lz_machine.specs.{Calls.{halts, progress_after, event_of, loaded}, Runs.{Caller, caller_at, reply_at, next_event, moved_on}}
+use Rattle.lz_machine.{specs.{CallersSound.{IsAdder, view_of, Relies}, Notes.{Notes}, Sound.{Sound}, Limbo.{IsRightSight}}, proofs.Frames.ActorTable.{by_actor}}
+use Rattle.lz_machine.proofs.{Frames.{Uses.{free_limbo}, Outside.{answered_even}, Ranges.{few_slots}}, Steps.Hop.{call_at, own}}
 use Rattle.lz_machine.proofs.Alone.Sights.{HasLeft, IsSeenOdd, set_cases, left_set, left_seen, seen_outside}
 use Rattle.lz_machine.proofs.Alone.Frame.{idle_on, none_on, left_on, is_use_event, course_is, cell_cases, synced_none, is_opening_event}
-use Rattle.lz_machine.proofs.Alone.Walk.{Finds, walk_finds}
-use Rattle.lz_machine.proofs.Alone.Full.{LeftBelow, WalkStands, AddsTo, says_yes, AloneFull, all_other, stands_playing, stands_halt, stands_claim, stands_check, AsksToAdd, stands_hops}
-use Rattle.lz_machine.proofs.Frames.Uses.{free_limbo}
-use Rattle.lz_machine.proofs.Runs.Course.{course_dead, answer_plays}
-use Rattle.lz_machine.proofs.Frames.Outside.{answered_even}
-use Rattle.lz_machine.proofs.Alone.CalmEvent.{IsCalm, calm_adds, calm_sequence, is_calm_sequence, sequence_goes}
-use Rattle.lz_machine.proofs.Frames.Ranges.{few_slots}
+use Rattle.lz_machine.proofs.Alone.{Walk.{Finds, walk_finds}, Full.{LeftBelow, WalkStands, AddsTo, says_yes, AloneFull, all_other, stands_playing, stands_halt}}
+use Rattle.lz_machine.proofs.Alone.Full.{stands_claim, stands_check, AsksToAdd, stands_hops}
+use Rattle.lz_machine.proofs.{Alone.CalmEvent.{IsCalm, calm_adds, calm_sequence, is_calm_sequence, sequence_goes}, Runs.Course.{course_dead, answer_plays}}
 
 module _ (n calls : ℕ) (y : Yard) (callers : List (Option Caller)) (disk : Medium) (M : History) (P : Trace) (notes : Notes) (sound : Sound n calls y callers disk M P notes) (a i : ℕ) (c : Command) where
   abbrev actor : Actor

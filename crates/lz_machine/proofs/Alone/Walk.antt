@@ -1,29 +1,14 @@
 -- A walk of one actor alone: nothing changes under it, so that it finds the set as it is.
 use Rattle.std.proofs.Common.{◌≡◌, inl, inr, ℕ, suc, ◌≤◌, not, Bool, true, false, List, [], ◌∷◌, None, refl, ap, ◌∙◌, subst, arith}
-use Rattle.lz_slot.specs.declared.format.Format.{Format}
-use Rattle.lz_slot.specs.Limits.{most_slots}
-use Rattle.lz_slot.specs.declared.command.Command.TheVariants.{Has}
-use Rattle.lz_list.specs.declared.walk.Look.{Look}
-use Rattle.lz_list.specs.declared.walk.Met.TheVariants.{Absent, Unmarked, Marked}
-use Rattle.lz_list.specs.Words.{Words, get}
-use Rattle.lz_list.specs.Walks.{Hopped, More, End, wants, hopped}
-use Rattle.lz_list.specs.Traces.{Trace, Begins, on, chain, chain_of, bucket_of, key_word, is_marked, member}
-use Rattle.lz_list.proofs.Traces.Absence.{begins_itself}
+use Rattle.lz_slot.specs.{declared.{format.Format.{Format}, command.Command.TheVariants.{Has}}, Limits.{most_slots}}
+use Rattle.lz_list.specs.{declared.walk.{Look.{Look}, Met.TheVariants.{Absent, Unmarked, Marked}}, Words.{Words, get}, Walks.{Hopped, More, End, wants, hopped}}
+use Rattle.lz_list.{specs.Traces.{Trace, Begins, on, chain, chain_of, bucket_of, key_word, is_marked, member}, proofs.Traces.Absence.{begins_itself}}
 use Rattle.lz_list.proofs.Traces.NodeBits.{node}
-use Rattle.lz_flush.specs.declared.need.Need.{Need}
-use Rattle.lz_flush.specs.declared.need.Need.TheVariants.{Now, Sync as needs_sync}
-use Rattle.lz_flush.specs.Settling.{may_answer}
+use Rattle.lz_flush.specs.{declared.need.Need.{Need, TheVariants.{Now, Sync as needs_sync}}, Settling.{may_answer}}
 use Rattle.lz_vault.specs.Stages.{Cell}
-use Rattle.lz_machine.specs.declared.actor.Actor.{Actor}
-use Rattle.lz_machine.specs.declared.actor.Hold.TheVariants.{Nothing}
-use Rattle.lz_machine.specs.declared.event.Reply.TheVariants.{No}
-use Rattle.lz_machine.specs.Yards.{Shape}
-use Rattle.lz_machine.specs.Calls.{hops_on, rests}
-use Rattle.lz_machine.specs.CallersSound.{View, IsLooking, HasMet, RestsNo}
-use Rattle.lz_machine.specs.Sound.{TraceSound}
-use Rattle.lz_machine.proofs.Steps.Walk.{GoesOn, once_some, hop_after}
-use Rattle.lz_machine.proofs.Frames.Limbo.{shorter}
-use Rattle.lz_machine.proofs.Steps.Pin.{quiet_new}
+use Rattle.lz_machine.specs.{declared.{actor.{Actor.{Actor}, Hold.TheVariants.{Nothing}}, event.Reply.TheVariants.{No}}, Yards.{Shape}, Calls.{hops_on, rests}}
+use Rattle.lz_machine.{specs.{CallersSound.{View, IsLooking, HasMet, RestsNo}, Sound.{TraceSound}}, proofs.Steps.Walk.{GoesOn, once_some, hop_after}}
+use Rattle.lz_machine.proofs.{Steps.Pin.{quiet_new}, Frames.Limbo.{shorter}}
 
 -- two traces that begin each other are one
 begins_same : (P R : Trace) → Begins P R → Begins R P → R ≡ P

@@ -1,19 +1,13 @@
 -- What is kept where no service is open: after a stop, after a crash and after an open that is refused, each image has a list.
-use Rattle.std.proofs.Common.{◌≡◌, inl, ℕ, Bool, true, false, List, [], ◌∷◌, refl, sym, ap, ◌∙◌, subst, arith}
-use Rattle.std.proofs.lemmas.Grind.{same_number_lists}
-use Rattle.lz_slot.specs.Histories.{History, Life, lives}
-use Rattle.lz_slot.specs.declared.format.Format.{Format}
-use Rattle.lz_slot.specs.Bytes.{format_of}
+use Rattle.std.proofs.{Common.{◌≡◌, inl, ℕ, Bool, true, false, List, [], ◌∷◌, refl, sym, ap, ◌∙◌, subst, arith}, lemmas.Grind.{same_number_lists}}
+use Rattle.lz_slot.specs.{Histories.{History, Life, lives}, declared.format.Format.{Format}, Bytes.{format_of}}
 use Rattle.lz_disk.specs.Images.{Medium, AreBytes, IsImage, at_rest, synced}
 use Rattle.lz_vault.specs.Stages.{Suits}
 use Rattle.lz_list.specs.Traces.{Trace}
 use Rattle.lz_machine.specs.Yards.{Shape}
 use Rattle.lz_machine.specs.Runs.{Start, Service, State, Up, Down, Stops, Crashes, OpenFails, Point, MayStep, point_after, shape_of, start_keys}
-use Rattle.lz_machine.specs.Formats.{HasFormat}
-use Rattle.lz_machine.specs.Notes.{Notes}
-use Rattle.lz_machine.specs.Sound.{UpSound, HasList, DownSound, StateSound, PointSound, IsSound}
-use Rattle.lz_machine.proofs.Runs.PointParts.{point}
-use Rattle.lz_machine.proofs.Crash.Image.{image_names, image_suits, images_fit}
+use Rattle.lz_machine.specs.{Formats.{HasFormat}, Notes.{Notes}, Sound.{UpSound, HasList, DownSound, StateSound, PointSound, IsSound}}
+use Rattle.lz_machine.proofs.{Runs.PointParts.{point}, Crash.Image.{image_names, image_suits, images_fit}}
 
 -- a disk of which nothing is loose has one image
 pub rest_image : {b : Bool} (t u : List ℕ) → IsImage (at_rest b t) u → u ≡ t

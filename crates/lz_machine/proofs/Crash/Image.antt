@@ -1,42 +1,25 @@
 -- Each image of a sound open service holds a set, and the life has a list that leads to it.
-use Rattle.std.proofs.Common.{◌≡◌, ◌≢◌, ◌⊎◌, ⊎_elim, inl, inr, ℕ, suc, ◌+◌, ◌<◌, ◌≤◌, ◌*◌, ◌&&◌, not, max, Bool, true, false, List, [], ◌∷◌, ◌++◌, length, Some, refl, sym, ap, ◌∙◌, subst, arith}
+use Rattle.std.proofs.Common.{◌≡◌, ◌≢◌, ◌⊎◌, ⊎_elim, inl, inr, ℕ, suc, ◌+◌, ◌<◌, ◌≤◌, ◌*◌, ◌&&◌, not, max, Bool, true, false, List, [], ◌∷◌, ◌++◌, length, Some}
+use Rattle.std.proofs.{Common.{refl, sym, ap, ◌∙◌, subst, arith}, lemmas.Bool.{cases_Bool, cases_lt, and_parts, not-true, Decides.{nat_tests}}}
 use Rattle.std.specs.Prelude.{if◌then◌else◌}
 use mathlib.Core.Bool.{false≢true}
-use Rattle.std.proofs.lemmas.Bool.{cases_Bool, cases_lt, and_parts, not-true}
-use Rattle.std.proofs.lemmas.Bool.Decides.{nat_tests}
-use Rattle.lz_slot.specs.Limits.{most_slots_of}
-use Rattle.lz_slot.specs.declared.format.Format.{Format}
-use Rattle.lz_slot.specs.declared.command.Command.{Command}
-use Rattle.lz_slot.specs.declared.command.Command.TheVariants.{Add, Remove}
-use Rattle.lz_slot.specs.Sets.{Keys, Same, key_of, after}
-use Rattle.lz_slot.specs.Bytes.{Holds, format_of, slot_at, open_byte, header_body}
-use Rattle.lz_slot.specs.declared.slot.SlotRead.{SlotRead}
-use Rattle.lz_slot.specs.declared.slot.SlotRead.TheVariants.{Member, BadKey}
-use Rattle.lz_slot.specs.Histories.{History, Life, Fits, Runs, IsUnderWay}
+use Rattle.lz_slot.specs.{Limits.{most_slots_of}, declared.{format.Format.{Format}, command.Command.{Command, TheVariants.{Add, Remove}}}}
+use Rattle.lz_slot.specs.{declared.slot.SlotRead.{SlotRead, TheVariants.{Member, BadKey}}, Sets.{Keys, Same, key_of, after}}
+use Rattle.lz_slot.specs.{Bytes.{Holds, format_of, slot_at, open_byte, header_body}, Histories.{History, Life, Fits, Runs, IsUnderWay}}
+use Rattle.lz_slot.proofs.Sets.{after_same}
 use Rattle.lz_disk.specs.Images.{Medium, IsImage}
-use Rattle.lz_vault.proofs.Reading.{image_format}
-use Rattle.lz_vault.specs.declared.vault.Stage.{Stage}
-use Rattle.lz_vault.specs.declared.vault.Stage.TheVariants.{Opening}
-use Rattle.lz_vault.specs.Stages.{IsFree, IsReadShut, Suits}
+use Rattle.lz_vault.{proofs.Reading.{image_format}, specs.{declared.vault.Stage.{Stage, TheVariants.{Opening}}, Stages.{IsFree, IsReadShut, Suits}}}
 use Rattle.lz_vault.specs.Vaults.{Vaulted}
 use Rattle.lz_list.specs.Traces.{Trace, on, chain_of, key_word, member, linking, is_settled, is_removed, is_marked, SettledYes, SettledNo, IsNode}
-use Rattle.lz_list.specs.declared.publishing.Publishing.TheVariants.{Linked as linked, Marked as marked}
-use Rattle.lz_list.proofs.Traces.NodeBits.{node}
+use Rattle.lz_list.{specs.declared.publishing.Publishing.TheVariants.{Linked as linked, Marked as marked}, proofs.Traces.NodeBits.{node}}
 use Rattle.lz_list.proofs.Traces.WalkEnd.{settled_later}
-use Rattle.lz_machine.specs.Runs.{Service}
-use Rattle.lz_machine.specs.Kept.{upto, last_change, IsOpen, MayDrop, kept_keys, publishing}
-use Rattle.lz_machine.specs.Entries.{kept_rows, numbers}
-use Rattle.lz_machine.specs.Ledgers.{listed}
-use Rattle.lz_machine.specs.Notes.{Notes, entries}
-use Rattle.lz_machine.specs.Yards.{Shape, cell_in, stage_in}
-use Rattle.lz_machine.specs.Sound.{DiskSound, UpSound, HasList}
-use Rattle.lz_machine.proofs.Ledger.Membership.{upto_begins, length-upto, upto_all, yes_is_kept, no_is_kept, last_change_past}
-use Rattle.lz_machine.proofs.Ledger.Fit.{listed_fits}
-use Rattle.lz_machine.proofs.Ledger.KeptRows.{kept_ledger, kept_fits}
-use Rattle.lz_machine.proofs.Crash.ImageSlots.{found, found_in, in_found, not_both, shut_read, one_or_other, IsOpened, IsNodeOf, node_stands, member_node, opened_or_node, reads, read_once}
+use Rattle.lz_machine.specs.{Runs.{Service}, Kept.{upto, last_change, IsOpen, MayDrop, kept_keys, publishing}, Entries.{kept_rows, numbers}, Ledgers.{listed}}
+use Rattle.lz_machine.specs.{Notes.{Notes, entries}, Yards.{Shape, cell_in, stage_in}, Sound.{DiskSound, UpSound, HasList}}
+use Rattle.lz_machine.proofs.Ledger.{Membership.{upto_begins, length-upto, upto_all, yes_is_kept, no_is_kept, last_change_past}, Fit.{listed_fits}}
+use Rattle.lz_machine.proofs.{Ledger.KeptRows.{kept_ledger, kept_fits}, Crash.ImageSlots.{found, found_in, in_found, not_both, shut_read, one_or_other}}
+use Rattle.lz_machine.proofs.Crash.ImageSlots.{IsOpened, IsNodeOf, node_stands, member_node, opened_or_node, reads, read_once}
 use Rattle.lz_machine.proofs.Crash.Tail.{is_opening, asks, asks_adding, asks_removal, asks_waits}
 use Rattle.lz_machine.proofs.Crash.TailRows.{names, names_of, HasRows, rows_to, rows_lead, rows_ledger}
-use Rattle.lz_slot.proofs.Sets.{after_same}
 
 -- an image's format is the vault's
 pub image_names : (shape : Shape) (vault : Vaulted) (disk : Medium) (images : DiskSound shape vault disk) (t : List ℕ) → IsImage disk t → format_of t ≡ vault.format

@@ -1,45 +1,21 @@
 -- What the slots of an image are read as, by where they stand: each open one is a node's or that of an actor that has opened it,
 -- and no two are of one key.
-use Rattle.std.proofs.Common.{◌≡◌, ◌⊎◌, ⊎_elim, inl, inr, ℕ, zero, suc, ◌<◌, ◌==◌, ◌||◌, Bool, true, false, List, Option, Some, refl, sym, ap, ◌∙◌, subst, arith}
-use Rattle.std.specs.Prelude.{slice_get}
+use Rattle.std.proofs.Common.{◌≡◌, ◌⊎◌, ⊎_elim, inl, inr, ℕ, zero, suc, ◌<◌, ◌==◌, ◌||◌, Bool, true, false, List, Option, Some, refl, sym, ap, ◌∙◌, subst}
+use Rattle.std.proofs.{Common.{arith}, lemmas.Bool.{cases_eq, cases_Bool, or_cases, or_left, or_right, eq-eqb, Decides.{nat_tests}}}
+use Rattle.std.{proofs.lemmas.Option.{slice_get-get_or, same_Some}, specs.Prelude.{slice_get}}
 use mathlib.Core.Bool.{false≢true}
-use Rattle.std.proofs.lemmas.Bool.{cases_eq, cases_Bool, or_cases, or_left, or_right, eq-eqb}
-use Rattle.std.proofs.lemmas.Bool.Decides.{nat_tests}
-use Rattle.std.proofs.lemmas.Option.{slice_get-get_or, same_Some}
-use Rattle.lz_slot.specs.Sets.{Keys}
-use Rattle.lz_slot.specs.Bytes.{slot_at}
-use Rattle.lz_slot.specs.declared.format.Format.{Format}
-use Rattle.lz_slot.specs.declared.format.Format.TheVariants.{Four}
-use Rattle.lz_slot.specs.declared.slot.SlotRead.{SlotRead}
-use Rattle.lz_slot.specs.declared.slot.SlotRead.TheVariants.{Member}
+use Rattle.lz_slot.specs.{Sets.{Keys}, Bytes.{slot_at}, declared.{format.Format.{Format, TheVariants.{Four}}, slot.SlotRead.{SlotRead, TheVariants.{Member}}}}
 use Rattle.lz_slot.specs.Histories.{History}
 use Rattle.lz_disk.specs.Images.{Medium, IsImage}
-use Rattle.lz_vault.specs.declared.vault.Stage.{Stage}
-use Rattle.lz_vault.specs.declared.vault.Stage.TheVariants.{Closed, Torn, KeyLoose, Keyed, Opening, Open, Closing}
-use Rattle.lz_vault.specs.Stages.{MayRead, IsFree, IsReadShut, IsReadShutIn}
-use Rattle.lz_vault.proofs.Reading.{image_reads}
-use Rattle.lz_list.specs.Words.{place_number, link_to}
-use Rattle.lz_list.specs.Locks.{owner}
-use Rattle.lz_list.specs.Traces.{Trace, WordsShow, has_key, on, chain_of, bucket_of, key_word, next_link, member}
-use Rattle.lz_list.proofs.Chains.PlaceRank.{has_on}
-use Rattle.lz_list.proofs.Chains.TraceChain.{words_show_chain}
-use Rattle.lz_list.proofs.Traces.Absence.{unlinked_is_settled}
-use Rattle.lz_list.proofs.Traces.NodeBits.{one_node}
-use Rattle.lz_list.proofs.Traces.TraceWords.{node_of_key}
-use Rattle.lz_machine.specs.declared.actor.Hold.{Hold}
-use Rattle.lz_machine.specs.declared.actor.Hold.TheVariants.{Checked, GateOpened}
-use Rattle.lz_vault.specs.Members.{no_cell}
-use Rattle.lz_machine.specs.Yards.{Yard, actor_in, cell_in, stage_in}
-use Rattle.lz_machine.specs.Runs.{Caller}
-use Rattle.lz_machine.specs.Notes.{Notes}
-use Rattle.lz_machine.specs.SlotsSound.{opens, IsGateOpened, IsOnChain, IsNodeStage, SlotStands, is_node, is_held, is_out, is_free, is_limbo}
-use Rattle.lz_machine.specs.LocksSound.{IsBeside, RestsOn}
-use Rattle.lz_machine.specs.Sound.{Sound}
-use Rattle.lz_machine.proofs.Frames.ChainSlots.{chain_stands}
-use Rattle.lz_machine.proofs.Frames.HeldLocks.{rests_on_pair, one_place}
-use Rattle.lz_machine.proofs.Frames.OtherLink.{round_place}
-use Rattle.lz_machine.proofs.Frames.Ranges.{on_range}
-use Rattle.lz_machine.proofs.Steps.Unlink.{resting_locks, first_place}
+use Rattle.lz_vault.specs.declared.vault.Stage.{Stage, TheVariants.{Closed, Torn, KeyLoose, Keyed, Opening, Open, Closing}}
+use Rattle.lz_vault.{specs.{Stages.{MayRead, IsFree, IsReadShut, IsReadShutIn}, Members.{no_cell}}, proofs.Reading.{image_reads}}
+use Rattle.lz_list.specs.{Words.{place_number, link_to}, Locks.{owner}}
+use Rattle.lz_list.{specs.Traces.{Trace, WordsShow, has_key, on, chain_of, bucket_of, key_word, next_link, member}, proofs.Chains.PlaceRank.{has_on}}
+use Rattle.lz_list.proofs.{Chains.TraceChain.{words_show_chain}, Traces.{Absence.{unlinked_is_settled}, NodeBits.{one_node}, TraceWords.{node_of_key}}}
+use Rattle.lz_machine.specs.{declared.actor.Hold.{Hold, TheVariants.{Checked, GateOpened}}, Yards.{Yard, actor_in, cell_in, stage_in}, Runs.{Caller}}
+use Rattle.lz_machine.specs.{Notes.{Notes}, SlotsSound.{opens, IsGateOpened, IsOnChain, IsNodeStage, SlotStands, is_node, is_held, is_out, is_free, is_limbo}}
+use Rattle.lz_machine.{specs.{LocksSound.{IsBeside, RestsOn}, Sound.{Sound}}, proofs.Frames.{ChainSlots.{chain_stands}, HeldLocks.{rests_on_pair, one_place}}}
+use Rattle.lz_machine.proofs.{Frames.{OtherLink.{round_place}, Ranges.{on_range}}, Steps.Unlink.{resting_locks, first_place}}
 
 -- the keys that the first slots of a text hold
 abbrev pub reads_key : ℕ → SlotRead → Bool

@@ -1,38 +1,20 @@
 -- What a crash may leave at any time, also inside a call of the device, has a list; so a crash inside a call keeps the invariant.
 use Rattle.std.proofs.Common.{◌≡◌, ◌≢◌, inl, inr, ℕ, Bool, true, false, List, [], ◌∷◌, ◌++◌, Option, Some, None, refl, sym, ap, ◌∙◌, subst, arith}
 use mathlib.Core.Bool.{false≢true}
-use Rattle.lz_slot.specs.Sets.{Keys}
-use Rattle.lz_slot.specs.Bytes.{Holds, format_of}
-use Rattle.lz_slot.specs.declared.format.Format.{Format}
-use Rattle.lz_slot.specs.declared.format.Format.TheVariants.{Four}
-use Rattle.lz_slot.specs.declared.command.Command.{Command}
+use Rattle.lz_slot.specs.{Sets.{Keys}, Bytes.{Holds, format_of}, declared.{format.Format.{Format, TheVariants.{Four}}, command.Command.{Command}}}
 use Rattle.lz_slot.specs.Histories.{History, Life, ChainTo, lives, last_history}
 use Rattle.lz_disk.specs.Images.{Medium, AreBytes, IsImage}
-use Rattle.lz_vault.specs.Stages.{Suits}
-use Rattle.lz_vault.specs.Vaults.{DeviceCall, NoCall, WriteAt, SyncAll, medium_after}
-use Rattle.lz_list.specs.declared.publishing.Publishing.TheVariants.{KeyPrepared as key_prepared, LinkPrepared as link_prepared}
-use Rattle.lz_list.specs.Traces.{Trace}
-use Rattle.lz_machine.specs.declared.event.Event.{Event}
-use Rattle.lz_machine.specs.declared.event.Event.TheVariants.{WriteKey, WriteOpen, WriteClose, Sync, Answer}
-use Rattle.lz_machine.specs.declared.event.Outcome.TheVariants.{Done, NotNow}
-use Rattle.lz_machine.specs.declared.event.Reply.{Reply}
-use Rattle.lz_machine.specs.declared.course.Course.{Course}
-use Rattle.lz_machine.specs.declared.course.Course.TheVariants.{Refused, Dies, Plays}
-use Rattle.lz_machine.specs.declared.actor.Actor.{Actor}
-use Rattle.lz_machine.specs.declared.caller.Progress.{Progress}
-use Rattle.lz_machine.specs.declared.caller.Progress.TheVariants.{Answering}
-use Rattle.lz_machine.specs.Yards.{Shape, Yard, actor_at}
+use Rattle.lz_vault.specs.{Stages.{Suits}, Vaults.{DeviceCall, NoCall, WriteAt, SyncAll, medium_after}}
+use Rattle.lz_list.specs.{declared.publishing.Publishing.TheVariants.{KeyPrepared as key_prepared, LinkPrepared as link_prepared}, Traces.{Trace}}
+use Rattle.lz_machine.specs.declared.event.{Event.{Event, TheVariants.{WriteKey, WriteOpen, WriteClose, Sync, Answer}}, Outcome.TheVariants.{Done, NotNow}}
+use Rattle.lz_machine.specs.declared.{event.Reply.{Reply}, course.Course.{Course, TheVariants.{Refused, Dies, Plays}}, actor.Actor.{Actor}}
+use Rattle.lz_machine.specs.{declared.caller.Progress.{Progress, TheVariants.{Answering}}, Yards.{Shape, Yard, actor_at}}
 use Rattle.lz_machine.specs.Table.{course, line, line_on, call_on, call_of, published_on, publishes, vault_after, yard_done, outcome_of}
-use Rattle.lz_machine.specs.Calls.{event_at, loaded}
-use Rattle.lz_machine.specs.Runs.{Start, Service, Caller, State, Up, Down, CrashesIn, Point, Reached, IsStart, IsRun, Transition, MayStep, MayLeave, LeftInside, HasTurn, point_after, run, first_point, disk_of, shape_of, start_keys, caller_at, next_event, reply_at, played, after_turn, marks_of_turn, mark_of_turn, turn_publishes}
-use Rattle.lz_machine.specs.Formats.{HasFormat}
-use Rattle.lz_machine.specs.Lasts.{Lasts}
-use Rattle.lz_machine.specs.Laws.{EveryHistory, WhatLasts}
-use Rattle.lz_machine.specs.Sound.{HasList, PointSound, IsSound}
-use Rattle.lz_machine.proofs.Runs.PointParts.{point}
-use Rattle.lz_machine.proofs.Crash.Image.{image_names, image_suits, images_fit}
-use Rattle.lz_machine.proofs.Crash.Down.{at_rest_sound, rest_format}
-use Rattle.lz_machine.proofs.Steps.Point.{turn_keeps}
+use Rattle.lz_machine.specs.{Calls.{event_at, loaded}, Runs.{Start, Service, Caller, State, Up, Down, CrashesIn, Point, Reached, IsStart, IsRun, Transition}}
+use Rattle.lz_machine.specs.Runs.{MayStep, MayLeave, LeftInside, HasTurn, point_after, run, first_point, disk_of, shape_of, start_keys, caller_at, next_event}
+use Rattle.lz_machine.specs.{Runs.{reply_at, played, after_turn, marks_of_turn, mark_of_turn, turn_publishes}, Formats.{HasFormat}, Lasts.{Lasts}}
+use Rattle.lz_machine.{specs.{Laws.{EveryHistory, WhatLasts}, Sound.{HasList, PointSound, IsSound}}, proofs.Runs.PointParts.{point}}
+use Rattle.lz_machine.proofs.{Crash.{Image.{image_names, image_suits, images_fit}, Down.{at_rest_sound, rest_format}}, Steps.Point.{turn_keeps}}
 
 -- the text holds a set to which the lives lead, the newest by a list of its own, and its format suits the disk, and is the state's
 abbrev pub IsLeft : Point → List ℕ → List Life → Type 0

@@ -1,28 +1,16 @@
 -- The calls that an image puts at the end: an adding whose gate it has open before the linking, and a removing whose gate it has
 -- closed before the marking.
 use Rattle.std.proofs.Common.{◌≡◌, ◌⊎◌, ⊎_elim, inl, inr, ℕ, suc, ◌<◌, Bool, true, false, List, Option, Some, None, refl, sym, ap, ◌∙◌, subst, arith}
+use Rattle.std.proofs.lemmas.{Bool.{cases_Bool, eq-eqb}, Option.{none-some, same_Some}}
 use mathlib.Core.Bool.{false≢true}
-use Rattle.std.proofs.lemmas.Bool.{cases_Bool, eq-eqb}
-use Rattle.std.proofs.lemmas.Option.{none-some, same_Some}
-use Rattle.lz_slot.specs.declared.command.Command.{Command}
-use Rattle.lz_slot.specs.declared.command.Command.TheVariants.{Add, Remove}
-use Rattle.lz_slot.specs.Sets.{key_of, moved}
-use Rattle.lz_slot.specs.Bytes.{slot_at}
-use Rattle.lz_slot.specs.declared.slot.SlotRead.{SlotRead}
-use Rattle.lz_slot.specs.declared.slot.SlotRead.TheVariants.{Closed as Shut, Torn, Member}
-use Rattle.lz_slot.specs.Histories.{History, IsUnderWay}
+use Rattle.lz_slot.specs.declared.{command.Command.{Command, TheVariants.{Add, Remove}}, slot.SlotRead.{SlotRead, TheVariants.{Closed as Shut, Torn, Member}}}
+use Rattle.lz_slot.specs.{Sets.{key_of, moved}, Bytes.{slot_at}, Histories.{History, IsUnderWay}}
 use Rattle.lz_disk.specs.Images.{Medium, IsImage}
-use Rattle.lz_vault.specs.declared.vault.Stage.{Stage}
-use Rattle.lz_vault.specs.declared.vault.Stage.TheVariants.{Opening, Open}
-use Rattle.lz_vault.specs.Stages.{MayRead, IsReadShut}
+use Rattle.lz_vault.specs.{declared.vault.Stage.{Stage, TheVariants.{Opening, Open}}, Stages.{MayRead, IsReadShut}}
 use Rattle.lz_list.specs.Traces.{Trace, on, chain_of, bucket_of, key_word, is_marked}
-use Rattle.lz_machine.specs.Yards.{Yard, cell_in, stage_in}
-use Rattle.lz_machine.specs.Runs.{Caller}
-use Rattle.lz_machine.specs.Ledgers.{Row, times}
-use Rattle.lz_machine.specs.Notes.{Notes, entries}
-use Rattle.lz_machine.specs.SlotsSound.{IsGateOpened, IsGateWritten, IsNodeStage}
-use Rattle.lz_machine.specs.Sound.{Sound}
-use Rattle.lz_machine.proofs.Crash.ImageSlots.{found, found_in, in_found, not_both, member_read, IsOpened, IsNodeOf, one_slot, node_stands, opened_or_node, reads}
+use Rattle.lz_machine.specs.{Yards.{Yard, cell_in, stage_in}, Runs.{Caller}, Ledgers.{Row, times}, Notes.{Notes, entries}}
+use Rattle.lz_machine.{specs.{SlotsSound.{IsGateOpened, IsGateWritten, IsNodeStage}, Sound.{Sound}}, proofs.Crash.ImageSlots.{found, found_in, in_found}}
+use Rattle.lz_machine.proofs.Crash.ImageSlots.{not_both, member_read, IsOpened, IsNodeOf, one_slot, node_stands, opened_or_node, reads}
 
 abbrev pub is_opening : Stage → Bool
 is_opening Opening = true

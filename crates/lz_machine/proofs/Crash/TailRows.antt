@@ -1,25 +1,14 @@
 -- The rows that an image puts at the end of its list: one for each slot that asks for a call.
-use Rattle.std.proofs.Common.{◌≡◌, ◌≢◌, ◌⊎◌, ⊎_elim, inl, inr, ℕ, zero, suc, ◌<◌, ◌≤◌, ◌==◌, Bool, true, false, List, [], ◌∷◌, ◌++◌, Option, Some, None, refl, sym, ap, ◌∙◌, subst, arith}
-use Rattle.std.specs.List.{list_any}
-use Rattle.std.proofs.lemmas.Bool.{cases_eq, or_left, or_right, eq-eqb}
-use Rattle.std.proofs.lemmas.Bool.Decides.{nat_tests}
-use Rattle.std.proofs.lemmas.Option.{none-some, same_Some}
-use Rattle.lz_slot.specs.declared.command.Command.{Command}
-use Rattle.lz_slot.specs.Sets.{Keys, key_of, after, moved}
+use Rattle.std.proofs.Common.{◌≡◌, ◌≢◌, ◌⊎◌, ⊎_elim, inl, inr, ℕ, zero, suc, ◌<◌, ◌≤◌, ◌==◌, Bool, true, false, List, [], ◌∷◌, ◌++◌, Option, Some, None, refl}
+use Rattle.std.proofs.{Common.{sym, ap, ◌∙◌, subst, arith}, lemmas.Bool.{cases_eq, or_left, or_right, eq-eqb, Decides.{nat_tests}}}
+use Rattle.std.{proofs.lemmas.Option.{none-some, same_Some}, specs.List.{list_any}}
+use Rattle.lz_slot.specs.{declared.command.Command.{Command}, Sets.{Keys, key_of, after, moved}, Histories.{History, IsCalled}}
 use Rattle.lz_slot.proofs.Sets.{after_at, moved_other}
-use Rattle.lz_slot.specs.Histories.{History, IsCalled}
 use Rattle.lz_disk.specs.Images.{Medium, IsImage}
 use Rattle.lz_list.specs.Traces.{Trace}
-use Rattle.lz_machine.specs.Yards.{Yard}
-use Rattle.lz_machine.specs.Runs.{Caller}
-use Rattle.lz_machine.specs.Ledgers.{Row, HasRow, Each, times, Gives, ends, Leads}
-use Rattle.lz_machine.specs.Entries.{IsRowIn, IsLedger}
-use Rattle.lz_machine.specs.Notes.{Notes, entries}
-use Rattle.lz_machine.specs.Sound.{Sound}
-use Rattle.lz_machine.proofs.Ledger.Fit.{each_all, each_has, has_append}
-use Rattle.lz_machine.proofs.Ledger.Order.{has_left}
-use Rattle.lz_machine.proofs.Crash.ImageSlots.{found}
-use Rattle.lz_machine.proofs.Crash.Tail.{asks, IsWaiting, asks_apart, asks_waits, asks_sets}
+use Rattle.lz_machine.specs.{Yards.{Yard}, Runs.{Caller}, Ledgers.{Row, HasRow, Each, times, Gives, ends, Leads}, Entries.{IsRowIn, IsLedger}}
+use Rattle.lz_machine.{specs.{Notes.{Notes, entries}, Sound.{Sound}}, proofs.Ledger.{Fit.{each_all, each_has, has_append}, Order.{has_left}}}
+use Rattle.lz_machine.proofs.Crash.{ImageSlots.{found}, Tail.{asks, IsWaiting, asks_apart, asks_waits, asks_sets}}
 
 -- whether a row of the list names the key
 abbrev pub names : ℕ → List Row → Bool

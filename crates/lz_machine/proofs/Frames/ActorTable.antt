@@ -1,7 +1,6 @@
 -- One actor's step: what was changed of it, and that the others' is as before.
 use Rattle.std.proofs.Common.{◌≡◌, ◌≢◌, ℕ, List, arith}
-use Rattle.lz_machine.specs.declared.actor.Actor.{Actor}
-use Rattle.lz_machine.specs.Yards.{actor_in}
+use Rattle.lz_machine.specs.{declared.actor.Actor.{Actor}, Yards.{actor_in}}
 
 -- what holds of an actor and of each other one holds of all
 pub by_actor : (A : ℕ → Type 0) (a : ℕ) → A a → ((b : ℕ) → b ≢ a → A b) → (b : ℕ) → A b

@@ -1,16 +1,10 @@
 -- An actor that has opened its slot's gate stands beside its key's place.
-use Rattle.std.proofs.Common.{◌≡◌, inl, inr, ℕ, Bool, true, Some, refl, sym, ◌∙◌, subst, arith}
+use Rattle.std.proofs.{Common.{◌≡◌, inl, inr, ℕ, Bool, true, Some, refl, sym, ◌∙◌, subst, arith}, lemmas.Option.{same_Some}}
 use mathlib.Core.Bool.{false≢true}
-use Rattle.std.proofs.lemmas.Option.{same_Some}
-use Rattle.lz_vault.specs.declared.vault.Stage.{Stage}
-use Rattle.lz_vault.specs.Stages.{IsFree}
+use Rattle.lz_vault.specs.{declared.vault.Stage.{Stage}, Stages.{IsFree}}
 use Rattle.lz_list.specs.Traces.{Trace, key_word}
-use Rattle.lz_machine.specs.declared.actor.Actor.{Actor}
-use Rattle.lz_machine.specs.declared.actor.Hold.{Hold}
-use Rattle.lz_machine.specs.declared.actor.Hold.TheVariants.{Checked, GateOpened}
-use Rattle.lz_machine.specs.SlotsSound.{opens, IsGateOpened, IsGateWritten}
-use Rattle.lz_machine.specs.LocksSound.{IsBeside, RestsOn}
-use Rattle.lz_machine.proofs.Frames.HeldLocks.{rests_on_pair}
+use Rattle.lz_machine.specs.{declared.actor.{Actor.{Actor}, Hold.{Hold, TheVariants.{Checked, GateOpened}}}, SlotsSound.{opens, IsGateOpened, IsGateWritten}}
+use Rattle.lz_machine.{specs.LocksSound.{IsBeside, RestsOn}, proofs.Frames.HeldLocks.{rests_on_pair}}
 
 -- a gate that is surely closed is neither opened nor written open
 pub opened_shut : (stage : Stage) → IsGateOpened stage → IsFree stage → ⊥

@@ -1,18 +1,11 @@
 -- What a caller relies on stays when another's event changes cells, or the vault dies.
 use Rattle.std.proofs.Common.{◌≡◌, ◌≢◌, ℕ, ◌<◌, Bool, true, List, length, Option, Some, None, sym, ap, subst, get_or-set_same, get_or-set_other, arith}
 use Rattle.std.specs.Prelude.{slice_set}
-use Rattle.lz_slot.specs.declared.format.Format.{Format}
-use Rattle.lz_slot.specs.declared.command.Command.{Command}
-use Rattle.lz_vault.specs.declared.vault.Stage.{Stage}
-use Rattle.lz_vault.specs.declared.vault.Stage.TheVariants.{Keyed}
-use Rattle.lz_vault.specs.Stages.{Cell}
-use Rattle.lz_vault.specs.Members.{no_cell}
+use Rattle.lz_slot.specs.declared.{format.Format.{Format}, command.Command.{Command}}
+use Rattle.lz_vault.specs.{declared.vault.Stage.{Stage, TheVariants.{Keyed}}, Stages.{Cell}, Members.{no_cell}}
 use Rattle.lz_list.specs.Traces.{Trace}
-use Rattle.lz_machine.specs.declared.actor.Actor.{Actor}
-use Rattle.lz_machine.specs.declared.caller.Progress.{Progress}
-use Rattle.lz_machine.specs.Runs.{Caller}
-use Rattle.lz_machine.specs.CallersSound.{View, IsKeyed, Relies, IsCaller, CallerSound}
-use Rattle.lz_machine.specs.Yards.{cell_in, stage_in}
+use Rattle.lz_machine.specs.{declared.{actor.Actor.{Actor}, caller.Progress.{Progress}}, Runs.{Caller}}
+use Rattle.lz_machine.specs.{CallersSound.{View, IsKeyed, Relies, IsCaller, CallerSound}, Yards.{cell_in, stage_in}}
 
 -- a slot's cell keeps its key, and what was written of it
 pub record KeepsCell (old new : Cell) : Type 0 where

@@ -1,21 +1,13 @@
 -- Which slots are on chains: nodes are, slots that are free or in limbo are not, and no pass that is inside may stand on one that is not.
-use Rattle.std.proofs.Common.{◌≡◌, inl, inr, ℕ, suc, ◌<◌, Bool, true, List, ◌∷◌, length, Some, sym, ◌∙◌, arith}
+use Rattle.std.proofs.{Common.{◌≡◌, inl, inr, ℕ, suc, ◌<◌, Bool, true, List, ◌∷◌, length, Some, sym, ◌∙◌, arith}, lemmas.{Bool.{cases_lt}, List.{get_or_past}}}
 use mathlib.Core.Bool.{false≢true}
-use Rattle.std.proofs.lemmas.Bool.{cases_lt}
-use Rattle.std.proofs.lemmas.List.{get_or_past}
 use Rattle.lz_slot.specs.Counted.{of_pass}
 use Rattle.lz_vault.specs.Stages.{Cell, IsFree}
-use Rattle.lz_allot.specs.declared.sight.Sight.{Sight}
-use Rattle.lz_allot.specs.declared.sight.Sight.TheVariants.{Left}
-use Rattle.lz_allot.specs.Uses.{Use, Free, Taken, Limbo, use_of}
-use Rattle.lz_list.specs.declared.publishing.Publishing.{Publishing}
-use Rattle.lz_list.specs.Traces.{Trace, IsLoose, on, chain_of, bucket_of}
-use Rattle.lz_machine.specs.declared.actor.Actor.{Actor}
-use Rattle.lz_machine.specs.Yards.{Shape, actor_in, pin_in, stage_in}
-use Rattle.lz_machine.specs.SlotsSound.{IsOnChain, IsNodeStage, SlotStands, is_node, is_held, is_out, is_free, is_limbo, SlotsSound}
-use Rattle.lz_machine.specs.Sound.{ReuseSound}
-use Rattle.lz_machine.proofs.Frames.Limbo.{seen_step, away_stays}
-use Rattle.lz_machine.proofs.Frames.Uses.{free_limbo}
+use Rattle.lz_allot.specs.{declared.sight.Sight.{Sight, TheVariants.{Left}}, Uses.{Use, Free, Taken, Limbo, use_of}}
+use Rattle.lz_list.specs.{declared.publishing.Publishing.{Publishing}, Traces.{Trace, IsLoose, on, chain_of, bucket_of}}
+use Rattle.lz_machine.specs.{declared.actor.Actor.{Actor}, Yards.{Shape, actor_in, pin_in, stage_in}}
+use Rattle.lz_machine.specs.{SlotsSound.{IsOnChain, IsNodeStage, SlotStands, is_node, is_held, is_out, is_free, is_limbo, SlotsSound}, Sound.{ReuseSound}}
+use Rattle.lz_machine.proofs.Frames.{Limbo.{seen_step, away_stays}, Uses.{free_limbo}}
 
 pub free_taken : {u : Use} → u ≡ Free → u ≡ Taken → ⊥
 free_taken a b = absurd (let e : Free ≡ Taken = sym a ∙ b in cc)

@@ -1,25 +1,11 @@
 -- The change that is noted of a pass that is inside is that which was published for it since it went in.
-use Rattle.std.proofs.Common.{◌≡◌, inl, inr, ℕ, ◌+◌, ◌≤◌, ◌%◌, ◌==◌, ◌&&◌, if◌then◌else◌, Bool, true, false, List, [], ◌∷◌, ◌++◌, length, Option, Some, None, refl, sym, ap, ◌∙◌, arith}
-use Rattle.std.specs.Prelude.{nat_le}
-use Rattle.std.proofs.lemmas.Bool.{cases_eq}
-use Rattle.std.proofs.lemmas.Bool.Decides.{nat_tests}
-use Rattle.lz_slot.specs.Counted.{set_of_pass}
-use Rattle.lz_slot.specs.declared.command.Command.{Command}
-use Rattle.lz_slot.proofs.Counted.{of_pass_same}
-use Rattle.lz_list.specs.declared.publishing.Publishing.TheVariants.{Linked as linked, Marked as marked}
-use Rattle.lz_list.specs.Traces.{Trace}
-use Rattle.lz_machine.specs.declared.event.Event.{Event}
-use Rattle.lz_machine.specs.declared.event.Event.TheVariants.{Link, Mark}
-use Rattle.lz_machine.specs.declared.caller.Progress.{Progress}
-use Rattle.lz_machine.specs.Yards.{Yard, IsInside, actor_at, pin_in}
-use Rattle.lz_machine.specs.Table.{publishes}
-use Rattle.lz_machine.specs.Runs.{Caller}
-use Rattle.lz_machine.specs.Notes.{Notes}
-use Rattle.lz_machine.specs.Ledgers.{Row}
-use Rattle.lz_machine.specs.CallersSound.{View, Relies, IsCaller, is_before_pin, side_of}
-use Rattle.lz_machine.specs.CallsStand.{own_change}
-use Rattle.lz_machine.proofs.Ledger.Change.{changes_at, changed_same, changed_other}
-use Rattle.lz_machine.proofs.Ledger.Parts.{ends_now}
+use Rattle.std.proofs.Common.{◌≡◌, inl, inr, ℕ, ◌+◌, ◌≤◌, ◌%◌, ◌==◌, ◌&&◌, if◌then◌else◌, Bool, true, false, List, [], ◌∷◌, ◌++◌, length, Option, Some, None}
+use Rattle.std.{proofs.{Common.{refl, sym, ap, ◌∙◌, arith}, lemmas.Bool.{cases_eq, Decides.{nat_tests}}}, specs.Prelude.{nat_le}}
+use Rattle.lz_slot.{specs.{Counted.{set_of_pass}, declared.command.Command.{Command}}, proofs.Counted.{of_pass_same}}
+use Rattle.lz_list.specs.{declared.publishing.Publishing.TheVariants.{Linked as linked, Marked as marked}, Traces.{Trace}}
+use Rattle.lz_machine.specs.{declared.{event.Event.{Event, TheVariants.{Link, Mark}}, caller.Progress.{Progress}}, Yards.{Yard, IsInside, actor_at, pin_in}}
+use Rattle.lz_machine.specs.{Table.{publishes}, Runs.{Caller}, Notes.{Notes}, Ledgers.{Row}, CallersSound.{View, Relies, IsCaller, is_before_pin, side_of}}
+use Rattle.lz_machine.{specs.CallsStand.{own_change}, proofs.Ledger.{Change.{changes_at, changed_same, changed_other}, Parts.{ends_now}}}
 use Rattle.lz_machine.proofs.Frames.Outside.{side_even}
 
 -- Of a pass that is inside now the note tells its own change still, where it did before.

@@ -1,25 +1,11 @@
 -- The key that a call writes is one that the file can hold.
-use Rattle.std.specs.Prelude.{nat_lt}
-use Rattle.std.proofs.Common.{◌≡◌, ℕ, zero, suc, ◌≤◌, false, Option, Some, None, refl, arith}
-use Rattle.std.proofs.lemmas.Option.{none-some}
+use Rattle.std.{specs.Prelude.{nat_lt}, proofs.{Common.{◌≡◌, ℕ, zero, suc, ◌≤◌, false, Option, Some, None, refl, arith}, lemmas.Option.{none-some}}}
 use Rattle.std.proofs.lemmas.Bool.Decides.{nat_tests}
-use Rattle.lz_slot.specs.declared.command.Command.{Command}
-use Rattle.lz_slot.specs.declared.command.Command.TheVariants.{Add, Remove, Has}
-use Rattle.lz_slot.specs.declared.format.Format.{Format}
-use Rattle.lz_slot.specs.Rooms.{largest_of}
-use Rattle.lz_slot.specs.Sets.{key_of}
-use Rattle.lz_list.specs.Words.{Words}
-use Rattle.lz_list.specs.Traces.{Trace}
-use Rattle.lz_machine.specs.declared.caller.Sequence.{Sequence}
-use Rattle.lz_machine.specs.declared.caller.Sequence.TheVariants.{Pinning, Resting, Writing, Adding, Removing, Releasing, Halting}
-use Rattle.lz_machine.specs.declared.caller.Progress.{Progress}
-use Rattle.lz_machine.specs.declared.caller.Progress.TheVariants.{Playing}
-use Rattle.lz_machine.specs.declared.event.Event.{Event}
-use Rattle.lz_machine.specs.declared.event.Event.TheVariants.{WriteKey}
-use Rattle.lz_machine.specs.Yards.{Shape}
-use Rattle.lz_machine.specs.Calls.{event_at, loaded}
-use Rattle.lz_machine.specs.Table.{is_old}
-use Rattle.lz_machine.specs.CallersSound.{View, IsAdder, Relies, is_before_pin}
+use Rattle.lz_slot.specs.{declared.{command.Command.{Command, TheVariants.{Add, Remove, Has}}, format.Format.{Format}}, Rooms.{largest_of}, Sets.{key_of}}
+use Rattle.lz_list.specs.{Words.{Words}, Traces.{Trace}}
+use Rattle.lz_machine.specs.declared.caller.Sequence.{Sequence, TheVariants.{Pinning, Resting, Writing, Adding, Removing, Releasing, Halting}}
+use Rattle.lz_machine.specs.{declared.{caller.Progress.{Progress, TheVariants.{Playing}}, event.Event.{Event, TheVariants.{WriteKey}}}, Yards.{Shape}}
+use Rattle.lz_machine.specs.{Calls.{event_at, loaded}, Table.{is_old}, CallersSound.{View, IsAdder, Relies, is_before_pin}}
 
 within : (most k : ℕ) → nat_lt most k ≡ false → k ≤ most
 within most k is = grind (arith, nat_tests)

@@ -1,11 +1,8 @@
 -- What an actor has in hand, and may rely on its hold for, stays when its hold changes so, and when the vault dies.
 use Rattle.std.proofs.Common.{◌≡◌, ℕ, Bool, true, false, Some, refl, arith}
 use mathlib.Core.Bool.{false≢true}
-use Rattle.lz_machine.specs.declared.actor.Actor.{Actor}
-use Rattle.lz_machine.specs.declared.actor.Hold.{Hold}
-use Rattle.lz_machine.specs.declared.actor.Hold.TheVariants.{Nothing, Released}
-use Rattle.lz_machine.specs.SlotsSound.{IsOut, IsCloser, closes, opens, shuts, unlocks, has_removed_node}
-use Rattle.lz_machine.specs.LocksSound.{has_locks}
+use Rattle.lz_machine.specs.declared.actor.{Actor.{Actor}, Hold.{Hold, TheVariants.{Nothing, Released}}}
+use Rattle.lz_machine.specs.{SlotsSound.{IsOut, IsCloser, closes, opens, shuts, unlocks, has_removed_node}, LocksSound.{has_locks}}
 
 -- the actor has the same slots in hand, and may rely on its hold for them
 pub record KeepsGrips (dead dead' : Bool) (old new : Actor) : Type 0 where

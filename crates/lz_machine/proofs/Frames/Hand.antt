@@ -1,25 +1,13 @@
 -- A turn that changes node locks and what its actor has in hand, and nothing else, keeps the invariant.
 use Rattle.std.proofs.Common.{◌≡◌, ◌≢◌, ℕ, ◌≤◌, List, length, Option, Some, sym, subst, arith}
-use Rattle.lz_slot.specs.Counted.{set_of_pass}
-use Rattle.lz_slot.specs.Histories.{History}
-use Rattle.lz_slot.proofs.Counted.{of_pass_same, of_pass_other, length-set_of_pass}
+use Rattle.lz_slot.{specs.{Counted.{set_of_pass}, Histories.{History}}, proofs.Counted.{of_pass_same, of_pass_other, length-set_of_pass}}
 use Rattle.lz_disk.specs.Images.{Medium}
 use Rattle.lz_allot.specs.Uses.{Use}
-use Rattle.lz_list.specs.Traces.{Trace}
-use Rattle.lz_list.specs.Locks.{NodeLocks}
-use Rattle.lz_machine.specs.declared.actor.Actor.{Actor}
-use Rattle.lz_machine.specs.declared.caller.Progress.{Progress}
-use Rattle.lz_machine.specs.Yards.{Yard, Shape, idle_actor, actor_in, pin_in}
-use Rattle.lz_machine.specs.Runs.{Caller, caller_at}
-use Rattle.lz_machine.specs.Notes.{Notes}
-use Rattle.lz_machine.specs.CallersSound.{CallerSound}
-use Rattle.lz_machine.specs.LocksSound.{LocksSound}
-use Rattle.lz_machine.specs.Sound.{ReuseSound, Sound}
-use Rattle.lz_machine.proofs.Frames.ActorTable.{by_actor}
-use Rattle.lz_machine.proofs.Frames.OneActor.{moved, moving, caller_range, callers_turn, ledger_turn}
-use Rattle.lz_machine.proofs.Frames.Grip.{KeepsGrips, keeps_itself}
-use Rattle.lz_machine.proofs.Frames.KeptSlots.{slots_turn}
-use Rattle.lz_machine.proofs.Frames.SameYard.{KeepsTail, in_passes, tails_turn}
+use Rattle.lz_list.specs.{Traces.{Trace}, Locks.{NodeLocks}}
+use Rattle.lz_machine.specs.{declared.{actor.Actor.{Actor}, caller.Progress.{Progress}}, Yards.{Yard, Shape, idle_actor, actor_in, pin_in}}
+use Rattle.lz_machine.specs.{Runs.{Caller, caller_at}, Notes.{Notes}, CallersSound.{CallerSound}, LocksSound.{LocksSound}, Sound.{ReuseSound, Sound}}
+use Rattle.lz_machine.proofs.Frames.{ActorTable.{by_actor}, OneActor.{moved, moving, caller_range, callers_turn, ledger_turn}, Grip.{KeepsGrips, keeps_itself}}
+use Rattle.lz_machine.proofs.Frames.{KeptSlots.{slots_turn}, SameYard.{KeepsTail, in_passes, tails_turn}}
 
 -- the reservations, where no slot changes hands
 pub reuse_turn : (shape : Shape) (pins : List ℕ) (uses : List Use) (actors actors' : List Actor) (P : Trace) (begun : ℕ → Trace)

@@ -1,23 +1,16 @@
 -- What an actor relies on because of its locks stays when another publishes.
-use Rattle.std.proofs.Common.{◌≡◌, ◌≢◌, ℕ, zero, suc, Bool, true, false, List, ◌∷◌, Some, refl, sym, ap, ◌∙◌, subst, arith}
-use Rattle.std.proofs.lemmas.Bool.Decides.{nat_tests}
-use Rattle.lz_list.specs.declared.place.Place.{Place}
-use Rattle.lz_list.specs.declared.place.Place.TheVariants.{Bucket, Node}
-use Rattle.lz_list.specs.declared.publishing.Change.{Change}
-use Rattle.lz_list.specs.declared.publishing.Publishing.{Publishing}
-use Rattle.lz_list.specs.declared.publishing.Publishing.TheVariants.{Linked as linked, Marked as marked, Unlinked as unlinked, KeyPrepared as key_prepared, LinkPrepared as link_prepared, Settled as settled, Halted as halted}
-use Rattle.lz_list.specs.Words.{place_number, link_to}
-use Rattle.lz_list.specs.Traces.{Trace, Lawful, place_of, bucket_of, key_word, is_marked, rank_at}
-use Rattle.lz_list.specs.Laws.{IsLow, IsHigh}
-use Rattle.lz_list.specs.Locks.{NodeLocks}
-use Rattle.lz_machine.specs.declared.actor.Actor.{Actor}
-use Rattle.lz_machine.specs.declared.actor.Hold.{Hold}
-use Rattle.lz_machine.specs.declared.actor.Hold.TheVariants.{Nothing, Locks, Checked, GateOpened, Linked, GateClosed, Marked, Unlinked, Released}
-use Rattle.lz_machine.specs.Yards.{Shape, actor_in}
-use Rattle.lz_machine.specs.Stands.{IsLinkable, Faces, InBucket, IsLeaving}
-use Rattle.lz_machine.specs.LocksSound.{IsBeside, IsRightBefore, HasClosed, RestsOn, LocksSound}
 use Rattle.lz_machine.proofs.Frames.OtherLink as links
 use Rattle.lz_machine.proofs.Frames.OtherUnlink as unlinks
+use Rattle.std.proofs.{Common.{◌≡◌, ◌≢◌, ℕ, zero, suc, Bool, true, false, List, ◌∷◌, Some, refl, sym, ap, ◌∙◌, subst, arith}, lemmas.Bool.Decides.{nat_tests}}
+use Rattle.lz_list.specs.declared.{place.Place.{Place, TheVariants.{Bucket, Node}}, publishing.{Change.{Change}, Publishing.{Publishing}}}
+use Rattle.lz_list.specs.declared.publishing.Publishing.TheVariants.{Linked as linked, Marked as marked, Unlinked as unlinked, KeyPrepared as key_prepared}
+use Rattle.lz_list.specs.declared.publishing.Publishing.TheVariants.{LinkPrepared as link_prepared, Settled as settled, Halted as halted}
+use Rattle.lz_list.specs.{Words.{place_number, link_to}, Traces.{Trace, Lawful, place_of, bucket_of, key_word, is_marked, rank_at}, Laws.{IsLow, IsHigh}}
+use Rattle.lz_list.specs.Locks.{NodeLocks}
+use Rattle.lz_machine.specs.declared.actor.{Actor.{Actor}, Hold.{Hold}}
+use Rattle.lz_machine.specs.declared.actor.Hold.TheVariants.{Nothing, Locks, Checked, GateOpened, Linked, GateClosed, Marked, Unlinked, Released}
+use Rattle.lz_machine.specs.{Yards.{Shape, actor_in}, Stands.{IsLinkable, Faces, InBucket, IsLeaving}}
+use Rattle.lz_machine.specs.LocksSound.{IsBeside, IsRightBefore, HasClosed, RestsOn, LocksSound}
 
 -- What a publishing leaves of an actor's pair and slot.
 pub record LeavesPair (buckets : ℕ) (e : Publishing) (actor : Actor) (P : Trace) : Type 0 where

@@ -1,16 +1,12 @@
 -- What is said of slots stays where all that it speaks of changes only so far: holds, uses, cells and nodes.
 use Rattle.std.proofs.Common.{◌≡◌, ◌≢◌, ◌⊎◌, inl, inr, ℕ, suc, Bool, true, List, ◌∷◌, refl, sym, ◌∙◌, subst}
-use Rattle.lz_vault.specs.declared.vault.Stage.TheVariants.{Closed, Opening}
-use Rattle.lz_vault.specs.Stages.{Cell, IsFree}
-use Rattle.lz_allot.specs.declared.sight.Sight.{Sight}
-use Rattle.lz_allot.specs.Uses.{Use, Free, Limbo, use_of}
+use Rattle.lz_vault.specs.{declared.vault.Stage.TheVariants.{Closed, Opening}, Stages.{Cell, IsFree}}
+use Rattle.lz_allot.specs.{declared.sight.Sight.{Sight}, Uses.{Use, Free, Limbo, use_of}}
 use Rattle.lz_list.specs.declared.publishing.Publishing.{Publishing}
 use Rattle.lz_list.specs.Traces.{Trace, IsLoose, on, chain_of, key_word, linking, is_settled, is_removed, is_marked, halt_word}
-use Rattle.lz_machine.specs.declared.actor.Actor.{Actor}
-use Rattle.lz_machine.specs.Yards.{Shape, actor_in, cell_in, stage_in}
-use Rattle.lz_machine.specs.SlotsSound.{IsGateOpened, IsGateWritten, IsNodeStage, IsHandStage, SlotStands, is_node, is_held, is_out, is_free, is_limbo, SlotsSound}
-use Rattle.lz_machine.proofs.Frames.Grip.{KeepsGrips, keeps_itself}
-use Rattle.lz_machine.proofs.Frames.Uses.{KeepsUses}
+use Rattle.lz_machine.specs.{declared.actor.Actor.{Actor}, Yards.{Shape, actor_in, cell_in, stage_in}, SlotsSound.{IsGateOpened, IsGateWritten, IsNodeStage}}
+use Rattle.lz_machine.specs.SlotsSound.{IsHandStage, SlotStands, is_node, is_held, is_out, is_free, is_limbo, SlotsSound}
+use Rattle.lz_machine.proofs.Frames.{Grip.{KeepsGrips, keeps_itself}, Uses.{KeepsUses}}
 
 -- the cell keeps its key, and its gate is as it was for all that is said of it
 pub record KeepsGate (old new : Cell) : Type 0 where

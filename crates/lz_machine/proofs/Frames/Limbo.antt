@@ -1,12 +1,8 @@
 -- A slot that every pass has left is away from every pass that is inside.
 use Rattle.std.proofs.Common.{◌≡◌, inl, inr, ℕ, suc, ◌≤◌, ◌%◌, true, [], ◌∷◌, length, sym, ◌∙◌, arith}
 use mathlib.Core.Bool.{false≢true}
-use Rattle.lz_allot.specs.declared.sight.Sight.{Sight}
-use Rattle.lz_allot.specs.declared.sight.Sight.TheVariants.{Unseen, Inside, Left}
-use Rattle.lz_allot.specs.Uses.{sight_after}
-use Rattle.lz_list.specs.declared.publishing.Publishing.{Publishing}
-use Rattle.lz_list.specs.Traces.{Trace, Begins, on, chain, IsLoose}
-use Rattle.lz_list.proofs.Traces.Hindsight.{once_begins}
+use Rattle.lz_allot.specs.{declared.sight.Sight.{Sight, TheVariants.{Unseen, Inside, Left}}, Uses.{sight_after}}
+use Rattle.lz_list.{specs.{declared.publishing.Publishing.{Publishing}, Traces.{Trace, Begins, on, chain, IsLoose}}, proofs.Traces.Hindsight.{once_begins}}
 use Rattle.lz_machine.specs.Limbo.{IsAway, IsRightSight}
 
 -- a trace is as long as each that it goes on from, or longer

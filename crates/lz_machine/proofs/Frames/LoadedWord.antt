@@ -1,14 +1,10 @@
 -- What a load gives: the word that the trace decides.
 use Rattle.std.proofs.Common.{◌≡◌, ℕ, ◌<◌, ◌≤◌, ◌^◌, List, get_or, ap, ◌∙◌, arith}
 use Rattle.lz_slot.specs.Limits.{most_slots}
-use Rattle.lz_list.specs.declared.word.Word.TheVariants.{Head, Link, Key}
-use Rattle.lz_list.specs.Words.{Words, get, link_with, next_of, flags_of}
+use Rattle.lz_list.specs.{declared.word.Word.TheVariants.{Head, Link, Key}, Words.{Words, get, link_with, next_of, flags_of}}
 use Rattle.lz_list.specs.Traces.{Trace, bucket_of, key_word, node_next, head_word, is_marked, has_added, has_removed, flags_after, word_after}
-use Rattle.lz_list.proofs.Tables.WordTable.{table_at}
-use Rattle.lz_list.proofs.Tables.PackedLink.{next_of_link, mark_of_link, added_of_link, removed_of_link, small_next}
-use Rattle.lz_machine.specs.Yards.{Shape}
-use Rattle.lz_machine.specs.Sound.{TraceSound}
-use Rattle.lz_machine.proofs.Frames.Ranges.{head_range}
+use Rattle.lz_list.proofs.Tables.{WordTable.{table_at}, PackedLink.{next_of_link, mark_of_link, added_of_link, removed_of_link, small_next}}
+use Rattle.lz_machine.{specs.{Yards.{Shape}, Sound.{TraceSound}}, proofs.Frames.Ranges.{head_range}}
 
 module _ (shape : Shape) (words : Words) (P : Trace) (trace : TraceSound shape words P) (few : shape.slots ≤ most_slots) where
   pub bucket_range : (k : ℕ) → bucket_of shape.buckets k < shape.buckets

@@ -1,13 +1,10 @@
 -- Node locks: what a claim and a release make of them.
-use Rattle.std.proofs.Common.{◌≡◌, ◌≢◌, ◌⊎◌, inl, inr, ℕ, zero, suc, ◌<◌, ◌≤◌, true, false, List, length, Option, Some, None, refl, sym, ap, ◌∙◌, subst, arith, get_or-set_other, get_or-set_same, length-set}
+use Rattle.std.proofs.Common.{◌≡◌, ◌≢◌, ◌⊎◌, inl, inr, ℕ, zero, suc, ◌<◌, ◌≤◌, true, false, List, length, Option, Some, None, refl, sym, ap, ◌∙◌, subst, arith}
+use Rattle.std.proofs.Common.{get_or-set_other, get_or-set_same, length-set}
 use mathlib.Core.Bool.{false≢true}
-use Rattle.lz_list.specs.declared.place.Place.{Place}
-use Rattle.lz_list.specs.declared.place.Place.TheVariants.{Bucket, Node}
-use Rattle.lz_list.specs.Traces.{Trace}
+use Rattle.lz_list.specs.{declared.place.Place.{Place, TheVariants.{Bucket, Node}}, Traces.{Trace}}
 use Rattle.lz_list.specs.Locks.{NodeLocks, owner, with_owner, is_pair_free, pair_owned, claimed_places}
-use Rattle.lz_machine.specs.declared.actor.Actor.{Actor}
-use Rattle.lz_machine.specs.Yards.{Shape, actor_in}
-use Rattle.lz_machine.specs.LocksSound.{has_locks, HasPlace, HasLock, RestsOn, LocksSound}
+use Rattle.lz_machine.specs.{declared.actor.Actor.{Actor}, Yards.{Shape, actor_in}, LocksSound.{has_locks, HasPlace, HasLock, RestsOn, LocksSound}}
 use Rattle.lz_machine.proofs.Frames.ActorTable.{by_actor}
 
 pub place_cases : (p q : Place) → (p ≡ q) ⊎ (p ≢ q)

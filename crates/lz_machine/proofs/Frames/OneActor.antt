@@ -1,25 +1,13 @@
 -- A turn of one actor: the other actors' part is as before, and so is the ledger, where the call goes on without a publishing.
 use Rattle.std.proofs.Common.{◌≡◌, ◌≢◌, inl, inr, ℕ, zero, suc, ◌≤◌, [], ◌∷◌, ◌++◌, Bool, true, List, length, Option, Some, None, refl, ap, ◌∙◌, subst, arith}
-use Rattle.std.proofs.lemmas.Bool.{cases_eq, cases_lt}
-use Rattle.std.proofs.lemmas.List.{get_or_past}
-use Rattle.std.proofs.lemmas.Option.{same_Some, none-some}
-use Rattle.lz_slot.specs.declared.format.Format.{Format}
-use Rattle.lz_slot.specs.Counted.{set_of_pass}
-use Rattle.lz_slot.specs.Histories.{History}
+use Rattle.std.proofs.lemmas.{Bool.{cases_eq, cases_lt}, List.{get_or_past}, Option.{same_Some, none-some}}
+use Rattle.lz_slot.specs.{declared.format.Format.{Format}, Counted.{set_of_pass}, Histories.{History}}
 use Rattle.lz_slot.proofs.Counted.{of_pass_same, of_pass_other, length-set_of_pass}
-use Rattle.lz_vault.specs.Stages.{Cell}
-use Rattle.lz_vault.specs.Vaults.{Vaulted}
+use Rattle.lz_vault.specs.{Stages.{Cell}, Vaults.{Vaulted}}
 use Rattle.lz_list.specs.Traces.{Trace}
-use Rattle.lz_machine.specs.declared.actor.Actor.{Actor}
-use Rattle.lz_machine.specs.declared.caller.Progress.{Progress}
-use Rattle.lz_machine.specs.Yards.{Shape, actor_in, pin_in}
-use Rattle.lz_machine.specs.Runs.{Caller, caller_at}
-use Rattle.lz_machine.specs.Ledgers.{Row, times}
-use Rattle.lz_machine.specs.Notes.{Notes, pending_row, pending, entries}
-use Rattle.lz_machine.specs.CallersSound.{view_of, CallerSound, CallersSound}
-use Rattle.lz_machine.specs.LedgerSound.{LedgerSound}
-use Rattle.lz_machine.proofs.Frames.ActorTable.{by_actor}
-use Rattle.lz_machine.proofs.Ledger.Order.{times_append}
+use Rattle.lz_machine.specs.{declared.{actor.Actor.{Actor}, caller.Progress.{Progress}}, Yards.{Shape, actor_in, pin_in}, Runs.{Caller, caller_at}}
+use Rattle.lz_machine.specs.{Ledgers.{Row, times}, Notes.{Notes, pending_row, pending, entries}, CallersSound.{view_of, CallerSound, CallersSound}}
+use Rattle.lz_machine.{specs.LedgerSound.{LedgerSound}, proofs.{Frames.ActorTable.{by_actor}, Ledger.Order.{times_append}}}
 
 -- an actor with a call is one of the service's
 pub caller_range : (callers : List (Option Caller)) (a : ℕ) (caller : Caller) → caller_at callers a ≡ Some caller → (1 ≤ a) × (a ≤ length callers)

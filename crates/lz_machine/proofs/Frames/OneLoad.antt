@@ -1,28 +1,15 @@
 -- One load of a walk: what holds where a walk goes on and where it ends holds after each load, by hindsight.
-use Rattle.std.proofs.Common.{◌≡◌, ◌≢◌, inl, inr, ℕ, zero, suc, ◌<◌, ◌≤◌, ◌^◌, nat_lt, if◌then◌else◌, Bool, true, false, Option, Some, None, refl, sym, ◌∙◌, subst, arith}
-use Rattle.std.proofs.lemmas.Bool.Decides.{nat_tests, eqb_tells}
+use Rattle.std.proofs.Common.{◌≡◌, ◌≢◌, inl, inr, ℕ, zero, suc, ◌<◌, ◌≤◌, ◌^◌, nat_lt, if◌then◌else◌, Bool, true, false, Option, Some, None, refl, sym, ◌∙◌}
+use Rattle.std.proofs.{Common.{subst, arith}, lemmas.Bool.Decides.{nat_tests, eqb_tells}}
 use Rattle.lz_slot.specs.Limits.{most_slots}
-use Rattle.lz_list.specs.declared.flags.Flags.{Flags}
-use Rattle.lz_list.specs.declared.place.Place.{Place}
-use Rattle.lz_list.specs.declared.place.Place.TheVariants.{Bucket, Node}
-use Rattle.lz_list.specs.declared.word.Word.TheVariants.{Head, Link}
-use Rattle.lz_list.specs.declared.walk.Look.{Look}
-use Rattle.lz_list.specs.declared.walk.Look.TheVariants.{AtHead, AtKey, AtMet, AtBelow}
-use Rattle.lz_list.specs.declared.walk.Met.TheVariants.{Absent, Unmarked, Marked}
-use Rattle.lz_list.specs.Words.{Words, get, flags_of, next_of, link_to, place_number}
-use Rattle.lz_list.specs.Walks.{Hopped, More, End, wants, hopped, reaches}
+use Rattle.lz_list.specs.declared.{flags.Flags.{Flags}, place.Place.{Place, TheVariants.{Bucket, Node}}, word.Word.TheVariants.{Head, Link}, walk.Look.{Look}}
+use Rattle.lz_list.specs.declared.walk.{Look.TheVariants.{AtHead, AtKey, AtMet, AtBelow}, Met.TheVariants.{Absent, Unmarked, Marked}}
+use Rattle.lz_list.specs.{Words.{Words, get, flags_of, next_of, link_to, place_number}, Walks.{Hopped, More, End, wants, hopped, reaches}}
 use Rattle.lz_list.specs.Traces.{Trace, Begins, Lawful, on, chain, bucket_of, key_word, head_word, node_next, next_link, flags_after, word_after}
-use Rattle.lz_list.specs.Pinned.{Stood, IsQuiet}
-use Rattle.lz_list.specs.Laws.{IsHigh}
-use Rattle.lz_list.proofs.Chains.PlaceRank.{on_start}
-use Rattle.lz_list.proofs.Tables.PackedLink.{next_of_link, mark_of_link, added_of_link, removed_of_link, small_next}
-use Rattle.lz_list.proofs.Traces.Absence.{begins_itself}
+use Rattle.lz_list.{specs.{Pinned.{Stood, IsQuiet}, Laws.{IsHigh}}, proofs.Chains.PlaceRank.{on_start}}
+use Rattle.lz_list.proofs.{Tables.PackedLink.{next_of_link, mark_of_link, added_of_link, removed_of_link, small_next}, Traces.Absence.{begins_itself}}
 use Rattle.lz_list.proofs.Traces.Hindsight.{once_from, hindsight, next_stood}
-use Rattle.lz_machine.specs.Stands.{WasBetween}
-use Rattle.lz_machine.specs.CallersSound.{IsLooking}
-use Rattle.lz_machine.specs.Yards.{Shape}
-use Rattle.lz_machine.specs.Sound.{TraceSound}
-use Rattle.lz_machine.proofs.Frames.Ranges.{stood_range, head_range}
+use Rattle.lz_machine.{specs.{Stands.{WasBetween}, CallersSound.{IsLooking}, Yards.{Shape}, Sound.{TraceSound}}, proofs.Frames.Ranges.{stood_range, head_range}}
 use Rattle.lz_machine.proofs.Frames.LoadedWord.{bucket_range, head_load, link_load, key_load}
 
 module _ (buckets slots : ℕ) (few : slots ≤ most_slots) (P0 P : Trace) (law : Lawful buckets slots P) (quiet : IsQuiet buckets P0 P) (begins : Begins P0 P) (k : ℕ) where

@@ -1,15 +1,12 @@
 -- A turn that changes one slot, and what its actor has in hand: what is said of the other slots stays.
 use Rattle.std.proofs.Common.{◌≡◌, ◌≢◌, inl, inr, ℕ, suc, ◌<◌, Bool, true, false, List, length, Some, refl, sym, ap, ◌∙◌, subst, arith}
 use mathlib.Core.Bool.{false≢true}
-use Rattle.lz_vault.specs.declared.vault.Stage.{Stage}
-use Rattle.lz_vault.specs.declared.vault.Stage.TheVariants.{Closed, Opening}
-use Rattle.lz_vault.specs.Stages.{Cell, IsFree}
+use Rattle.lz_vault.specs.{declared.vault.Stage.{Stage, TheVariants.{Closed, Opening}}, Stages.{Cell, IsFree}}
 use Rattle.lz_allot.specs.Uses.{Use, use_of}
 use Rattle.lz_list.specs.Traces.{Trace, IsLoose, on, chain_of, key_word, linking, is_settled, is_removed, is_marked, halt_word}
-use Rattle.lz_machine.specs.declared.actor.Actor.{Actor}
-use Rattle.lz_machine.specs.Yards.{Shape, actor_in, cell_in, stage_in}
-use Rattle.lz_machine.specs.SlotsSound.{IsGateOpened, IsGateWritten, IsOut, IsCloser, closes, opens, shuts, unlocks, has_removed_node, IsNodeStage, IsHandStage, IsInHand, IsGone, SlotStands, is_node, is_held, is_out, is_free, is_limbo, SlotsSound}
-use Rattle.lz_machine.proofs.Frames.ActorTable.{by_actor}
+use Rattle.lz_machine.specs.{declared.actor.Actor.{Actor}, Yards.{Shape, actor_in, cell_in, stage_in}, SlotsSound.{IsGateOpened, IsGateWritten, IsOut}}
+use Rattle.lz_machine.specs.SlotsSound.{IsCloser, closes, opens, shuts, unlocks, has_removed_node, IsNodeStage, IsHandStage, IsInHand, IsGone, SlotStands}
+use Rattle.lz_machine.{specs.SlotsSound.{is_node, is_held, is_out, is_free, is_limbo, SlotsSound}, proofs.Frames.ActorTable.{by_actor}}
 use Rattle.lz_machine.proofs.Frames.Grip.{KeepsGrips, keeps_itself}
 
 -- the actor has the other slots in hand as before, and may rely on its hold for them

@@ -1,55 +1,25 @@
 -- What holds of slots, locks and actors after a gate was opened.
-use Rattle.std.proofs.Common.{◌≡◌, ◌≢◌, inl, inr, ℕ, suc, ◌<◌, ◌≤◌, ◌==◌, Bool, true, false, List, ◌∷◌, length, Option, Some, None, refl, sym, ap, ◌∙◌, subst, arith}
+use Rattle.std.proofs.Common.{◌≡◌, ◌≢◌, inl, inr, ℕ, suc, ◌<◌, ◌≤◌, ◌==◌, Bool, true, false, List, ◌∷◌, length, Option, Some, None, refl, sym, ap, ◌∙◌, subst}
+use Rattle.std.{proofs.{Common.{arith}, lemmas.{Bool.{cases_eq, Decides.{nat_tests}}, Option.{same_Some, none-some}}}, specs.Prelude.{slice_set}}
 use mathlib.Core.Bool.{false≢true}
-use Rattle.std.specs.Prelude.{slice_set}
-use Rattle.std.proofs.lemmas.Bool.{cases_eq}
-use Rattle.std.proofs.lemmas.Bool.Decides.{nat_tests}
-use Rattle.std.proofs.lemmas.Option.{same_Some, none-some}
-use Rattle.lz_slot.specs.declared.command.Command.TheVariants.{Add, Remove}
-use Rattle.lz_slot.specs.Histories.{History}
+use Rattle.lz_slot.specs.{declared.command.Command.TheVariants.{Add, Remove}, Histories.{History}}
 use Rattle.lz_disk.specs.Images.{Medium}
-use Rattle.lz_vault.specs.declared.vault.Stage.TheVariants.{Closed, Opening}
-use Rattle.lz_vault.specs.Stages.{Cell, IsFree}
-use Rattle.lz_vault.specs.Vaults.{Vaulted, MayFail, opening_call}
-use Rattle.lz_list.specs.declared.publishing.Publishing.TheVariants.{LinkPrepared as link_prepared}
-use Rattle.lz_list.specs.declared.word.Word.TheVariants.{Link as link_at}
-use Rattle.lz_list.specs.Words.{set, place_number, link_to}
-use Rattle.lz_list.specs.Traces.{Trace, Lawful, IsLoose, on, chain_of, bucket_of, key_word, is_marked}
-use Rattle.lz_machine.specs.declared.event.Reply.TheVariants.{Device}
-use Rattle.lz_machine.specs.declared.actor.Actor.{Actor}
-use Rattle.lz_machine.specs.declared.actor.Hold.{Hold}
-use Rattle.lz_machine.specs.declared.actor.Hold.TheVariants.{Checked}
-use Rattle.lz_machine.specs.declared.caller.Sequence.TheVariants.{Adding}
-use Rattle.lz_machine.specs.declared.caller.Progress.{Progress}
-use Rattle.lz_machine.specs.declared.caller.Progress.TheVariants.{Playing}
-use Rattle.lz_machine.specs.Yards.{Yard, actor_in, pin_in, cell_in, stage_in}
-use Rattle.lz_machine.specs.Table.{with_vault}
-use Rattle.lz_machine.specs.Calls.{halts}
-use Rattle.lz_machine.specs.Runs.{Caller, caller_at}
-use Rattle.lz_machine.specs.Stands.{IsLinkable}
-use Rattle.lz_machine.proofs.Frames.Ranges.{on_range, few_slots}
-use Rattle.lz_machine.specs.Notes.{Notes, entries}
+use Rattle.lz_vault.specs.{declared.vault.Stage.TheVariants.{Closed, Opening}, Stages.{Cell, IsFree}, Vaults.{Vaulted, MayFail, opening_call}}
+use Rattle.lz_list.specs.declared.{publishing.Publishing.TheVariants.{LinkPrepared as link_prepared}, word.Word.TheVariants.{Link as link_at}}
+use Rattle.lz_list.specs.{Words.{set, place_number, link_to}, Traces.{Trace, Lawful, IsLoose, on, chain_of, bucket_of, key_word, is_marked}}
+use Rattle.lz_machine.specs.declared.{event.Reply.TheVariants.{Device}, actor.{Actor.{Actor}, Hold.{Hold, TheVariants.{Checked}}}}
+use Rattle.lz_machine.specs.declared.caller.{Sequence.TheVariants.{Adding}, Progress.{Progress, TheVariants.{Playing}}}
+use Rattle.lz_machine.specs.{Yards.{Yard, actor_in, pin_in, cell_in, stage_in}, Table.{with_vault}, Calls.{halts}, Runs.{Caller, caller_at}}
+use Rattle.lz_machine.specs.{Stands.{IsLinkable}, Notes.{Notes, entries}}
 use Rattle.lz_machine.specs.SlotsSound.{opens, shuts, unlocks, closes, has_removed_node, IsGateOpened, IsGateWritten, is_held, SlotsSound}
-use Rattle.lz_machine.specs.LocksSound.{IsBeside, IsChecked, RestsOn, LocksSound}
-use Rattle.lz_machine.specs.CallersSound.{Relies, view_of, CallerSound, CallersSound}
-use Rattle.lz_machine.specs.LedgerSound.{HasTail, may_have_tail}
-use Rattle.lz_machine.specs.Sound.{DiskSound, ReuseSound, Sound}
-use Rattle.lz_machine.proofs.Frames.ActorTable.{by_actor, field_stays}
-use Rattle.lz_machine.proofs.Frames.SlotWrite.{opening_lost}
-use Rattle.lz_machine.proofs.Frames.OneActor.{moving, callers_moved, ledger_turn}
-use Rattle.lz_machine.proofs.Frames.ChainSlots.{reuse_published}
-use Rattle.lz_machine.proofs.Frames.OneSlot.{slot_grips, same_nodes, slot_turn, prepared_slots}
-use Rattle.lz_machine.proofs.Frames.Publishing.{shut_relies}
-use Rattle.lz_machine.proofs.Ledger.QuietPublishing.{ledger_published}
-use Rattle.lz_machine.proofs.Frames.Store.{trace_link}
-use Rattle.lz_machine.proofs.Frames.OtherCallers.{held_node, callers_stay}
-use Rattle.lz_machine.proofs.Frames.Hand.{reuse_turn}
+use Rattle.lz_machine.specs.{LocksSound.{IsBeside, IsChecked, RestsOn, LocksSound}, CallersSound.{Relies, view_of, CallerSound, CallersSound}}
+use Rattle.lz_machine.{specs.{LedgerSound.{HasTail, may_have_tail}, Sound.{DiskSound, ReuseSound, Sound}}, proofs.Frames.Ranges.{on_range, few_slots}}
+use Rattle.lz_machine.proofs.Frames.{ActorTable.{by_actor, field_stays}, SlotWrite.{opening_lost}, OneActor.{moving, callers_moved, ledger_turn}}
+use Rattle.lz_machine.proofs.Frames.{ChainSlots.{reuse_published}, OneSlot.{slot_grips, same_nodes, slot_turn, prepared_slots}, Publishing.{shut_relies}}
+use Rattle.lz_machine.proofs.Frames.{Store.{trace_link}, OtherCallers.{held_node, callers_stay}, Hand.{reuse_turn}}
 use Rattle.lz_machine.proofs.Frames.HeldLocks.{LeavesPair, link_leaves, beside_stays, before_stays}
-use Rattle.lz_machine.proofs.Steps.Hop.{call_at, own}
-use Rattle.lz_machine.proofs.Frames.Cells.{caller_vaulted, cell_same, cell_other, stage_other, cell_stays}
-use Rattle.lz_machine.proofs.Frames.PreparedSlot.{rests_prepared}
-use Rattle.lz_machine.proofs.Ledger.Change.{own_tail}
-use Rattle.lz_machine.proofs.Frames.SameYard.{in_passes, tail_turn}
+use Rattle.lz_machine.proofs.Frames.{Cells.{caller_vaulted, cell_same, cell_other, stage_other, cell_stays}, PreparedSlot.{rests_prepared}}
+use Rattle.lz_machine.proofs.{Frames.SameYard.{in_passes, tail_turn}, Ledger.{QuietPublishing.{ledger_published}, Change.{own_tail}}, Steps.Hop.{call_at, own}}
 
 module _ (n calls : ℕ) (y : Yard) (callers : List (Option Caller)) (disk : Medium) (M : History) (P : Trace) (notes : Notes) (sound : Sound n calls y callers disk M P notes) (a i k s : ℕ) (is : caller_at callers a ≡ Some (call_at i (Add k) (Playing (Adding s) 0))) where
   abbrev at : Progress

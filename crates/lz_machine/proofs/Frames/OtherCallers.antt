@@ -1,24 +1,13 @@
 -- What is said of the callers stays when another actor publishes: their locks keep their nodes on their chains.
-use Rattle.std.proofs.Common.{◌≡◌, ℕ, suc, true, List, ◌∷◌, Option, Some, sym, ◌∙◌, subst, arith}
+use Rattle.std.proofs.{Common.{◌≡◌, ℕ, suc, true, List, ◌∷◌, Option, Some, sym, ◌∙◌, subst, arith}, lemmas.Option.{same_Some}}
 use mathlib.Core.Bool.{false≢true}
-use Rattle.std.proofs.lemmas.Option.{same_Some}
 use Rattle.lz_vault.specs.Vaults.{Vaulted}
-use Rattle.lz_list.specs.declared.publishing.Publishing.{Publishing}
-use Rattle.lz_list.specs.Locks.{NodeLocks}
-use Rattle.lz_list.specs.Pinned.{IsKept}
-use Rattle.lz_list.specs.Traces.{Trace, Lawful, Adjacent, on, chain_of, bucket_of, key_word}
-use Rattle.lz_list.proofs.Chains.PlaceRank.{adjacent_next}
+use Rattle.lz_list.specs.{declared.publishing.Publishing.{Publishing}, Locks.{NodeLocks}, Pinned.{IsKept}}
+use Rattle.lz_list.{specs.Traces.{Trace, Lawful, Adjacent, on, chain_of, bucket_of, key_word}, proofs.Chains.PlaceRank.{adjacent_next}}
 use Rattle.lz_list.proofs.Traces.Hindsight.{stands}
-use Rattle.lz_machine.specs.declared.actor.Actor.{Actor}
-use Rattle.lz_machine.specs.declared.actor.Hold.{Hold}
-use Rattle.lz_machine.specs.declared.actor.Hold.TheVariants.{Checked, GateClosed, Marked}
-use Rattle.lz_machine.specs.Yards.{Shape, IsInside, actor_in, pin_in}
-use Rattle.lz_machine.specs.Runs.{Caller, caller_at}
-use Rattle.lz_machine.specs.Stands.{FacesNode}
-use Rattle.lz_machine.specs.Notes.{Notes}
-use Rattle.lz_machine.specs.CallersSound.{view_of, CallerSound, CallersSound}
-use Rattle.lz_machine.specs.LocksSound.{RestsOn, LocksSound}
-use Rattle.lz_machine.proofs.Frames.Publishing.{relies_on_node, caller_published}
+use Rattle.lz_machine.specs.{declared.actor.{Actor.{Actor}, Hold.{Hold, TheVariants.{Checked, GateClosed, Marked}}}, Yards.{Shape, IsInside, actor_in, pin_in}}
+use Rattle.lz_machine.specs.{Runs.{Caller, caller_at}, Stands.{FacesNode}, Notes.{Notes}, CallersSound.{view_of, CallerSound, CallersSound}}
+use Rattle.lz_machine.{specs.LocksSound.{RestsOn, LocksSound}, proofs.Frames.Publishing.{relies_on_node, caller_published}}
 
 -- a node to which a place of its chain leads is on the chain
 pub faces_on : (buckets slots k x t : ℕ) (P : Trace) → Lawful buckets slots P → FacesNode buckets k x t P → on 0 (chain_of buckets k P) (suc t) ≡ true

@@ -1,16 +1,11 @@
 -- What a caller relies on stays when another links a node.
-use Rattle.std.proofs.Common.{◌≡◌, ◌≢◌, inl, inr, ℕ, zero, suc, ◌<◌, true, false, ◌∷◌, sym, ap, ◌∙◌, subst, arith}
-use mathlib.Core.Bool.{false≢true}
-use Rattle.std.proofs.lemmas.Bool.{cases_eq, cases_Bool}
+use Rattle.std.proofs.{Common.{◌≡◌, ◌≢◌, inl, inr, ℕ, zero, suc, ◌<◌, true, false, ◌∷◌, sym, ap, ◌∙◌, subst, arith}, lemmas.Bool.{cases_eq, cases_Bool}}
 use Rattle.std.proofs.lemmas.Bool.Decides.{nat_tests}
+use mathlib.Core.Bool.{false≢true}
 use Rattle.lz_list.specs.declared.publishing.Publishing.TheVariants.{Linked as linked}
 use Rattle.lz_list.specs.Traces.{Trace, on, has_key, chain, chain_of, place_of, bucket_of, key_word, next_link, IsLoose, link_above, MayLink, Lawful, Adjacent}
-use Rattle.lz_list.proofs.Chains.PlaceRank.{before_on, adjacent_none}
-use Rattle.lz_list.proofs.Chains.TraceChain.{words_show_chain, linked_off, apart_bucket}
-use Rattle.lz_list.proofs.Traces.Absence.{unlinked_is_settled}
-use Rattle.lz_list.proofs.Traces.Hindsight.{stands}
-use Rattle.lz_list.proofs.Traces.NodeBits.{on_insert_other}
-use Rattle.lz_list.proofs.Traces.WalkEnd.{on_insert}
+use Rattle.lz_list.proofs.Chains.{PlaceRank.{before_on, adjacent_none}, TraceChain.{words_show_chain, linked_off, apart_bucket}}
+use Rattle.lz_list.proofs.Traces.{Absence.{unlinked_is_settled}, Hindsight.{stands}, NodeBits.{on_insert_other}, WalkEnd.{on_insert}}
 use Rattle.lz_list.proofs.Changes.CheckedPlace.{place_between}
 use Rattle.lz_machine.specs.Stands.{IsLinkable, IsRound, Faces}
 

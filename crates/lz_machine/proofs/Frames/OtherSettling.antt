@@ -1,36 +1,18 @@
 -- A settling that is durable keeps the invariant of all actors.
 use Rattle.std.proofs.Common.{◌≡◌, ◌≢◌, ◌⊎◌, inl, inr, ℕ, suc, ◌<◌, ◌≤◌, ◌==◌, true, false, List, ◌∷◌, Option, Some, refl, sym, ap, ◌∙◌, arith}
+use Rattle.std.{proofs.lemmas.Bool.{cases_Bool, Decides.{nat_tests, eqb_tells}}, specs.Prelude.{slice_set}}
 use mathlib.Core.Bool.{false≢true}
-use Rattle.std.proofs.lemmas.Bool.{cases_Bool}
-use Rattle.std.proofs.lemmas.Bool.Decides.{nat_tests, eqb_tells}
-use Rattle.lz_slot.specs.Limits.{most_slots}
-use Rattle.lz_slot.specs.Histories.{History}
+use Rattle.lz_slot.specs.{Limits.{most_slots}, Histories.{History}}
 use Rattle.lz_disk.specs.Images.{Medium}
-use Rattle.lz_vault.specs.declared.vault.Stage.{Stage}
-use Rattle.lz_vault.specs.declared.vault.Stage.TheVariants.{Closed, Opening, Open}
-use Rattle.lz_list.specs.declared.flags.Flags.{Flags}
-use Rattle.lz_list.specs.declared.publishing.Change.{Change}
-use Rattle.lz_list.specs.declared.publishing.Change.TheVariants.{Added, Removed}
-use Rattle.lz_list.specs.declared.publishing.Publishing.TheVariants.{Settled as settled}
-use Rattle.lz_list.specs.declared.word.Word.TheVariants.{Link as link_at}
-use Rattle.lz_list.specs.Words.{Words, get, set, link_with, next_of, flags_of}
-use Rattle.lz_list.specs.Traces.{Trace, on, chain_of, key_word, linking, linking_in, is_settled, is_removed, is_removal, word_after}
-use Rattle.lz_list.specs.Pinned.{Stood}
-use Rattle.lz_list.proofs.Traces.NodeBits.{node, linking_apart}
-use Rattle.lz_list.proofs.Tables.WordTable.{table_set}
-use Rattle.lz_machine.specs.Yards.{Yard, Shape, IsInside, actor_in, pin_in, stage_in}
-use Rattle.std.specs.Prelude.{slice_set}
-use Rattle.lz_machine.specs.Runs.{Caller, with_words}
-use Rattle.lz_machine.specs.Notes.{Notes}
-use Rattle.lz_machine.specs.SlotsSound.{IsNodeStage, IsOnChain, SlotsSound}
-use Rattle.lz_machine.specs.Sound.{TraceSound, Sound}
-use Rattle.lz_machine.proofs.Frames.ChainSlots.{reuse_published}
-use Rattle.lz_machine.proofs.Frames.LoadedWord.{link_next, link_mark, link_removed}
-use Rattle.lz_machine.proofs.Frames.KeptSlots.{slots_published}
-use Rattle.lz_machine.proofs.Frames.HeldLocks.{settled_leaves, locks_published}
-use Rattle.lz_machine.proofs.Ledger.QuietPublishing.{ledger_published}
-use Rattle.lz_machine.proofs.Frames.OtherCallers.{callers_stay}
-use Rattle.lz_machine.proofs.Frames.Ranges.{few_slots}
+use Rattle.lz_vault.specs.declared.vault.Stage.{Stage, TheVariants.{Closed, Opening, Open}}
+use Rattle.lz_list.specs.declared.{flags.Flags.{Flags}, publishing.{Change.{Change, TheVariants.{Added, Removed}}, Publishing.TheVariants.{Settled as settled}}}
+use Rattle.lz_list.specs.{declared.word.Word.TheVariants.{Link as link_at}, Words.{Words, get, set, link_with, next_of, flags_of}}
+use Rattle.lz_list.specs.{Traces.{Trace, on, chain_of, key_word, linking, linking_in, is_settled, is_removed, is_removal, word_after}, Pinned.{Stood}}
+use Rattle.lz_list.proofs.{Traces.NodeBits.{node, linking_apart}, Tables.WordTable.{table_set}}
+use Rattle.lz_machine.specs.{Yards.{Yard, Shape, IsInside, actor_in, pin_in, stage_in}, Runs.{Caller, with_words}, Notes.{Notes}}
+use Rattle.lz_machine.{specs.{SlotsSound.{IsNodeStage, IsOnChain, SlotsSound}, Sound.{TraceSound, Sound}}, proofs.Frames.ChainSlots.{reuse_published}}
+use Rattle.lz_machine.proofs.Frames.{LoadedWord.{link_next, link_mark, link_removed}, KeptSlots.{slots_published}, HeldLocks.{settled_leaves, locks_published}}
+use Rattle.lz_machine.proofs.{Frames.{OtherCallers.{callers_stay}, Ranges.{few_slots}}, Ledger.QuietPublishing.{ledger_published}}
 
 -- what a settled flag makes of a slot's flags
 abbrev pub flags_then : Change → Flags → Flags

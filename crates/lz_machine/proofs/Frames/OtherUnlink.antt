@@ -1,15 +1,11 @@
 -- What a caller relies on stays when another takes a node out.
-use Rattle.std.proofs.Common.{◌≡◌, ◌≢◌, inl, inr, ℕ, zero, suc, true, ◌∷◌, refl, sym, ap, ◌∙◌, subst, arith}
-use mathlib.Core.Bool.{false≢true}
-use Rattle.std.proofs.lemmas.Bool.{cases_eq, cases_Bool}
+use Rattle.std.proofs.{Common.{◌≡◌, ◌≢◌, inl, inr, ℕ, zero, suc, true, ◌∷◌, refl, sym, ap, ◌∙◌, subst, arith}, lemmas.Bool.{cases_eq, cases_Bool}}
 use Rattle.std.proofs.lemmas.Bool.Decides.{nat_tests}
+use mathlib.Core.Bool.{false≢true}
 use Rattle.lz_list.specs.declared.publishing.Publishing.TheVariants.{Unlinked as unlinked}
 use Rattle.lz_list.specs.Traces.{Trace, without, on, chain, chain_of, place_of, bucket_of, key_word, next_link, IsLoose, MayUnlink, Lawful, Adjacent}
-use Rattle.lz_list.proofs.Chains.PlaceRank.{before_on, on_start, adjacent_next, has_on}
-use Rattle.lz_list.proofs.Chains.TraceChain.{words_show_chain, unlinked_off, apart_bucket, bucket_on}
-use Rattle.lz_list.proofs.Traces.Hindsight.{stands}
-use Rattle.lz_list.proofs.Traces.NodeBits.{on_without, one_node, none_without}
-use Rattle.lz_list.proofs.Traces.WalkEnd.{on_without_other}
+use Rattle.lz_list.proofs.Chains.{PlaceRank.{before_on, on_start, adjacent_next, has_on}, TraceChain.{words_show_chain, unlinked_off, apart_bucket, bucket_on}}
+use Rattle.lz_list.proofs.Traces.{Hindsight.{stands}, NodeBits.{on_without, one_node, none_without}, WalkEnd.{on_without_other}}
 use Rattle.lz_list.proofs.Changes.CheckedPlace.{place_to}
 use Rattle.lz_machine.specs.Stands.{Faces, IsLeaving}
 

@@ -1,19 +1,12 @@
 -- Actors that answer without a pin, and the pin words after an Answer.
 use Rattle.std.proofs.Common.{◌≡◌, ◌≢◌, ℕ, ◌+◌, ◌≤◌, ◌%◌, ◌==◌, ◌&&◌, ◌||◌, not, if◌then◌else◌, Bool, true, false, length, refl, sym, ap, ◌∙◌, arith}
-use mathlib.Core.Bool.{false≢true}
 use Rattle.std.proofs.lemmas.Bool.Decides.{nat_tests}
-use Rattle.lz_slot.specs.Counted.{of_pass}
-use Rattle.lz_slot.proofs.Counted.{of_pass_same, of_pass_other}
+use mathlib.Core.Bool.{false≢true}
+use Rattle.lz_slot.{specs.Counted.{of_pass}, proofs.Counted.{of_pass_same, of_pass_other}}
 use Rattle.lz_allot.specs.Uses.{is_outside}
-use Rattle.lz_list.specs.declared.word.Word.TheVariants.{Pin as pin_at}
-use Rattle.lz_list.specs.Words.{set}
-use Rattle.lz_machine.specs.declared.actor.Actor.{Actor}
-use Rattle.lz_machine.specs.declared.event.Event.TheVariants.{Answer}
-use Rattle.lz_machine.specs.declared.event.Reply.TheVariants.{Worn as SaysWorn}
-use Rattle.lz_machine.specs.declared.caller.Progress.{Progress}
-use Rattle.lz_machine.specs.declared.caller.Progress.TheVariants.{Answering}
-use Rattle.lz_machine.specs.Yards.{Yard}
-use Rattle.lz_machine.specs.Table.{last_pin, pin_of, stays_out, pin_answered, words_after}
+use Rattle.lz_list.specs.{declared.word.Word.TheVariants.{Pin as pin_at}, Words.{set}}
+use Rattle.lz_machine.specs.declared.{actor.Actor.{Actor}, event.{Event.TheVariants.{Answer}, Reply.TheVariants.{Worn as SaysWorn}}, caller.Progress.{Progress}}
+use Rattle.lz_machine.specs.{declared.caller.Progress.TheVariants.{Answering}, Yards.{Yard}, Table.{last_pin, pin_of, stays_out, pin_answered, words_after}}
 use Rattle.lz_machine.specs.CallersSound.{IsSide, is_before_pin, side_of}
 
 pub even_of : (pin : ℕ) → (pin % 2 == 0) ≡ true → pin % 2 ≡ 0

@@ -1,9 +1,7 @@
 -- What is noted of a pass when it goes in: the trace as it was.
 use Rattle.std.proofs.Common.{◌≡◌, ◌≢◌, inl, inr, ℕ, ◌+◌, ◌≤◌, ◌%◌, ◌==◌, if◌then◌else◌, Bool, true, false, List, length, ap, subst, arith}
-use Rattle.std.proofs.lemmas.Bool.{cases_eq}
-use Rattle.std.proofs.lemmas.Bool.Decides.{nat_tests}
-use Rattle.lz_slot.specs.Counted.{set_of_pass}
-use Rattle.lz_slot.proofs.Counted.{of_pass_same, of_pass_other}
+use Rattle.std.proofs.lemmas.Bool.{cases_eq, Decides.{nat_tests}}
+use Rattle.lz_slot.{specs.Counted.{set_of_pass}, proofs.Counted.{of_pass_same, of_pass_other}}
 use Rattle.lz_list.specs.Traces.{Trace}
 use Rattle.lz_machine.specs.Yards.{IsInside, pin_in}
 

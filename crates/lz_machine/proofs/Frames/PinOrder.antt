@@ -1,25 +1,12 @@
 -- A call that was made after another one's answer has pinned after it, after each turn, look and pin too. And the life began as before.
-use Rattle.std.proofs.Common.{◌≡◌, ◌≢◌, ◌⊎◌, ⊎_elim, inl, inr, ℕ, ◌≤◌, Bool, false, List, [], ◌∷◌, ◌++◌, length, Option, Some, None, refl, sym, ◌∙◌, subst, arith}
-use Rattle.std.proofs.lemmas.Bool.{cases_Bool, cases_eq}
-use Rattle.std.proofs.lemmas.Option.{none-some}
-use Rattle.lz_slot.specs.Sets.{Keys}
-use Rattle.lz_slot.specs.Counted.{set_of_pass}
-use Rattle.lz_slot.specs.Histories.{History, IsAnswered}
-use Rattle.lz_slot.proofs.Counted.{of_pass_same, of_pass_other}
+use Rattle.std.proofs.Common.{◌≡◌, ◌≢◌, ◌⊎◌, ⊎_elim, inl, inr, ℕ, ◌≤◌, Bool, false, List, [], ◌∷◌, ◌++◌, length, Option, Some, None, refl, sym, ◌∙◌, subst}
+use Rattle.std.proofs.{Common.{arith}, lemmas.{Bool.{cases_Bool, cases_eq}, Option.{none-some}}}
+use Rattle.lz_slot.{specs.{Sets.{Keys}, Counted.{set_of_pass}, Histories.{History, IsAnswered}}, proofs.Counted.{of_pass_same, of_pass_other}}
 use Rattle.lz_list.specs.Traces.{Trace}
-use Rattle.lz_machine.specs.declared.caller.Progress.{Progress}
-use Rattle.lz_machine.specs.Runs.{Caller, caller_at}
-use Rattle.lz_machine.specs.Ledgers.{Row, HasRow}
-use Rattle.lz_machine.specs.Kept.{upto, IsRowOf}
-use Rattle.lz_machine.specs.Notes.{Notes, entries}
-use Rattle.lz_machine.specs.Yards.{pin_in, IsInside}
-use Rattle.lz_machine.specs.LedgerSound.{LedgerSound}
-use Rattle.lz_machine.specs.Sound.{HasBegun, IsAfter}
-use Rattle.lz_machine.proofs.Ledger.Fit.{each_has, was_answered}
-use Rattle.lz_machine.proofs.Ledger.Growth.{upto_more}
-use Rattle.lz_machine.proofs.Frames.OneActor.{moving, number_still, same_entries}
-use Rattle.lz_machine.proofs.Ledger.Change.{IsInserted, changes_at, row_of, inserted_entry}
-use Rattle.lz_machine.proofs.Steps.Pin.{begins_now, begun_same, begun_other}
+use Rattle.lz_machine.specs.{declared.caller.Progress.{Progress}, Runs.{Caller, caller_at}, Ledgers.{Row, HasRow}, Kept.{upto, IsRowOf}, Notes.{Notes, entries}}
+use Rattle.lz_machine.{specs.{Yards.{pin_in, IsInside}, LedgerSound.{LedgerSound}, Sound.{HasBegun, IsAfter}}, proofs.Ledger.Fit.{each_has, was_answered}}
+use Rattle.lz_machine.proofs.Ledger.{Growth.{upto_more}, Change.{IsInserted, changes_at, row_of, inserted_entry}}
+use Rattle.lz_machine.proofs.{Frames.OneActor.{moving, number_still, same_entries}, Steps.Pin.{begins_now, begun_same, begun_other}}
 
 -- a turn may add rows of calls that have no answer
 abbrev pub AddsOpen : List Row → List Row → History → Type 0

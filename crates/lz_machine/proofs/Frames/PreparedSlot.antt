@@ -1,18 +1,11 @@
 -- What a preparing of a slot leaves of other actors.
-use Rattle.std.proofs.Common.{◌≡◌, ◌≢◌, ℕ, suc, true, ◌∷◌, Option, Some, None, refl, sym, ap, ◌∙◌, subst, arith}
+use Rattle.std.proofs.{Common.{◌≡◌, ◌≢◌, ℕ, suc, true, ◌∷◌, Option, Some, None, refl, sym, ap, ◌∙◌, subst, arith}, lemmas.Option.{none-some}}
 use mathlib.Core.Bool.{false≢true}
-use Rattle.std.proofs.lemmas.Option.{none-some}
-use Rattle.lz_list.specs.declared.publishing.Publishing.{Publishing}
-use Rattle.lz_list.specs.Words.{place_number, link_to}
-use Rattle.lz_list.specs.Traces.{Trace, Lawful, Adjacent, IsLoose, on, chain, chain_of, bucket_of, key_word}
-use Rattle.lz_list.proofs.Chains.PlaceRank.{adjacent_next}
+use Rattle.lz_list.specs.{declared.publishing.Publishing.{Publishing}, Words.{place_number, link_to}}
+use Rattle.lz_list.{specs.Traces.{Trace, Lawful, Adjacent, IsLoose, on, chain, chain_of, bucket_of, key_word}, proofs.Chains.PlaceRank.{adjacent_next}}
 use Rattle.lz_list.proofs.Traces.Hindsight.{stands}
-use Rattle.lz_machine.specs.declared.actor.Actor.{Actor}
-use Rattle.lz_machine.specs.declared.actor.Hold.{Hold}
-use Rattle.lz_machine.specs.declared.actor.Hold.TheVariants.{Checked, GateOpened, GateClosed, Marked}
-use Rattle.lz_machine.specs.Stands.{Faces}
-use Rattle.lz_machine.specs.LocksSound.{IsRightBefore, RestsOn}
-use Rattle.lz_machine.proofs.Frames.HeldLocks.{LeavesPair, pair_stays}
+use Rattle.lz_machine.specs.{declared.actor.{Actor.{Actor}, Hold.{Hold, TheVariants.{Checked, GateOpened, GateClosed, Marked}}}, Stands.{Faces}}
+use Rattle.lz_machine.{specs.LocksSound.{IsRightBefore, RestsOn}, proofs.Frames.HeldLocks.{LeavesPair, pair_stays}}
 
 -- What a preparing of a loose slot leaves of an actor that doesn't have it.
 module _ (buckets slots s : ℕ) (e : Publishing) (actor : Actor) (P : Trace) (law : Lawful buckets slots P) (loose : IsLoose buckets s P)

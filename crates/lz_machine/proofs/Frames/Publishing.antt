@@ -1,43 +1,22 @@
 -- What a caller relies on stays when another actor publishes.
 use Rattle.lz_vault.specs.Stages.{Cell}
 use Rattle.std.proofs.Common.{List, ◌≡◌, ◌⊎◌, inl, inr, ℕ, zero, suc, Bool, true, false, ◌∷◌, Option, Some, None, refl, sym, ap, ◌∙◌, subst, arith}
+use Rattle.std.proofs.lemmas.Bool.{cases_Bool, Decides.{eqb_tells}}
 use mathlib.Core.Bool.{false≢true}
-use Rattle.std.proofs.lemmas.Bool.{cases_Bool}
-use Rattle.std.proofs.lemmas.Bool.Decides.{eqb_tells}
-use Rattle.lz_slot.specs.declared.format.Format.{Format}
-use Rattle.lz_slot.specs.declared.command.Command.{Command}
-use Rattle.lz_slot.specs.declared.command.Command.TheVariants.{Add, Remove, Has}
-use Rattle.lz_slot.specs.Sets.{key_of}
-use Rattle.lz_list.specs.declared.place.Place.{Place}
-use Rattle.lz_list.specs.declared.publishing.Publishing.{Publishing}
-use Rattle.lz_list.specs.declared.publishing.Publishing.TheVariants.{Linked as linked, Halted as halted}
-use Rattle.lz_list.specs.declared.walk.Look.{Look}
-use Rattle.lz_list.specs.declared.walk.Look.TheVariants.{AtHead, AtKey, AtMet, AtBelow}
-use Rattle.lz_list.specs.Words.{place_number, link_to}
-use Rattle.lz_list.specs.Traces.{Trace, May, has_key, Lawful, Adjacent, on, chain, chain_of, bucket_of, key_word, linking, linking_in, is_removed, halt_word, rank_at, next_link}
-use Rattle.lz_list.specs.Pinned.{Stood, IsKept, IsQuiet}
-use Rattle.lz_list.specs.Laws.{IsHigh}
-use Rattle.lz_list.proofs.Chains.PlaceRank.{adjacent_on, has_on}
-use Rattle.lz_list.proofs.Chains.TraceChain.{words_show_chain}
-use Rattle.lz_list.proofs.Traces.Absence.{begins_itself}
-use Rattle.lz_list.proofs.Traces.Hindsight.{key_stays, once_weaker, next_stood}
-use Rattle.lz_list.proofs.Traces.WalkEnd.{mark_stays, linking_stays, removed_later}
-use Rattle.lz_machine.specs.declared.event.Reply.{Reply}
-use Rattle.lz_machine.specs.declared.event.Reply.TheVariants.{Yes, No, Full, Worn as SaysWorn, OldFile as SaysOldFile, Halted, Device}
-use Rattle.lz_machine.specs.declared.actor.Actor.{Actor}
-use Rattle.lz_machine.specs.declared.actor.Hold.{Hold}
-use Rattle.lz_machine.specs.declared.actor.Hold.TheVariants.{Nothing, Checked, GateClosed, Marked}
-use Rattle.lz_machine.specs.declared.caller.Sequence.{Sequence}
-use Rattle.lz_machine.specs.declared.caller.Sequence.TheVariants.{Pinning, Resting, Writing, Adding, Removing, Releasing, Halting}
-use Rattle.lz_machine.specs.declared.caller.Progress.{Progress}
+use Rattle.lz_slot.specs.{declared.{format.Format.{Format}, command.Command.{Command, TheVariants.{Add, Remove, Has}}}, Sets.{key_of}}
+use Rattle.lz_list.specs.declared.{place.Place.{Place}, publishing.Publishing.{Publishing, TheVariants.{Linked as linked, Halted as halted}}, walk.Look.{Look}}
+use Rattle.lz_list.specs.{declared.walk.Look.TheVariants.{AtHead, AtKey, AtMet, AtBelow}, Words.{place_number, link_to}, Traces.{Trace, May, has_key, Lawful}}
+use Rattle.lz_list.specs.Traces.{Adjacent, on, chain, chain_of, bucket_of, key_word, linking, linking_in, is_removed, halt_word, rank_at, next_link}
+use Rattle.lz_list.{specs.{Pinned.{Stood, IsKept, IsQuiet}, Laws.{IsHigh}}, proofs.Chains.{PlaceRank.{adjacent_on, has_on}, TraceChain.{words_show_chain}}}
+use Rattle.lz_list.proofs.Traces.{Absence.{begins_itself}, Hindsight.{key_stays, once_weaker, next_stood}, WalkEnd.{mark_stays, linking_stays, removed_later}}
+use Rattle.lz_machine.specs.declared.event.Reply.{Reply, TheVariants.{Yes, No, Full, Worn as SaysWorn, OldFile as SaysOldFile, Halted, Device}}
+use Rattle.lz_machine.specs.declared.{actor.{Actor.{Actor}, Hold.{Hold, TheVariants.{Nothing, Checked, GateClosed, Marked}}}, caller.Sequence.{Sequence}}
+use Rattle.lz_machine.specs.declared.caller.{Sequence.TheVariants.{Pinning, Resting, Writing, Adding, Removing, Releasing, Halting}, Progress.{Progress}}
 use Rattle.lz_machine.specs.declared.caller.Progress.TheVariants.{Playing, LoadsHalt, Walking, Reserving, SeeingPins, Claiming, Checking, Answering}
-use Rattle.lz_machine.specs.Runs.{Caller}
-use Rattle.lz_machine.specs.Stands.{IsWalking, WasBetween}
-use Rattle.lz_machine.specs.Yards.{IsInside}
-use Rattle.lz_machine.specs.CallersSound.{View, IsWritten, IsAimed, IsBeyond, HasEnded, IsLooking, IsSince, RestsYes, RestsNo, WasAbsent, IsSettledChange, MayAnswer, HasAdded, HasMarked, MayRest, IsEmptyHanded, ReliesWriting, ReliesAdding, ReliesRemoving, ReliesOn, Relies, IsCaller, CallerSound, is_before_pin}
-use Rattle.lz_machine.specs.SlotsSound.{shuts}
-use Rattle.lz_machine.proofs.Ledger.Growth.{upto_more, yes_stays, no_stays}
-use Rattle.lz_machine.proofs.Frames.Outside.{side_even}
+use Rattle.lz_machine.specs.{Runs.{Caller}, Stands.{IsWalking, WasBetween}, Yards.{IsInside}, CallersSound.{View, IsWritten, IsAimed, IsBeyond, HasEnded}}
+use Rattle.lz_machine.specs.CallersSound.{IsLooking, IsSince, RestsYes, RestsNo, WasAbsent, IsSettledChange, MayAnswer, HasAdded, HasMarked, MayRest}
+use Rattle.lz_machine.specs.CallersSound.{IsEmptyHanded, ReliesWriting, ReliesAdding, ReliesRemoving, ReliesOn, Relies, IsCaller, CallerSound, is_before_pin}
+use Rattle.lz_machine.{specs.SlotsSound.{shuts}, proofs.{Ledger.Growth.{upto_more, yes_stays, no_stays}, Frames.Outside.{side_even}}}
 
 pub halt_stays : (e : Publishing) (P : Trace) → halt_word P ≡ 1 → halt_word (e ∷ P) ≡ 1
 halt_stays halted P is = refl

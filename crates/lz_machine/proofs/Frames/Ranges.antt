@@ -1,22 +1,16 @@
 -- Nodes and links lie in the table, no table has more slots than the largest, and a slot's flags tell of its last linking.
-use Rattle.std.proofs.Common.{◌≡◌, inl, inr, ℕ, zero, suc, ◌<◌, ◌≤◌, true, [], ◌∷◌, refl, sym, ap, ◌∙◌, arith}
-use mathlib.Core.Bool.{false≢true}
-use Rattle.std.proofs.lemmas.Bool.{cases_eq}
+use Rattle.std.proofs.{Common.{◌≡◌, inl, inr, ℕ, zero, suc, ◌<◌, ◌≤◌, true, [], ◌∷◌, refl, sym, ap, ◌∙◌, arith}, lemmas.Bool.{cases_eq}}
 use Rattle.std.proofs.lemmas.Bool.Decides.{nat_tests, eqb_tells}
-use Rattle.lz_slot.specs.Limits.{most_slots}
-use Rattle.lz_slot.proofs.Files.ExactBytes.{slots_of_format}
+use mathlib.Core.Bool.{false≢true}
+use Rattle.lz_slot.{specs.Limits.{most_slots}, proofs.Files.ExactBytes.{slots_of_format}}
 use Rattle.lz_disk.specs.Images.{Medium}
 use Rattle.lz_vault.specs.Vaults.{Vaulted}
-use Rattle.lz_list.specs.declared.publishing.Publishing.{Publishing}
-use Rattle.lz_list.specs.declared.publishing.Publishing.TheVariants.{Linked as linked, Marked as marked, Unlinked as unlinked, Settled as settled, KeyPrepared as key_prepared, LinkPrepared as link_prepared, Halted as halted}
-use Rattle.lz_list.proofs.Traces.OpeningTrace.{opening_lawful}
-use Rattle.lz_list.specs.Traces.{IsFound, opening, Trace, Chain, Lawful, on, chain, chain_of, bucket_of, link_above, node_next, head_word, linking_in, is_settled, is_removed, has_added, has_removed}
-use Rattle.lz_list.specs.Pinned.{Stood}
-use Rattle.lz_list.proofs.Chains.PlaceRank.{adjacent_next, on_start}
-use Rattle.lz_list.proofs.Traces.NodeBits.{on_insert_other, on_without}
-use Rattle.lz_list.proofs.Traces.Hindsight.{stands}
-use Rattle.lz_machine.specs.Yards.{Shape}
-use Rattle.lz_machine.specs.Sound.{DiskSound}
+use Rattle.lz_list.specs.declared.publishing.Publishing.{Publishing, TheVariants.{Linked as linked, Marked as marked, Unlinked as unlinked, Settled as settled}}
+use Rattle.lz_list.specs.declared.publishing.Publishing.TheVariants.{KeyPrepared as key_prepared, LinkPrepared as link_prepared, Halted as halted}
+use Rattle.lz_list.specs.Traces.{IsFound, opening, Trace, Chain, Lawful, on, chain, chain_of, bucket_of, link_above, node_next, head_word, linking_in}
+use Rattle.lz_list.{specs.{Traces.{is_settled, is_removed, has_added, has_removed}, Pinned.{Stood}}, proofs.Traces.OpeningTrace.{opening_lawful}}
+use Rattle.lz_list.proofs.{Traces.{NodeBits.{on_insert_other, on_without}, Hindsight.{stands}}, Chains.PlaceRank.{adjacent_next, on_start}}
+use Rattle.lz_machine.specs.{Yards.{Shape}, Sound.{DiskSound}}
 
 -- a table has no more slots than the largest of all formats
 pub few_slots : {shape : Shape} {vault : Vaulted} {disk : Medium} → DiskSound shape vault disk → shape.slots ≤ most_slots

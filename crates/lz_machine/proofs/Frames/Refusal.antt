@@ -1,30 +1,15 @@
 -- Whether an actor's call was refused says nothing of what it has in hand.
 use Rattle.std.proofs.Common.{◌≡◌, ◌≢◌, ℕ, ◌≤◌, Bool, true, false, List, length, Option, None, if◌then◌else◌, refl, sym, ap, ◌∙◌, subst, arith, ◌%◌}
-use Rattle.lz_slot.specs.declared.command.Command.{Command}
-use Rattle.lz_slot.specs.Counted.{set_of_pass}
-use Rattle.lz_slot.specs.Histories.{History, Life}
+use Rattle.lz_slot.specs.{declared.command.Command.{Command}, Counted.{set_of_pass}, Histories.{History, Life}}
 use Rattle.lz_slot.proofs.Counted.{of_pass_same, of_pass_other, length-set_of_pass}
 use Rattle.lz_disk.specs.Images.{Medium}
 use Rattle.lz_list.specs.Traces.{Trace}
-use Rattle.lz_machine.specs.declared.event.Reply.TheVariants.{OldFile as SaysOldFile}
-use Rattle.lz_machine.specs.declared.actor.Actor.{Actor}
-use Rattle.lz_machine.specs.declared.actor.Hold.{Hold}
-use Rattle.lz_machine.specs.declared.caller.Progress.TheVariants.{Answering}
-use Rattle.lz_machine.specs.Yards.{Yard, actor_at, idle_actor, actor_in, pin_in}
-use Rattle.lz_machine.specs.Table.{is_old}
-use Rattle.lz_machine.specs.Calls.{begun, first_progress}
-use Rattle.lz_machine.specs.Runs.{Caller, caller_at, invoked}
-use Rattle.lz_machine.specs.Notes.{Notes, entries}
-use Rattle.lz_machine.specs.CallersSound.{View, IsEmptyHanded, Relies, IsSide, view_of, CallerSound, CallersSound}
-use Rattle.lz_machine.specs.LocksSound.{HasLock, RestsOn}
-use Rattle.lz_machine.specs.LedgerSound.{TailsSound}
-use Rattle.lz_machine.specs.Sound.{Sound, UpSound}
-use Rattle.lz_machine.proofs.Frames.ActorTable.{by_actor}
-use Rattle.lz_machine.proofs.Frames.OneActor.{carry}
-use Rattle.lz_machine.proofs.Frames.Grip.{KeepsGrips, keeps_itself}
-use Rattle.lz_machine.proofs.Frames.KeptSlots.{slots_turn}
-use Rattle.lz_machine.proofs.Frames.Hand.{reuse_turn}
-use Rattle.lz_machine.proofs.Frames.NodeLocks.{held_locks}
+use Rattle.lz_machine.specs.declared.{event.Reply.TheVariants.{OldFile as SaysOldFile}, actor.{Actor.{Actor}, Hold.{Hold}}}
+use Rattle.lz_machine.specs.{declared.caller.Progress.TheVariants.{Answering}, Yards.{Yard, actor_at, idle_actor, actor_in, pin_in}, Table.{is_old}}
+use Rattle.lz_machine.specs.{Calls.{begun, first_progress}, Runs.{Caller, caller_at, invoked}, Notes.{Notes, entries}}
+use Rattle.lz_machine.specs.{CallersSound.{View, IsEmptyHanded, Relies, IsSide, view_of, CallerSound, CallersSound}, LocksSound.{HasLock, RestsOn}}
+use Rattle.lz_machine.{specs.{LedgerSound.{TailsSound}, Sound.{Sound, UpSound}}, proofs.Frames.{ActorTable.{by_actor}, OneActor.{carry}}}
+use Rattle.lz_machine.proofs.Frames.{Grip.{KeepsGrips, keeps_itself}, KeptSlots.{slots_turn}, Hand.{reuse_turn}, NodeLocks.{held_locks}}
 
 -- a call begins outside
 pub begun_side : (pin : ℕ) (b : Bool) → pin % 2 ≡ 0 → IsSide pin (if b then Answering SaysOldFile else first_progress)

@@ -1,22 +1,12 @@
 -- A turn that leaves the yard as it is keeps the invariant, where the call may go on so.
-use Rattle.std.proofs.Common.{◌≡◌, inl, inr, ℕ, ◌≤◌, true, List, Option, Some, None, refl, sym, ap, ◌∙◌, arith}
-use Rattle.std.proofs.lemmas.Bool.{cases_eq}
-use Rattle.std.proofs.lemmas.Option.{same_Some}
-use Rattle.lz_slot.specs.declared.command.Command.{Command}
-use Rattle.lz_slot.specs.declared.command.Command.TheVariants.{Add, Remove}
-use Rattle.lz_slot.specs.Histories.{History}
+use Rattle.std.proofs.{Common.{◌≡◌, inl, inr, ℕ, ◌≤◌, true, List, Option, Some, None, refl, sym, ap, ◌∙◌, arith}, lemmas.{Bool.{cases_eq}, Option.{same_Some}}}
+use Rattle.lz_slot.specs.{declared.command.Command.{Command, TheVariants.{Add, Remove}}, Histories.{History}}
 use Rattle.lz_disk.specs.Images.{Medium}
 use Rattle.lz_vault.specs.Stages.{Cell}
 use Rattle.lz_list.specs.Traces.{Trace}
-use Rattle.lz_machine.specs.declared.actor.Actor.{Actor}
-use Rattle.lz_machine.specs.declared.caller.Progress.{Progress}
-use Rattle.lz_machine.specs.Yards.{Yard, Shape, actor_in, pin_in, cell_in}
-use Rattle.lz_machine.specs.Runs.{Caller, caller_at}
-use Rattle.lz_machine.specs.Ledgers.{times}
-use Rattle.lz_machine.specs.Notes.{Notes, entries}
-use Rattle.lz_machine.specs.CallersSound.{view_of, CallerSound}
-use Rattle.lz_machine.specs.LedgerSound.{may_have_tail, HasTail, TailsSound}
-use Rattle.lz_machine.specs.Sound.{Sound}
+use Rattle.lz_machine.specs.{declared.{actor.Actor.{Actor}, caller.Progress.{Progress}}, Yards.{Yard, Shape, actor_in, pin_in, cell_in}}
+use Rattle.lz_machine.specs.{Runs.{Caller, caller_at}, Ledgers.{times}, Notes.{Notes, entries}, CallersSound.{view_of, CallerSound}}
+use Rattle.lz_machine.specs.{LedgerSound.{may_have_tail, HasTail, TailsSound}, Sound.{Sound}}
 use Rattle.lz_machine.proofs.Frames.OneActor.{caller_range, moved, moving, moved_same, moved_other, has_entry, same_entries, ledger_turn, callers_turn}
 
 -- a call that has changed nothing goes on so that its tail stays

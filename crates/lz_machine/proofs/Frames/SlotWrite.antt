@@ -1,21 +1,13 @@
 -- What putting a key, opening a slot and closing one make of the disk, done or failed.
 use Rattle.std.proofs.Common.{◌≡◌, inl, inr, ℕ, ◌<◌, ◌≤◌, Bool, true, false, List, Some, refl, sym, ap, ◌∙◌, subst, arith, length-set}
-use Rattle.std.specs.Prelude.{slice_get, slice_set}
-use Rattle.std.proofs.lemmas.Option.{slice_get-get_or}
-use Rattle.lz_slot.specs.Rooms.{largest_of}
-use Rattle.lz_slot.specs.declared.format.Format.{Format}
-use Rattle.lz_slot.specs.declared.format.Format.TheVariants.{Four}
+use Rattle.std.{proofs.lemmas.Option.{slice_get-get_or}, specs.Prelude.{slice_get, slice_set}}
+use Rattle.lz_slot.specs.{Rooms.{largest_of}, declared.format.Format.{Format, TheVariants.{Four}}}
 use Rattle.lz_disk.specs.Images.{Medium}
-use Rattle.lz_vault.specs.declared.vault.Stage.{Stage}
-use Rattle.lz_vault.specs.declared.vault.Stage.TheVariants.{Torn, KeyLoose, Keyed, Opening, Closing}
+use Rattle.lz_vault.specs.declared.vault.Stage.{Stage, TheVariants.{Torn, KeyLoose, Keyed, Opening, Closing}}
 use Rattle.lz_vault.specs.Stages.{Cell, IsFree, IsOpened, Keeps, stage_put}
-use Rattle.lz_vault.specs.Vaults.{Vaulted, MayFail, key_call, opening_call, closing_call, medium_after, syncs_after, cells_failed}
-use Rattle.lz_vault.specs.Members.{no_cell}
-use Rattle.lz_vault.proofs.Changes.{set_cases}
-use Rattle.lz_vault.proofs.SlotWrites.{key_put, key_put_failed, opening_written, opening_failed, closing_written, closing_failed}
-use Rattle.lz_machine.specs.Yards.{Shape, cell_in, stage_in}
-use Rattle.lz_machine.specs.CallersSound.{IsKeyed}
-use Rattle.lz_machine.specs.Sound.{DiskSound}
+use Rattle.lz_vault.specs.{Vaults.{Vaulted, MayFail, key_call, opening_call, closing_call, medium_after, syncs_after, cells_failed}, Members.{no_cell}}
+use Rattle.lz_vault.proofs.{Changes.{set_cases}, SlotWrites.{key_put, key_put_failed, opening_written, opening_failed, closing_written, closing_failed}}
+use Rattle.lz_machine.specs.{Yards.{Shape, cell_in, stage_in}, CallersSound.{IsKeyed}, Sound.{DiskSound}}
 
 -- after a key was put the slot is still surely closed
 pub put_keyed : (F : Format) (stage : Stage) → IsKeyed (stage_put F stage)

@@ -1,21 +1,15 @@
 -- One store for each publishing: the words are those after the longer trace.
 use Rattle.std.proofs.Common.{◌≡◌, ◌≢◌, ◌⊎◌, inl, inr, ℕ, zero, suc, ◌<◌, ◌≤◌, ◌==◌, true, false, List, ◌∷◌, refl, sym, ap, ◌∙◌, subst, arith}
-use Rattle.std.specs.Prelude.{slice_set}
-use Rattle.std.proofs.lemmas.Bool.Decides.{nat_tests}
+use Rattle.std.{proofs.lemmas.Bool.Decides.{nat_tests}, specs.Prelude.{slice_set}}
 use Rattle.lz_slot.specs.Limits.{most_slots}
-use Rattle.lz_list.specs.declared.place.Place.{Place}
-use Rattle.lz_list.specs.declared.place.Place.TheVariants.{Bucket, Node}
-use Rattle.lz_list.specs.declared.publishing.Publishing.{Publishing}
-use Rattle.lz_list.specs.declared.publishing.Publishing.TheVariants.{Linked as linked, Marked as marked, Unlinked as unlinked, KeyPrepared as key_prepared, LinkPrepared as link_prepared}
+use Rattle.lz_list.specs.declared.{place.Place.{Place, TheVariants.{Bucket, Node}}, publishing.Publishing.{Publishing, TheVariants.{Linked as linked}}}
+use Rattle.lz_list.specs.declared.publishing.Publishing.TheVariants.{Marked as marked, Unlinked as unlinked, KeyPrepared as key_prepared}
+use Rattle.lz_list.specs.declared.publishing.Publishing.TheVariants.{LinkPrepared as link_prepared}
 use Rattle.lz_list.specs.declared.word.Word.TheVariants.{Head as head_at, Link as link_at, Key as key_at}
-use Rattle.lz_list.specs.Words.{Words, get, set, redirect, place_number, link_with, next_of, flags_of, marked_flags, change_flags}
-use Rattle.lz_list.specs.Traces.{Trace, Lawful, May, IsLoose, place_of, bucket_of, key_word, node_next, next_link, head_word, halt_word, flags_after, word_after, table}
-use Rattle.lz_list.proofs.Tables.WordTable.{table_set}
-use Rattle.lz_list.proofs.Chains.TraceChain.{linked_at, linked_off, unlinked_at, unlinked_off}
-use Rattle.lz_machine.specs.Yards.{Shape}
-use Rattle.lz_machine.specs.Stands.{InBucket}
-use Rattle.lz_machine.specs.Sound.{TraceSound}
-use Rattle.lz_machine.proofs.Frames.Ranges.{small_stays}
+use Rattle.lz_list.specs.{Words.{Words, get, set, redirect, place_number, link_with, next_of, flags_of, marked_flags, change_flags}, Traces.{Trace, Lawful}}
+use Rattle.lz_list.specs.Traces.{May, IsLoose, place_of, bucket_of, key_word, node_next, next_link, head_word, halt_word, flags_after, word_after, table}
+use Rattle.lz_list.proofs.{Tables.WordTable.{table_set}, Chains.TraceChain.{linked_at, linked_off, unlinked_at, unlinked_off}}
+use Rattle.lz_machine.{specs.{Yards.{Shape}, Stands.{InBucket}, Sound.{TraceSound}}, proofs.Frames.Ranges.{small_stays}}
 use Rattle.lz_machine.proofs.Frames.LoadedWord.{bucket_range, link_next, link_mark, link_added, link_removed}
 
 -- tables of functions that agree

@@ -1,19 +1,12 @@
 -- How uses change when pins are seen, and when limbo slots that every pass has left become free: what is said of reuse stays.
 use Rattle.std.proofs.Common.{◌≡◌, ◌⊎◌, inl, inr, ℕ, zero, suc, ◌≤◌, true, List, [], ◌∷◌, length, map, get_or, refl, sym, ap, ◌∙◌, subst, arith}
+use Rattle.std.{proofs.lemmas.{Bool.{cases_Bool, cases_eq, cases_lt}, List.{get_or_past, length-map}}, specs.List.{list_all}}
 use mathlib.Core.Bool.{false≢true}
-use Rattle.std.specs.List.{list_all}
-use Rattle.std.proofs.lemmas.Bool.{cases_Bool, cases_eq, cases_lt}
-use Rattle.std.proofs.lemmas.List.{get_or_past, length-map}
-use Rattle.lz_slot.specs.Counted.{of_pass, set_of_pass}
-use Rattle.lz_slot.proofs.Counted.{of_pass_same, of_pass_other, length-set_of_pass}
-use Rattle.lz_allot.specs.declared.sight.Sight.{Sight}
-use Rattle.lz_allot.specs.declared.sight.Sight.TheVariants.{Unseen, Inside, Left}
+use Rattle.lz_slot.{specs.Counted.{of_pass, set_of_pass}, proofs.Counted.{of_pass_same, of_pass_other, length-set_of_pass}}
+use Rattle.lz_allot.specs.declared.sight.Sight.{Sight, TheVariants.{Unseen, Inside, Left}}
 use Rattle.lz_allot.specs.Uses.{Use, Free, Taken, Limbo, use_of, collect_at, collect, see_pin_at, see_pin, sight_after, has_left}
 use Rattle.lz_list.specs.Traces.{Trace}
-use Rattle.lz_machine.specs.declared.actor.Actor.{Actor}
-use Rattle.lz_machine.specs.Yards.{Shape, IsInside, pin_in}
-use Rattle.lz_machine.specs.Limbo.{IsRightSight}
-use Rattle.lz_machine.specs.Sound.{ReuseSound}
+use Rattle.lz_machine.specs.{declared.actor.Actor.{Actor}, Yards.{Shape, IsInside, pin_in}, Limbo.{IsRightSight}, Sound.{ReuseSound}}
 use Rattle.lz_machine.proofs.Frames.Limbo.{seen_see}
 
 -- a change of each use that leaves taken slots

@@ -1,9 +1,7 @@
 -- The listed calls get their answers.
-use Rattle.std.proofs.Common.{◌≡◌, ℕ, zero, suc, ◌<◌, Bool, true, false, not, ◌==◌, ◌&&◌, List, [], ◌∷◌, ◌++◌, MatchOption, refl, sym, ap, ◌∙◌, subst, inl, inr, arith, filter}
-use Rattle.std.proofs.lemmas.Bool.{cases_Bool, cases_eq}
-use Rattle.std.proofs.lemmas.Bool.Decides.{nat_tests}
-use Rattle.lz_slot.specs.Sets.{key_of, Keys, after, reply, moved, Same}
-use Rattle.lz_slot.proofs.Sets.{after_at, moved_other, after_same}
+use Rattle.std.proofs.Common.{◌≡◌, ℕ, zero, suc, ◌<◌, Bool, true, false, not, ◌==◌, ◌&&◌, List, [], ◌∷◌, ◌++◌, MatchOption, refl, sym, ap, ◌∙◌, subst, inl, inr}
+use Rattle.std.proofs.{Common.{arith, filter}, lemmas.Bool.{cases_Bool, cases_eq, Decides.{nat_tests}}}
+use Rattle.lz_slot.{specs.Sets.{key_of, Keys, after, reply, moved, Same}, proofs.Sets.{after_at, moved_other, after_same}}
 use Rattle.lz_machine.specs.Ledgers.{Row, quiet_at, change_at, listed, Gives, ends, Each, IsRight, Moves, Leads}
 
 gives_same : (L : List Row) (S T : Keys) → Same S T → Gives T L → Gives S L

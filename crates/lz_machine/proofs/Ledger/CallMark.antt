@@ -1,7 +1,6 @@
 -- Which marks are those of calls, and of which.
 use Rattle.std.proofs.Common.{ℕ, Bool, true, false}
-use Rattle.lz_slot.specs.declared.history.Mark.{Mark}
-use Rattle.lz_slot.specs.declared.history.Mark.TheVariants.{Call}
+use Rattle.lz_slot.specs.declared.history.Mark.{Mark, TheVariants.{Call}}
 
 abbrev pub is_call : Mark → Bool
 is_call (Call i a c) = true

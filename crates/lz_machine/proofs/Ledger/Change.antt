@@ -1,26 +1,14 @@
 -- The ledger where a call changes something: its row, without an answer yet, is put among those of the open calls.
-use Rattle.std.proofs.Common.{◌≡◌, ◌≢◌, ◌⊎◌, ⊎_elim, inl, inr, ℕ, zero, suc, ◌<◌, ◌≤◌, ◌+◌, ◌==◌, ◌&&◌, if◌then◌else◌, Bool, true, false, List, [], ◌∷◌, ◌++◌, length, Option, Some, None, refl, sym, ap, ◌∙◌, subst, arith, append_assoc}
-use Rattle.std.proofs.lemmas.Bool.{cases_Bool, cases_eq, cases_lt}
-use Rattle.std.proofs.lemmas.Bool.Decides.{nat_tests, eqb_tells}
-use Rattle.std.proofs.lemmas.List.{append-nil}
-use Rattle.std.proofs.lemmas.Option.{same_Some, none-some}
-use Rattle.lz_slot.specs.declared.command.Command.{Command}
-use Rattle.lz_slot.specs.Sets.{key_of, reply}
-use Rattle.lz_slot.specs.Histories.{History, IsCalled, IsAnswered, IsBefore, IsUnderWay}
-use Rattle.lz_list.specs.declared.publishing.Publishing.{Publishing}
-use Rattle.lz_list.specs.Traces.{Trace, member}
-use Rattle.lz_machine.specs.Runs.{Caller, caller_at}
-use Rattle.lz_machine.specs.Ledgers.{Row, HasRow, Stands, Each, change_at, times}
-use Rattle.lz_machine.specs.Kept.{publishing, upto, changes_key, IsRowOf}
-use Rattle.lz_machine.specs.Entries.{IsRowIn, IsLedger, IsSettledEntry, IsChangeOf}
-use Rattle.lz_machine.specs.Notes.{Notes, pending_row, pending, entries}
-use Rattle.lz_machine.specs.LedgerSound.{LedgerSound, may_have_tail, HasTail}
-use Rattle.lz_machine.proofs.Ledger.Fit.{each_has, has_append, was_answered}
-use Rattle.lz_machine.proofs.Ledger.Order.{has_left, stands_across, times_append}
-use Rattle.lz_machine.proofs.Ledger.Membership.{upto_all}
-use Rattle.lz_machine.proofs.Ledger.Growth.{upto_more, publishing_more}
-use Rattle.lz_machine.proofs.Ledger.QuietPublishing.{none_late, last_publishing, ledger_grows, settled_grow}
-use Rattle.lz_machine.proofs.Frames.OneActor.{caller_range}
+use Rattle.std.proofs.Common.{◌≡◌, ◌≢◌, ◌⊎◌, ⊎_elim, inl, inr, ℕ, zero, suc, ◌<◌, ◌≤◌, ◌+◌, ◌==◌, ◌&&◌, if◌then◌else◌, Bool, true, false, List, [], ◌∷◌, ◌++◌}
+use Rattle.std.proofs.{Common.{length, Option, Some, None, refl, sym, ap, ◌∙◌, subst, arith, append_assoc}, lemmas.Bool.{cases_Bool, cases_eq, cases_lt}}
+use Rattle.std.proofs.lemmas.{Bool.Decides.{nat_tests, eqb_tells}, List.{append-nil}, Option.{same_Some, none-some}}
+use Rattle.lz_slot.specs.{declared.command.Command.{Command}, Sets.{key_of, reply}, Histories.{History, IsCalled, IsAnswered, IsBefore, IsUnderWay}}
+use Rattle.lz_list.specs.{declared.publishing.Publishing.{Publishing}, Traces.{Trace, member}}
+use Rattle.lz_machine.specs.{Runs.{Caller, caller_at}, Ledgers.{Row, HasRow, Stands, Each, change_at, times}, Kept.{publishing, upto, changes_key, IsRowOf}}
+use Rattle.lz_machine.specs.{Entries.{IsRowIn, IsLedger, IsSettledEntry, IsChangeOf}, Notes.{Notes, pending_row, pending, entries}}
+use Rattle.lz_machine.{specs.LedgerSound.{LedgerSound, may_have_tail, HasTail}, proofs.Ledger.Fit.{each_has, has_append, was_answered}}
+use Rattle.lz_machine.proofs.Ledger.{Order.{has_left, stands_across, times_append}, Membership.{upto_all}, Growth.{upto_more, publishing_more}}
+use Rattle.lz_machine.proofs.{Ledger.QuietPublishing.{none_late, last_publishing, ledger_grows, settled_grow}, Frames.OneActor.{caller_range}}
 
 -- a row put into a list
 module _ (r : Row) where

@@ -1,30 +1,17 @@
 -- The ledger where a call ends: its pending row, if it has one, leaves, and its last row, if it has one, is put after those
 -- that ended.
-use Rattle.std.proofs.Common.{◌≡◌, ◌≢◌, ◌⊎◌, ⊎_elim, inl, inr, ℕ, ◌<◌, ◌≤◌, ◌+◌, Bool, true, false, List, [], ◌∷◌, ◌++◌, length, Option, Some, None, refl, sym, ap, ◌∙◌, subst, arith}
-use Rattle.std.proofs.lemmas.Bool.{cases_eq}
-use Rattle.std.proofs.lemmas.Bool.Decides.{nat_tests}
-use Rattle.std.proofs.lemmas.List.{append-nil}
-use Rattle.std.proofs.lemmas.Option.{none-some}
-use Rattle.lz_slot.specs.declared.command.Command.{Command}
-use Rattle.lz_slot.specs.declared.history.Mark.{Mark}
-use Rattle.lz_slot.specs.declared.history.Mark.TheVariants.{Call, Answer, Refused}
-use Rattle.lz_slot.specs.declared.history.Refusal.{Refusal}
+use Rattle.std.proofs.Common.{◌≡◌, ◌≢◌, ◌⊎◌, ⊎_elim, inl, inr, ℕ, ◌<◌, ◌≤◌, ◌+◌, Bool, true, false, List, [], ◌∷◌, ◌++◌, length, Option, Some, None, refl, sym}
+use Rattle.std.proofs.{Common.{ap, ◌∙◌, subst, arith}, lemmas.{Bool.{cases_eq, Decides.{nat_tests}}, List.{append-nil}, Option.{none-some}}}
+use Rattle.lz_slot.specs.declared.{command.Command.{Command}, history.{Mark.{Mark, TheVariants.{Call, Answer, Refused}}, Refusal.{Refusal}}}
 use Rattle.lz_slot.specs.Histories.{History, IsCalled, IsAnswered, IsBefore, IsUnderWay}
-use Rattle.lz_list.specs.Traces.{Trace}
-use Rattle.lz_list.specs.declared.publishing.Publishing.{Publishing}
-use Rattle.lz_list.specs.declared.publishing.Publishing.TheVariants.{Linked as linked, Marked as marked}
-use Rattle.lz_machine.specs.Runs.{Caller, caller_at}
-use Rattle.lz_machine.specs.Ledgers.{Row, HasRow, Stands, Each, change_at, times}
-use Rattle.lz_machine.specs.Kept.{publishing, IsRowOf}
-use Rattle.lz_machine.specs.Entries.{IsRowIn, IsLedger, IsSettledEntry, IsChangeOf}
-use Rattle.lz_machine.specs.Notes.{Notes, pending_row, pending, entries}
-use Rattle.lz_machine.specs.Yards.{IsInside, pin_in}
-use Rattle.lz_machine.specs.LedgerSound.{LedgerSound, may_have_tail, HasTail}
-use Rattle.lz_machine.specs.Sound.{IsAfter}
-use Rattle.lz_machine.proofs.Ledger.Fit.{each_has, each_all, has_append, was_answered}
-use Rattle.lz_machine.proofs.Ledger.Order.{has_left, has_right, times_append}
-use Rattle.lz_machine.proofs.Ledger.Change.{pending_open, no_entry}
-use Rattle.lz_machine.proofs.Ledger.Parts.{IsParted, change_append, ending, ends_now, gone, is_nil, last_new, length_app, new_rest, none_of, number_rest, old_rest, parted, rest_new, rest_old, short, stands_last, stands_new, stays_open, times_new, times_old}
+use Rattle.lz_list.specs.{Traces.{Trace}, declared.publishing.Publishing.{Publishing, TheVariants.{Linked as linked, Marked as marked}}}
+use Rattle.lz_machine.specs.{Runs.{Caller, caller_at}, Ledgers.{Row, HasRow, Stands, Each, change_at, times}, Kept.{publishing, IsRowOf}}
+use Rattle.lz_machine.specs.{Entries.{IsRowIn, IsLedger, IsSettledEntry, IsChangeOf}, Notes.{Notes, pending_row, pending, entries}, Yards.{IsInside, pin_in}}
+use Rattle.lz_machine.specs.{LedgerSound.{LedgerSound, may_have_tail, HasTail}, Sound.{IsAfter}}
+use Rattle.lz_machine.proofs.Ledger.{Fit.{each_has, each_all, has_append, was_answered}, Order.{has_left, has_right, times_append}}
+use Rattle.lz_machine.proofs.Ledger.{Change.{pending_open, no_entry}, Parts.{IsParted, change_append, ending, ends_now, gone, is_nil, last_new, length_app}}
+use Rattle.lz_machine.proofs.Ledger.Parts.{new_rest, none_of, number_rest, old_rest, parted, rest_new, rest_old, short, stands_last, stands_new, stays_open}
+use Rattle.lz_machine.proofs.Ledger.Parts.{times_new, times_old}
 
 module _ (p r : Row) (same : p.command ≡ r.command) where
   first_same : {x z : Row} → x ∷ [] ≡ z ∷ [] → x ≡ z

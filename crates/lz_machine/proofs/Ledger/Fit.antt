@@ -1,14 +1,10 @@
 -- The list that a trace and a ledger give fits the history.
-use Rattle.std.proofs.Common.{◌≡◌, ◌⊎◌, ⊎_elim, inl, inr, ℕ, zero, suc, ◌<◌, ◌≤◌, Bool, true, not, ◌==◌, ◌&&◌, List, [], ◌∷◌, ◌++◌, length, filter, None, refl, sym, ap, ◌∙◌, subst, arith}
-use Rattle.std.proofs.lemmas.Bool.{cases_Bool, cases_lt}
-use Rattle.std.proofs.lemmas.Bool.Decides.{nat_tests}
-use Rattle.std.proofs.lemmas.Option.{none-some}
-use Rattle.lz_slot.specs.Sets.{Keys, after}
-use Rattle.lz_slot.specs.Histories.{IsRefused, History, IsAnswered, IsBefore, IsListed, count_of, IsEarlier, Runs, Fits}
+use Rattle.std.proofs.Common.{◌≡◌, ◌⊎◌, ⊎_elim, inl, inr, ℕ, zero, suc, ◌<◌, ◌≤◌, Bool, true, not, ◌==◌, ◌&&◌, List, [], ◌∷◌, ◌++◌, length, filter, None, refl}
+use Rattle.std.proofs.{Common.{sym, ap, ◌∙◌, subst, arith}, lemmas.{Bool.{cases_Bool, cases_lt, Decides.{nat_tests}}, Option.{none-some}}}
+use Rattle.lz_slot.specs.{Sets.{Keys, after}, Histories.{IsRefused, History, IsAnswered, IsBefore, IsListed, count_of, IsEarlier, Runs, Fits}}
 use Rattle.lz_list.specs.Traces.{Trace, Lawful}
 use Rattle.lz_machine.specs.Ledgers.{Row, quiet_at, change_at, listed, HasRow, Stands, times, is_within, Each, IsRight, Moves, Leads}
-use Rattle.lz_machine.specs.Kept.{MayDrop, kept_keys, publishing, RowsFit, IsRowOf}
-use Rattle.lz_machine.specs.Entries.{numbers, IsRowIn, IsLedger}
+use Rattle.lz_machine.specs.{Kept.{MayDrop, kept_keys, publishing, RowsFit, IsRowOf}, Entries.{numbers, IsRowIn, IsLedger}}
 use Rattle.lz_machine.proofs.Ledger.Answers.{leads_append, listed_leads, each_weaker}
 use Rattle.lz_machine.proofs.Ledger.Order.{listed_has, listed_order, listed_times, has_left, has_right, stands_left, stands_across, times_append}
 use Rattle.lz_machine.proofs.Ledger.Membership.{row_is_right, rows_move, begins_still}

@@ -1,12 +1,8 @@
 -- What is said of a row stays as the trace grows.
-use Rattle.std.proofs.Common.{◌≡◌, ⊎_elim, inl, inr, ℕ, ◌<◌, ◌≤◌, ◌∷◌, length, arith}
-use Rattle.std.proofs.lemmas.Bool.Decides.{nat_tests}
-use Rattle.lz_list.specs.declared.publishing.Publishing.{Publishing}
-use Rattle.lz_list.specs.Traces.{Trace, SettledYes, SettledNo}
-use Rattle.lz_list.proofs.Traces.Absence.{begins_itself}
+use Rattle.std.proofs.{Common.{◌≡◌, ⊎_elim, inl, inr, ℕ, ◌<◌, ◌≤◌, ◌∷◌, length, arith}, lemmas.Bool.Decides.{nat_tests}}
+use Rattle.lz_list.{specs.{declared.publishing.Publishing.{Publishing}, Traces.{Trace, SettledYes, SettledNo}}, proofs.Traces.Absence.{begins_itself}}
 use Rattle.lz_list.proofs.Traces.WalkEnd.{settled_later, removed_later}
-use Rattle.lz_machine.specs.Ledgers.{Row}
-use Rattle.lz_machine.specs.Kept.{upto, publishing, IsRowOf}
+use Rattle.lz_machine.specs.{Ledgers.{Row}, Kept.{upto, publishing, IsRowOf}}
 
 pub upto_more : (j : ℕ) (e : Publishing) (P : Trace) → j ≤ length P → upto j (e ∷ P) ≡ upto j P
 upto_more j e P le = grind (arith, nat_tests)

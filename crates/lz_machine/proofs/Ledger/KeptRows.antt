@@ -1,21 +1,11 @@
 -- For each image the rows that it keeps are a ledger too.
-use Rattle.std.proofs.Common.{◌≡◌, ⊎_elim, inl, inr, ℕ, suc, ◌≤◌, Bool, true, false, not, ◌==◌, ◌&&◌, List, [], ◌∷◌, ◌++◌, length, filter, Some, refl, sym, ap, ◌∙◌, subst, arith}
-use Rattle.std.proofs.lemmas.Bool.{cases_Bool}
-use Rattle.std.proofs.lemmas.Bool.Decides.{nat_tests}
-use Rattle.std.proofs.lemmas.Option.{none-some}
-use Rattle.lz_slot.specs.declared.command.Command.{Command}
-use Rattle.lz_slot.specs.declared.command.Command.TheVariants.{Add, Remove}
-use Rattle.lz_slot.specs.Sets.{key_of, Keys}
-use Rattle.lz_slot.specs.Histories.{History, IsAnswered}
-use Rattle.lz_list.specs.declared.publishing.Publishing.{Publishing}
-use Rattle.lz_list.specs.declared.publishing.Publishing.TheVariants.{Linked as linked, Marked as marked}
-use Rattle.lz_list.specs.Traces.{Trace}
-use Rattle.lz_machine.specs.Ledgers.{Row, change_at, Each, HasRow}
-use Rattle.lz_machine.specs.Kept.{upto, last_change, MayDrop, IsChange, RowsFit, IsRowOf}
-use Rattle.lz_machine.specs.Entries.{IsRowIn, IsLedger, IsSettledEntry, IsChangeOf, is_kept, kept_rows}
-use Rattle.lz_machine.proofs.Ledger.Answers.{each_filter, each_weaker}
-use Rattle.lz_machine.proofs.Ledger.Order.{has_filter, stands_filter, has_left, has_right}
-use Rattle.lz_machine.proofs.Ledger.Membership.{yes_is_kept, no_is_kept, length-upto}
+use Rattle.std.proofs.Common.{◌≡◌, ⊎_elim, inl, inr, ℕ, suc, ◌≤◌, Bool, true, false, not, ◌==◌, ◌&&◌, List, [], ◌∷◌, ◌++◌, length, filter, Some, refl, sym, ap}
+use Rattle.std.proofs.{Common.{◌∙◌, subst, arith}, lemmas.{Bool.{cases_Bool, Decides.{nat_tests}}, Option.{none-some}}}
+use Rattle.lz_slot.specs.{declared.command.Command.{Command, TheVariants.{Add, Remove}}, Sets.{key_of, Keys}, Histories.{History, IsAnswered}}
+use Rattle.lz_list.specs.{declared.publishing.Publishing.{Publishing, TheVariants.{Linked as linked, Marked as marked}}, Traces.{Trace}}
+use Rattle.lz_machine.specs.{Ledgers.{Row, change_at, Each, HasRow}, Kept.{upto, last_change, MayDrop, IsChange, RowsFit, IsRowOf}}
+use Rattle.lz_machine.{specs.Entries.{IsRowIn, IsLedger, IsSettledEntry, IsChangeOf, is_kept, kept_rows}, proofs.Ledger.Answers.{each_filter, each_weaker}}
+use Rattle.lz_machine.proofs.Ledger.{Order.{has_filter, stands_filter, has_left, has_right}, Membership.{yes_is_kept, no_is_kept, length-upto}}
 use Rattle.lz_machine.proofs.Ledger.Fit.{each_has, each_all, has_append, has_filter_of, times_filter}
 
 filter_swap : (p q : Row → Bool) (L : List Row) → filter p (filter q L) ≡ filter q (filter p L)

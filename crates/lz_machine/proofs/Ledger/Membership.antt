@@ -1,16 +1,10 @@
 -- The rows of a ledger are right about the membership of the trace that is kept.
-use Rattle.std.proofs.Common.{◌≡◌, ◌≢◌, ⊎_elim, inl, inr, ℕ, suc, ◌<◌, ◌≤◌, Bool, true, false, not, ◌==◌, ◌&&◌, max, List, [], ◌∷◌, length, Option, Some, MatchOption, refl, sym, ap, ◌∙◌, subst, arith}
+use Rattle.std.proofs.Common.{◌≡◌, ◌≢◌, ⊎_elim, inl, inr, ℕ, suc, ◌<◌, ◌≤◌, Bool, true, false, not, ◌==◌, ◌&&◌, max, List, [], ◌∷◌, length, Option, Some}
+use Rattle.std.proofs.{Common.{MatchOption, refl, sym, ap, ◌∙◌, subst, arith}, lemmas.Bool.{cases_eq, cases_Bool, cases_lt, Decides.{nat_tests, leb_tells}}}
 use mathlib.Core.Bool.{false≢true}
-use Rattle.std.proofs.lemmas.Bool.{cases_eq, cases_Bool, cases_lt}
-use Rattle.std.proofs.lemmas.Bool.Decides.{nat_tests, leb_tells}
-use Rattle.lz_slot.specs.declared.command.Command.{Command}
-use Rattle.lz_slot.specs.declared.command.Command.TheVariants.{Add, Remove}
-use Rattle.lz_slot.specs.Sets.{key_of, Keys, reply, moved}
-use Rattle.lz_slot.proofs.Sets.{after_at}
-use Rattle.lz_list.specs.declared.publishing.Publishing.{Publishing}
-use Rattle.lz_list.specs.declared.publishing.Publishing.TheVariants.{Linked as linked, Marked as marked, Halted as halted}
-use Rattle.lz_list.specs.Traces.{Trace, Begins, member, linking, Lawful, SettledYes, SettledNo}
-use Rattle.lz_list.proofs.Traces.Hindsight.{lawful_begins}
+use Rattle.lz_slot.{specs.{declared.command.Command.{Command, TheVariants.{Add, Remove}}, Sets.{key_of, Keys, reply, moved}}, proofs.Sets.{after_at}}
+use Rattle.lz_list.specs.declared.publishing.Publishing.{Publishing, TheVariants.{Linked as linked, Marked as marked, Halted as halted}}
+use Rattle.lz_list.{specs.Traces.{Trace, Begins, member, linking, Lawful, SettledYes, SettledNo}, proofs.Traces.Hindsight.{lawful_begins}}
 use Rattle.lz_machine.specs.Ledgers.{Row, IsRight, Moves}
 use Rattle.lz_machine.specs.Kept.{upto, changes_key, last_change, IsOpen, MayDrop, kept_keys, publishing, IsChange, RowsFit, IsRowOf}
 use Rattle.lz_machine.proofs.Frames.Limbo.{shorter}

@@ -1,19 +1,12 @@
 -- The rows of a ledger in parts: a call's row is taken out, and put after those that ended.
-use Rattle.std.proofs.Common.{◌≡◌, ◌≢◌, ◌⊎◌, ⊎_elim, inl, inr, ℕ, zero, suc, ◌<◌, ◌≤◌, ◌+◌, ◌==◌, if◌then◌else◌, true, false, List, [], ◌∷◌, ◌++◌, length, Option, Some, None, refl, sym, ap, ◌∙◌, arith, append_assoc}
-use Rattle.std.proofs.lemmas.Bool.{cases_Bool, cases_eq}
-use Rattle.std.proofs.lemmas.Bool.Decides.{nat_tests, eqb_tells}
+use Rattle.std.proofs.Common.{◌≡◌, ◌≢◌, ◌⊎◌, ⊎_elim, inl, inr, ℕ, zero, suc, ◌<◌, ◌≤◌, ◌+◌, ◌==◌, if◌then◌else◌, true, false, List, [], ◌∷◌, ◌++◌, length}
+use Rattle.std.proofs.{Common.{Option, Some, None, refl, sym, ap, ◌∙◌, arith, append_assoc}, lemmas.Bool.{cases_Bool, cases_eq, Decides.{nat_tests, eqb_tells}}}
 use Rattle.std.proofs.lemmas.List.{append-nil}
-use Rattle.lz_slot.specs.Counted.{set_of_pass}
-use Rattle.lz_slot.proofs.Counted.{of_pass_same, of_pass_other}
-use Rattle.lz_list.specs.declared.publishing.Publishing.{Publishing}
-use Rattle.lz_list.specs.declared.publishing.Publishing.TheVariants.{Linked as linked, Marked as marked}
-use Rattle.lz_machine.specs.Runs.{Caller, caller_at}
-use Rattle.lz_machine.specs.Ledgers.{Row, HasRow, Stands, Each, change_at, times}
-use Rattle.lz_machine.specs.Entries.{IsChangeOf}
-use Rattle.lz_machine.specs.Notes.{Notes, pending_row, pending}
-use Rattle.lz_machine.proofs.Ledger.Fit.{each_has, has_append}
-use Rattle.lz_machine.proofs.Ledger.Order.{has_left, has_right, stands_left, stands_across, times_append}
-use Rattle.lz_machine.proofs.Frames.OneActor.{caller_range}
+use Rattle.lz_slot.{specs.Counted.{set_of_pass}, proofs.Counted.{of_pass_same, of_pass_other}}
+use Rattle.lz_list.specs.declared.publishing.Publishing.{Publishing, TheVariants.{Linked as linked, Marked as marked}}
+use Rattle.lz_machine.specs.{Runs.{Caller, caller_at}, Ledgers.{Row, HasRow, Stands, Each, change_at, times}, Entries.{IsChangeOf}}
+use Rattle.lz_machine.{specs.Notes.{Notes, pending_row, pending}, proofs.Ledger.Fit.{each_has, has_append}}
+use Rattle.lz_machine.proofs.{Ledger.Order.{has_left, has_right, stands_left, stands_across, times_append}, Frames.OneActor.{caller_range}}
 
 abbrev pub ending : List (Option Caller) → ℕ → List (Option Caller)
 ending callers a = set_of_pass callers a None

@@ -1,20 +1,10 @@
 -- The ledger stays when the trace grows by a publishing that changes no membership.
-use Rattle.std.proofs.Common.{◌≡◌, inl, inr, ℕ, ◌≤◌, List, [], ◌∷◌, length, refl, sym, subst, arith}
-use Rattle.std.proofs.lemmas.Bool.{cases_Bool, cases_lt}
-use Rattle.std.proofs.lemmas.Bool.Decides.{nat_tests}
+use Rattle.std.proofs.{Common.{◌≡◌, inl, inr, ℕ, ◌≤◌, List, [], ◌∷◌, length, refl, sym, subst, arith}, lemmas.Bool.{cases_Bool, cases_lt, Decides.{nat_tests}}}
 use Rattle.std.specs.Prelude.{Option}
 use Rattle.lz_slot.specs.Histories.{History}
-use Rattle.lz_list.specs.declared.publishing.Publishing.{Publishing}
-use Rattle.lz_list.specs.declared.publishing.Publishing.TheVariants.{Linked as linked, Marked as marked}
-use Rattle.lz_list.specs.Traces.{Trace}
-use Rattle.lz_machine.specs.Runs.{Caller}
-use Rattle.lz_machine.specs.Ledgers.{Row, Each, change_at}
-use Rattle.lz_machine.specs.Kept.{publishing, IsRowOf}
-use Rattle.lz_machine.specs.Entries.{IsLedger, IsSettledEntry, IsChangeOf}
-use Rattle.lz_machine.specs.Notes.{Notes, entries}
-use Rattle.lz_machine.specs.LedgerSound.{LedgerSound}
-use Rattle.lz_machine.proofs.Ledger.Fit.{each_has, each_all}
-use Rattle.lz_machine.proofs.Ledger.Answers.{each_weaker}
+use Rattle.lz_list.specs.{declared.publishing.Publishing.{Publishing, TheVariants.{Linked as linked, Marked as marked}}, Traces.{Trace}}
+use Rattle.lz_machine.specs.{Runs.{Caller}, Ledgers.{Row, Each, change_at}, Kept.{publishing, IsRowOf}, Entries.{IsLedger, IsSettledEntry, IsChangeOf}}
+use Rattle.lz_machine.{specs.{Notes.{Notes, entries}, LedgerSound.{LedgerSound}}, proofs.Ledger.{Fit.{each_has, each_all}, Answers.{each_weaker}}}
 use Rattle.lz_machine.proofs.Ledger.Growth.{row_stays, upto_more, publishing_more, yes_stays, no_stays}
 
 -- no row changes anything past the end of the trace

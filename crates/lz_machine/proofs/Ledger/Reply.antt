@@ -1,36 +1,18 @@
 -- The last row of a call, by what it replies, and the ledger with it.
-use Rattle.std.proofs.Common.{◌≡◌, ◌⊎◌, ⊎_elim, inl, inr, ℕ, ◌≤◌, Bool, true, false, List, [], ◌∷◌, ◌++◌, length, Option, Some, None, refl, sym, ap, ◌∙◌, subst, arith}
+use Rattle.std.proofs.Common.{◌≡◌, ◌⊎◌, ⊎_elim, inl, inr, ℕ, ◌≤◌, Bool, true, false, List, [], ◌∷◌, ◌++◌, length, Option, Some, None, refl, sym, ap, ◌∙◌, subst}
+use Rattle.std.proofs.{Common.{arith}, lemmas.Bool.Decides.{nat_tests}}
 use mathlib.Core.Bool.{false≢true}
-use Rattle.std.proofs.lemmas.Bool.Decides.{nat_tests}
-use Rattle.lz_slot.specs.declared.command.Command.{Command}
-use Rattle.lz_slot.specs.declared.command.Command.TheVariants.{Add, Remove, Has}
-use Rattle.lz_slot.specs.declared.history.Mark.{Mark}
-use Rattle.lz_slot.specs.declared.history.Mark.TheVariants.{Answer, Refused, Cut}
-use Rattle.lz_slot.specs.declared.history.Refusal.{Refusal}
-use Rattle.lz_slot.specs.declared.history.Refusal.TheVariants.{Full as refused_full, Worn as refused_worn, OldFile as refused_old_file}
-use Rattle.lz_slot.specs.declared.history.Cut.{Cut as CutWhy}
-use Rattle.lz_slot.specs.declared.history.Cut.TheVariants.{Halted as cut_halted, Device as cut_device}
-use Rattle.lz_slot.specs.Sets.{key_of, reply, moved}
+use Rattle.lz_slot.specs.declared.{command.Command.{Command, TheVariants.{Add, Remove, Has}}, history.Mark.{Mark, TheVariants.{Answer, Refused, Cut}}}
+use Rattle.lz_slot.specs.declared.history.Refusal.{Refusal, TheVariants.{Full as refused_full, Worn as refused_worn, OldFile as refused_old_file}}
+use Rattle.lz_slot.specs.{declared.history.Cut.{Cut as CutWhy, TheVariants.{Halted as cut_halted, Device as cut_device}}, Sets.{key_of, reply, moved}}
 use Rattle.lz_slot.specs.Histories.{History}
 use Rattle.lz_list.specs.Traces.{Trace, Begins, SettledYes, SettledNo}
-use Rattle.lz_machine.specs.declared.event.Reply.{Reply}
-use Rattle.lz_machine.specs.declared.event.Reply.TheVariants.{Yes, No, Full, Worn as SaysWorn, OldFile as SaysOldFile, Halted, Device}
-use Rattle.lz_machine.specs.declared.caller.Progress.TheVariants.{Answering}
-use Rattle.lz_machine.specs.Runs.{Caller, caller_at, mark_of}
-use Rattle.lz_machine.specs.Ledgers.{Row, HasRow, times}
-use Rattle.lz_machine.specs.Kept.{upto, IsRowOf}
-use Rattle.lz_machine.specs.Entries.{IsRowIn, IsSettledEntry}
-use Rattle.lz_machine.specs.Notes.{Notes, pending_row, entries}
-use Rattle.lz_machine.specs.Yards.{IsInside, pin_in}
-use Rattle.lz_machine.specs.CallersSound.{RestsYes, RestsNo, IsSettledChange, MayAnswer, is_before_pin}
-use Rattle.lz_machine.specs.LedgerSound.{LedgerSound, may_have_tail}
-use Rattle.lz_machine.specs.Sound.{IsAfter}
-use Rattle.lz_machine.proofs.Ledger.Fit.{each_has}
-use Rattle.lz_machine.proofs.Ledger.Order.{has_left}
-use Rattle.lz_machine.proofs.Frames.Limbo.{shorter}
-use Rattle.lz_machine.proofs.Steps.Hop.{call_at}
-use Rattle.lz_machine.proofs.Ledger.Parts.{ending, ends_now}
-use Rattle.lz_machine.proofs.Ledger.End.{EndsCall, IsLast, ledger_quiet, ledger_moved, pend_listed}
+use Rattle.lz_machine.specs.declared.event.Reply.{Reply, TheVariants.{Yes, No, Full, Worn as SaysWorn, OldFile as SaysOldFile, Halted, Device}}
+use Rattle.lz_machine.specs.{declared.caller.Progress.TheVariants.{Answering}, Runs.{Caller, caller_at, mark_of}, Ledgers.{Row, HasRow, times}}
+use Rattle.lz_machine.specs.{Kept.{upto, IsRowOf}, Entries.{IsRowIn, IsSettledEntry}, Notes.{Notes, pending_row, entries}, Yards.{IsInside, pin_in}}
+use Rattle.lz_machine.specs.{CallersSound.{RestsYes, RestsNo, IsSettledChange, MayAnswer, is_before_pin}, LedgerSound.{LedgerSound, may_have_tail}}
+use Rattle.lz_machine.{specs.Sound.{IsAfter}, proofs.Ledger.{Fit.{each_has}, Order.{has_left}, Parts.{ending, ends_now}}}
+use Rattle.lz_machine.proofs.{Ledger.End.{EndsCall, IsLast, ledger_quiet, ledger_moved, pend_listed}, Frames.Limbo.{shorter}, Steps.Hop.{call_at}}
 
 -- the beginning of that length
 pub upto_is : (R P : Trace) → Begins R P → upto (length R) P ≡ R

@@ -1,18 +1,11 @@
 -- The nodes with which a life begins: the slots that an open found with a key, each on its key's chain, and all others loose.
 use Rattle.std.proofs.Common.{◌≡◌, ◌≢◌, ℕ, zero, suc, ◌<◌, ◌≤◌, true, false, ◌||◌, List, [], ◌∷◌, ◌++◌, refl, sym, ap, ◌∙◌, subst, inl, inr, arith}
+use Rattle.std.proofs.lemmas.{Bool.{cases_Bool, cases_eq, Decides.{nat_tests, eqb_tells}}, List.{append-nil}}
 use mathlib.Core.Bool.{false≢true}
-use Rattle.std.proofs.lemmas.Bool.{cases_Bool, cases_eq}
-use Rattle.std.proofs.lemmas.List.{append-nil}
-use Rattle.std.proofs.lemmas.Bool.Decides.{nat_tests, eqb_tells}
-use Rattle.lz_slot.specs.declared.slot.SlotRead.{SlotRead}
-use Rattle.lz_slot.specs.declared.slot.SlotRead.TheVariants.{Closed, Torn, Member, BadKey}
-use Rattle.lz_slot.specs.Bytes.{slot_at, held, held_key}
-use Rattle.lz_slot.specs.Nodes.{has_node}
+use Rattle.lz_slot.specs.{declared.slot.SlotRead.{SlotRead, TheVariants.{Closed, Torn, Member, BadKey}}, Bytes.{slot_at, held, held_key}, Nodes.{has_node}}
 use Rattle.lz_vault.specs.Stages.{IsReadShut}
 use Rattle.lz_list.specs.Traces.{Chain, has_key, has_slot, on, chain, chain_of, bucket_of, key_word, linking, is_marked, is_removed, opening, IsFound, IsLoose}
-use Rattle.lz_list.proofs.Traces.NodeBits.{on_insert_other}
-use Rattle.lz_list.proofs.Traces.WalkEnd.{on_insert}
-use Rattle.lz_list.proofs.Changes.NodeLink.{inserted_on}
+use Rattle.lz_list.proofs.{Traces.{NodeBits.{on_insert_other}, WalkEnd.{on_insert}}, Changes.NodeLink.{inserted_on}}
 use Rattle.lz_list.proofs.Chains.ChainNode.{node_slot, has_key_append, has_slot_append, has_node_append}
 
 -- the trace of what was found

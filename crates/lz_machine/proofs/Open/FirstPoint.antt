@@ -1,17 +1,10 @@
 -- The first open, and each later one, begins a sound life: at a point.
-use Rattle.std.proofs.Common.{◌≡◌, ℕ, ◌≤◌, List, [], ◌∷◌, length, refl, ◌∙◌, arith}
-use Rattle.std.specs.Cmp.{both_ways}
-use Rattle.lz_slot.specs.Bytes.{Holds}
-use Rattle.lz_slot.specs.Sets.{Keys, Same, members, after}
-use Rattle.lz_slot.specs.Histories.{History, Life, Runs, Fits, lives}
+use Rattle.std.{proofs.Common.{◌≡◌, ℕ, ◌≤◌, List, [], ◌∷◌, length, refl, ◌∙◌, arith}, specs.Cmp.{both_ways}}
+use Rattle.lz_slot.specs.{Bytes.{Holds}, Sets.{Keys, Same, members, after}, Histories.{History, Life, Runs, Fits, lives}}
 use Rattle.lz_disk.specs.Images.{Medium, IsImage, AreBytes}
 use Rattle.lz_list.specs.Traces.{Trace}
-use Rattle.lz_machine.specs.Yards.{Shape, first_trace}
-use Rattle.lz_machine.specs.Runs.{Start, IsStart, start_keys, first_point, Down, Opens, MayStep, point_after, keys_found}
-use Rattle.lz_machine.specs.Sound.{PointSound, IsSound}
-use Rattle.lz_machine.proofs.Runs.PointParts.{point}
-use Rattle.lz_machine.proofs.Open.FoundSlots.{first_notes}
-use Rattle.lz_machine.proofs.Open.FirstState.{opened_up}
+use Rattle.lz_machine.specs.{Yards.{Shape, first_trace}, Runs.{Start, IsStart, start_keys, first_point, Down, Opens, MayStep, point_after, keys_found}}
+use Rattle.lz_machine.{specs.Sound.{PointSound, IsSound}, proofs.{Runs.PointParts.{point}, Open.{FoundSlots.{first_notes}, FirstState.{opened_up}}}}
 
 -- the first open
 pub first_sound : (start : Start) → IsStart start → AreBytes start.text → IsSound start (first_point start)

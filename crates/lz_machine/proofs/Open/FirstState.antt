@@ -1,43 +1,27 @@
 -- An open begins a sound life: its yard, its disk and its trace show the keys that it found, and nothing is under way.
-use Rattle.std.proofs.Common.{◌≡◌, inl, inr, ⊎_elim, ℕ, zero, suc, ◌+◌, ◌*◌, ◌<◌, ◌≤◌, Bool, true, false, List, [], ◌∷◌, length, get_or, take, map, replicate, Option, Some, None, refl, sym, ap, ◌∙◌, subst, arith}
-use mathlib.Core.Bool.{false≢true}
-use Rattle.std.specs.Prelude.{slice_get}
-use Rattle.std.proofs.lemmas.Bool.{cases_Bool, cases_lt}
-use Rattle.std.proofs.lemmas.List.{length-replicate, length-append, length-map, get_or-map, get_or_append_left, get_or_push}
-use Rattle.std.proofs.lemmas.List.Edits.{length-between}
-use Rattle.std.proofs.lemmas.Option.{slice_get_within, get_or_from_slice_get, none-some}
-use Rattle.std.specs.Cmp.{both_ways}
-use Rattle.lz_slot.specs.Rooms.{largest_of}
-use Rattle.lz_slot.specs.Sets.{Keys}
-use Rattle.lz_slot.specs.Bytes.{Holds, format_of, open_byte, header_body, slot_bytes, slot_at, held}
-use Rattle.lz_slot.specs.declared.slot.SlotRead.{SlotRead}
 use Rattle.lz_slot.specs.declared.slot.SlotRead.TheVariants as read
-use Rattle.lz_disk.specs.Images.{AreBytes, IsImage, at_rest}
-use Rattle.lz_disk.proofs.Writes.{synced_image, synced_sound}
-use Rattle.lz_vault.specs.declared.vault.Stage.TheVariants.{Closed, Open, Closing}
-use Rattle.lz_vault.specs.Stages.{Cell, Says, Reads, Suits, Keeps, IsFree, IsReadShut}
+use Rattle.std.proofs.Common.{◌≡◌, inl, inr, ⊎_elim, ℕ, zero, suc, ◌+◌, ◌*◌, ◌<◌, ◌≤◌, Bool, true, false, List, [], ◌∷◌, length, get_or, take, map, replicate}
+use Rattle.std.proofs.{Common.{Option, Some, None, refl, sym, ap, ◌∙◌, subst, arith}, lemmas.Bool.{cases_Bool, cases_lt}}
+use Rattle.std.proofs.lemmas.List.{length-replicate, length-append, length-map, get_or-map, get_or_append_left, get_or_push, Edits.{length-between}}
+use Rattle.std.{proofs.lemmas.Option.{slice_get_within, get_or_from_slice_get, none-some}, specs.{Prelude.{slice_get}, Cmp.{both_ways}}}
+use mathlib.Core.Bool.{false≢true}
+use Rattle.lz_slot.specs.{Rooms.{largest_of}, Sets.{Keys}, Bytes.{Holds, format_of, open_byte, header_body, slot_bytes, slot_at, held}}
+use Rattle.lz_slot.specs.declared.slot.SlotRead.{SlotRead}
+use Rattle.lz_disk.{specs.Images.{AreBytes, IsImage, at_rest}, proofs.Writes.{synced_image, synced_sound}}
+use Rattle.lz_vault.specs.{declared.vault.Stage.TheVariants.{Closed, Open, Closing}, Stages.{Cell, Says, Reads, Suits, Keeps, IsFree, IsReadShut}}
+use Rattle.lz_vault.specs.Members.{no_cell}
 use Rattle.lz_allot.specs.Uses.{Use, Taken, use_of}
 use Rattle.lz_list.specs.Traces.{Trace, Chain, has_key, on, chain_of, key_word, member, linking, is_settled, IsFound, IsLoose, opening, halt_word}
-use Rattle.lz_list.proofs.Traces.OpeningTrace.{opening_lawful, opening_members, opening_settled}
+use Rattle.lz_list.proofs.{Traces.OpeningTrace.{opening_lawful, opening_members, opening_settled}, Chains.ChainNode.{node_has_key}}
 use Rattle.lz_machine.specs.declared.actor.Actor.{Actor}
-use Rattle.lz_vault.specs.Members.{no_cell}
 use Rattle.lz_machine.specs.Yards.{Shape, idle_actor, cell_read, use_read, slots_read, first_trace, opened_yard, actor_in, cell_in, stage_in, pin_in, IsInside}
-use Rattle.lz_machine.specs.Runs.{Caller, caller_at, opened_service}
-use Rattle.lz_machine.specs.Ledgers.{Row, Each}
-use Rattle.lz_machine.specs.Kept.{upto}
-use Rattle.lz_machine.specs.Entries.{IsLedger, IsSettledEntry}
-use Rattle.lz_machine.specs.Notes.{Notes, pending, entries}
-use Rattle.lz_machine.specs.SlotsSound.{IsGateWritten, SlotStands, is_node, is_free, SlotsSound}
-use Rattle.lz_machine.specs.LocksSound.{LocksSound}
-use Rattle.lz_machine.specs.CallersSound.{view_of, IsCaller, CallersSound}
-use Rattle.lz_machine.specs.LedgerSound.{LedgerSound, TailsSound}
-use Rattle.lz_machine.specs.Sound.{TraceSound, DiskSound, ReuseSound, HasBegun, UpSound}
-use Rattle.lz_machine.proofs.Ledger.Membership.{upto_all}
-use Rattle.lz_machine.proofs.Frames.Ranges.{on_range, opening_small}
-use Rattle.lz_list.proofs.Chains.ChainNode.{node_has_key}
-use Rattle.lz_machine.proofs.Open.FirstNodes.{off_chains, node_key, node_on, none_marked, none_removed, never_linked, slot_closed, node_held, key_held, held_found}
-use Rattle.lz_machine.proofs.Steps.Invoke.{pending_none}
-use Rattle.lz_machine.proofs.Open.FoundSlots.{first_notes, no_limbo_read, no_opening_read, pass_of, read_cases, read_key, read_reads, read_says, shut_free, shut_use, slot_fits}
+use Rattle.lz_machine.specs.{Runs.{Caller, caller_at, opened_service}, Ledgers.{Row, Each}, Kept.{upto}, Entries.{IsLedger, IsSettledEntry}}
+use Rattle.lz_machine.specs.{Notes.{Notes, pending, entries}, SlotsSound.{IsGateWritten, SlotStands, is_node, is_free, SlotsSound}, LocksSound.{LocksSound}}
+use Rattle.lz_machine.specs.{CallersSound.{view_of, IsCaller, CallersSound}, LedgerSound.{LedgerSound, TailsSound}}
+use Rattle.lz_machine.{specs.Sound.{TraceSound, DiskSound, ReuseSound, HasBegun, UpSound}, proofs.Ledger.Membership.{upto_all}}
+use Rattle.lz_machine.proofs.{Frames.Ranges.{on_range, opening_small}, Open.FirstNodes.{off_chains, node_key, node_on, none_marked, none_removed, never_linked}}
+use Rattle.lz_machine.proofs.Open.{FirstNodes.{slot_closed, node_held, key_held, held_found}, FoundSlots.{first_notes, no_limbo_read, no_opening_read, pass_of}}
+use Rattle.lz_machine.proofs.{Open.FoundSlots.{read_cases, read_key, read_reads, read_says, shut_free, shut_use, slot_fits}, Steps.Invoke.{pending_none}}
 
 module _ (t : List ℕ) where
   length-read : (n : ℕ) → length (slots_read t n) ≡ n

@@ -1,24 +1,15 @@
 -- What an open reads of a slot, and the cell that it makes of it.
-use Rattle.std.proofs.Common.{◌≡◌, ◌≢◌, ◌⊎◌, inl, inr, ⊎_elim, ℕ, zero, suc, ◌+◌, ◌*◌, ◌-◌, ◌≤◌, List, [], ◌∷◌, length, map, get_or, drop, replicate, None, refl, sym, ap, subst, arith}
-use Rattle.std.proofs.lemmas.Bool.{cases_lt}
-use Rattle.std.proofs.lemmas.Bool.Decides.{nat_tests}
-use Rattle.std.proofs.lemmas.List.{length-replicate, get_or-replicate, get_or-drop, get_or_past}
-use Rattle.lz_slot.specs.Rooms.{largest_of}
-use Rattle.lz_slot.specs.declared.format.Format.{Format}
-use Rattle.lz_slot.specs.declared.format.Format.TheVariants.{Four}
-use Rattle.lz_slot.specs.Counted.{of_pass}
-use Rattle.lz_slot.specs.Bytes.{slot_bytes, gated_read, slot_read}
-use Rattle.lz_slot.specs.declared.slot.SlotRead.{SlotRead}
 use Rattle.lz_slot.specs.declared.slot.SlotRead.TheVariants as read
-use Rattle.lz_slot.proofs.Files.ExactBytes.{read_fits, slot_is_of_its_key, zero_fits, closed_says, fits_taken}
-use Rattle.lz_slot.proofs.Whole.{torn_is_shut, closed_is_zeros}
+use Rattle.std.proofs.Common.{◌≡◌, ◌≢◌, ◌⊎◌, inl, inr, ⊎_elim, ℕ, zero, suc, ◌+◌, ◌*◌, ◌-◌, ◌≤◌, List, [], ◌∷◌, length, map, get_or, drop, replicate, None}
+use Rattle.std.proofs.{Common.{refl, sym, ap, subst, arith}, lemmas.Bool.{cases_lt, Decides.{nat_tests}}}
+use Rattle.std.proofs.lemmas.List.{length-replicate, get_or-replicate, get_or-drop, get_or_past}
+use Rattle.lz_slot.specs.{Rooms.{largest_of}, declared.{format.Format.{Format, TheVariants.{Four}}, slot.SlotRead.{SlotRead}}, Counted.{of_pass}}
+use Rattle.lz_slot.specs.Bytes.{slot_bytes, gated_read, slot_read}
+use Rattle.lz_slot.proofs.{Files.ExactBytes.{read_fits, slot_is_of_its_key, zero_fits, closed_says, fits_taken}, Whole.{torn_is_shut, closed_is_zeros}}
 use Rattle.lz_disk.specs.Images.{AreBytes}
-use Rattle.lz_vault.specs.declared.vault.Stage.TheVariants.{Opening}
-use Rattle.lz_vault.specs.Stages.{Says, Reads, IsFree, IsReadShut}
-use Rattle.lz_allot.specs.declared.sight.Sight.{Sight}
-use Rattle.lz_allot.specs.Uses.{Free, Limbo, use_of}
-use Rattle.lz_machine.specs.Yards.{Shape, cell_read, use_read, first_trace, stage_in}
-use Rattle.lz_machine.specs.Notes.{Notes}
+use Rattle.lz_vault.specs.{declared.vault.Stage.TheVariants.{Opening}, Stages.{Says, Reads, IsFree, IsReadShut}}
+use Rattle.lz_allot.specs.{declared.sight.Sight.{Sight}, Uses.{Free, Limbo, use_of}}
+use Rattle.lz_machine.specs.{Yards.{Shape, cell_read, use_read, first_trace, stage_in}, Notes.{Notes}}
 
 -- what is kept beside the first state of a life
 abbrev pub first_notes : Shape → List ℕ → Notes

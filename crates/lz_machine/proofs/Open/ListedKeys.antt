@@ -1,14 +1,9 @@
 -- The keys that are listed of a text which holds a set.
 use Rattle.std.proofs.Common.{◌≡◌, ◌≢◌, ◌≤◌, ◌<◌, ◌+◌, ◌*◌, ℕ, Bool, ◌==◌, ◌||◌, List, [], ◌∷◌, length, map, take, refl, sym, ap, ◌∙◌}
-use Rattle.lz_slot.specs.declared.slot.SlotRead.TheVariants.{Member, BadKey}
-use Rattle.lz_slot.specs.Limits.{most_slots_of}
-use Rattle.lz_slot.specs.Sets.{Keys, members}
+use Rattle.lz_slot.specs.{declared.slot.SlotRead.TheVariants.{Member, BadKey}, Limits.{most_slots_of}, Sets.{Keys, members}}
 use Rattle.lz_slot.specs.Bytes.{Holds, open_byte, format_of, header_body, slot_at, held}
-use Rattle.lz_list.specs.Traces.{Chain, has_key}
-use Rattle.lz_list.proofs.Traces.Absence.{has_insert}
-use Rattle.lz_machine.specs.Runs.{by_key, keys_found}
-use Rattle.lz_list.proofs.Chains.ChainNode.{node_has_key}
-use Rattle.lz_machine.proofs.Open.FirstNodes.{node_held, key_held}
+use Rattle.lz_list.{specs.Traces.{Chain, has_key}, proofs.{Traces.Absence.{has_insert}, Chains.ChainNode.{node_has_key}}}
+use Rattle.lz_machine.{specs.Runs.{by_key, keys_found}, proofs.Open.FirstNodes.{node_held, key_held}}
 
 -- the keys of a chain are the first parts of its nodes
 pub any_key : (k : ℕ) (c : Chain) → members (map (λ (f : ℕ × ℕ). f.0) c) k ≡ has_key k c

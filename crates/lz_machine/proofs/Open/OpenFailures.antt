@@ -1,8 +1,6 @@
 -- A text that holds a set has no fault.
 use Rattle.std.proofs.Common.{◌≡◌, inl, inr, ℕ, ◌<◌, List, ◌∷◌, length, take, Ok, Err, refl, ap, ◌∙◌, arith}
-use Rattle.lz_slot.specs.Bytes.{Holds, header_read, format_of, header_body, open_byte}
-use Rattle.lz_slot.specs.Sets.{Keys}
-use Rattle.lz_slot.specs.declared.header.HeaderFault.{HeaderFault}
+use Rattle.lz_slot.specs.{Bytes.{Holds, header_read, format_of, header_body, open_byte}, Sets.{Keys}, declared.header.HeaderFault.{HeaderFault}}
 use Rattle.lz_slot.proofs.Files.ExactBytes.{header_reads_back}
 use Rattle.lz_vault.specs.declared.opening.OpenFault.TheVariants.{BadKey, Twice, Device, Memory}
 use Rattle.lz_machine.specs.OpenFailures.{HeldIsOpened}

@@ -1,24 +1,14 @@
 -- A text of these slots: what a device that keeps to nothing may have told, where an open found them.
-use Rattle.std.specs.Int.{byte_at, bytes_high_first}
-use Rattle.std.proofs.Common.{◌≡◌, ℕ, zero, suc, ◌+◌, ◌*◌, ◌-◌, ◌<◌, ◌≤◌, List, [], ◌∷◌, ◌++◌, length, take, get_or, refl, sym, ap, ◌∙◌, subst, arith, length-append}
-use Rattle.std.specs.Prelude.{Some, replicate, slice_get}
+use Rattle.std.{specs.{Int.{byte_at, bytes_high_first}, Prelude.{Some, replicate, slice_get}}, proofs.Common.{◌≡◌, ℕ, zero, suc, ◌+◌, ◌*◌, ◌-◌, ◌<◌, ◌≤◌, List}}
+use Rattle.std.proofs.Common.{[], ◌∷◌, ◌++◌, length, take, get_or, refl, sym, ap, ◌∙◌, subst, arith, length-append}
 use Rattle.std.proofs.lemmas.List.{get_or_append_left, get_or-append_right, get_or-replicate, get_or_past, length-replicate}
-use Rattle.std.proofs.lemmas.Bool.{cases_lt}
-use Rattle.lz_disk.specs.Images.{AreBytes}
-use Rattle.std.proofs.lemmas.List.Edits.{length-between, get_or-between}
-use Rattle.std.proofs.lemmas.Option.{slice_get_within, get_or_from_slice_get}
+use Rattle.std.proofs.lemmas.{List.Edits.{length-between, get_or-between}, Bool.{cases_lt}, Option.{slice_get_within, get_or_from_slice_get}}
 use Rattle.std.proofs.lemmas.Grind.{same_number_lists}
-use Rattle.lz_slot.specs.Limits.{largest_key}
-use Rattle.lz_slot.specs.Rooms.{largest_of, number_of}
-use Rattle.lz_slot.specs.declared.format.Format.{Format}
-use Rattle.lz_slot.specs.declared.format.Format.TheVariants.{One, Four}
+use Rattle.lz_disk.specs.Images.{AreBytes}
+use Rattle.lz_slot.specs.{Limits.{largest_key}, Rooms.{largest_of, number_of}, declared.format.Format.{Format, TheVariants.{One, Four}}}
 use Rattle.lz_slot.specs.Bytes.{open_byte, magic, format_byte, format_of, header_body, member_bytes, slot_body, slot_bytes, slot_read, slot_at}
-use Rattle.lz_slot.specs.Whole.{spelled}
-use Rattle.lz_slot.proofs.Files.ExactBytes.{key_of_format, slot_reads_back}
-use Rattle.lz_vault.specs.declared.vault.Stage.{Stage}
-use Rattle.lz_vault.specs.declared.vault.Stage.TheVariants.{Closed, Torn, Open}
-use Rattle.lz_vault.specs.Stages.{Cell, IsSteady, AreSteady}
-use Rattle.lz_vault.specs.Opens.{IsCellOf, AreTornIn}
+use Rattle.lz_slot.{specs.Whole.{spelled}, proofs.Files.ExactBytes.{key_of_format, slot_reads_back}}
+use Rattle.lz_vault.specs.{declared.vault.Stage.{Stage, TheVariants.{Closed, Torn, Open}}, Stages.{Cell, IsSteady, AreSteady}, Opens.{IsCellOf, AreTornIn}}
 use Rattle.lz_vault.specs.Members.{no_cell}
 
 abbrev slot_text : Format → Cell → List ℕ

@@ -1,18 +1,9 @@
 -- The next event of a call is its actor's next event.
 use Rattle.std.proofs.Common.{◌≡◌, ℕ, zero, suc, false, slice_index_or, List, [], ◌∷◌, Some, refl, subst, arith}
 use Rattle.lz_slot.specs.declared.command.Command.{Command}
-use Rattle.lz_machine.specs.declared.event.Event.{Event}
-use Rattle.lz_machine.specs.declared.event.Event.TheVariants.{Check}
-use Rattle.lz_machine.specs.declared.caller.Sequence.{Sequence}
-use Rattle.lz_machine.specs.declared.caller.Progress.{Progress}
-use Rattle.lz_machine.specs.declared.caller.Progress.TheVariants.{Playing}
-use Rattle.lz_machine.specs.Yards.{Shape}
-use Rattle.lz_machine.specs.Calls.{event_at, events_of}
-use Rattle.lz_machine.specs.Runs.{IsNext, Caller, Service, caller_at, next_event, run, first_point}
-use Rattle.lz_machine.specs.NextEvents.{NextIsKnown}
-use Rattle.lz_machine.proofs.Frames.OneActor.{caller_range}
-use Rattle.lz_machine.proofs.Theorem.Reached.{reached_sound, up_at}
-use Rattle.lz_machine.proofs.Theorem.Readiness.{is_invoke}
+use Rattle.lz_machine.specs.declared.{event.Event.{Event, TheVariants.{Check}}, caller.{Sequence.{Sequence}, Progress.{Progress, TheVariants.{Playing}}}}
+use Rattle.lz_machine.specs.{Yards.{Shape}, Calls.{event_at, events_of}, Runs.{IsNext, Caller, Service, caller_at, next_event, run, first_point}}
+use Rattle.lz_machine.{specs.NextEvents.{NextIsKnown}, proofs.{Frames.OneActor.{caller_range}, Theorem.{Reached.{reached_sound, up_at}, Readiness.{is_invoke}}}}
 use Rattle.lz_machine.proofs.Theorem.Timeliness.{is_event_there, may_take_there}
 
 -- the caller whose next event this is

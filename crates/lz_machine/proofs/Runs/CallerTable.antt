@@ -4,15 +4,9 @@ use mathlib.Core.Bool.{false≢true}
 use Rattle.lz_slot.specs.declared.command.Command.{Command}
 use Rattle.lz_disk.specs.Images.{Medium}
 use Rattle.lz_vault.specs.Vaults.{MayFail}
-use Rattle.lz_machine.specs.declared.course.Course.{Course}
-use Rattle.lz_machine.specs.declared.course.Course.TheVariants.{Plays}
-use Rattle.lz_machine.specs.declared.event.Event.TheVariants.{Answer}
-use Rattle.lz_machine.specs.declared.caller.Progress.{Progress}
-use Rattle.lz_machine.specs.declared.caller.Progress.TheVariants.{Answering}
-use Rattle.lz_machine.specs.Yards.{Yard, actor_at}
-use Rattle.lz_machine.specs.Calls.{event_at, loaded}
-use Rattle.lz_machine.specs.Table.{course, call_on, line_call}
-use Rattle.lz_machine.specs.Runs.{Caller, reply_at}
+use Rattle.lz_machine.specs.declared.{course.Course.{Course, TheVariants.{Plays}}, event.Event.TheVariants.{Answer}, caller.Progress.{Progress}}
+use Rattle.lz_machine.specs.{declared.caller.Progress.TheVariants.{Answering}, Yards.{Yard, actor_at}, Calls.{event_at, loaded}}
+use Rattle.lz_machine.specs.{Table.{course, call_on, line_call}, Runs.{Caller, reply_at}}
 
 -- a place without a call is empty
 pub none_of : (caller : Option Caller) → is_some caller ≡ false → caller ≡ None

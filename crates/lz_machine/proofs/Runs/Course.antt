@@ -1,15 +1,9 @@
 -- What becomes of an event, by whether the vault is dead and what the event needs.
-use Rattle.std.proofs.Common.{◌≡◌, ◌≢◌, ◌⊎◌, ℕ, Bool, true, false, not, ◌&&◌, refl, sym, ap, ◌∙◌, arith}
+use Rattle.std.{proofs.Common.{◌≡◌, ◌≢◌, ◌⊎◌, ℕ, Bool, true, false, not, ◌&&◌, refl, sym, ap, ◌∙◌, arith}, specs.Prelude.{if◌then◌else◌}}
 use mathlib.Core.Bool.{false≢true}
-use Rattle.std.specs.Prelude.{if◌then◌else◌}
 use Rattle.lz_slot.specs.declared.command.Command.{Command}
-use Rattle.lz_machine.specs.declared.event.Event.{Event}
-use Rattle.lz_machine.specs.declared.event.Event.TheVariants.{Invoke, Pin, Sync, Answer}
-use Rattle.lz_machine.specs.declared.event.Outcome.{Outcome}
-use Rattle.lz_machine.specs.declared.event.Outcome.TheVariants.{Dead, NotNow, Worn}
-use Rattle.lz_machine.specs.declared.course.Course.{Course}
-use Rattle.lz_machine.specs.declared.course.Course.TheVariants.{Refused, Dies, Plays}
-use Rattle.lz_machine.specs.Yards.{Yard}
+use Rattle.lz_machine.specs.declared.event.{Event.{Event, TheVariants.{Invoke, Pin, Sync, Answer}}, Outcome.{Outcome, TheVariants.{Dead, NotNow, Worn}}}
+use Rattle.lz_machine.specs.{declared.course.Course.{Course, TheVariants.{Refused, Dies, Plays}}, Yards.{Yard}}
 use Rattle.lz_machine.specs.Table.{needs, pin_of, last_pin, is_played_dead, course, course_alive}
 
 -- the course of an event that a dead vault refuses, of one whose needs don't hold, and of any other

@@ -1,10 +1,7 @@
 -- What plays no part in the order of events.
 use Rattle.std.proofs.Common.{◌≡◌, ℕ, refl}
 use Rattle.lz_slot.specs.declared.command.Command.{Command}
-use Rattle.lz_machine.specs.declared.event.Outcome.{Outcome}
-use Rattle.lz_machine.specs.declared.caller.Progress.{Progress}
-use Rattle.lz_machine.specs.declared.caller.Progress.TheVariants.{Playing, LoadsHalt}
-use Rattle.lz_machine.specs.Yards.{Shape}
+use Rattle.lz_machine.specs.{declared.{event.Outcome.{Outcome}, caller.Progress.{Progress, TheVariants.{Playing, LoadsHalt}}}, Yards.{Shape}}
 use Rattle.lz_machine.specs.Calls.{event_at, progress_after}
 
 -- how many slots a yard has plays no part in the order of events

@@ -1,43 +1,17 @@
 -- The next event of a caller is an event of its yard: its slots, words and passes are the yard's.
 use Rattle.std.proofs.Common.{◌≡◌, ℕ, zero, suc, ◌<◌, Bool, true, false, List, length, Option, Some, None, refl, sym, subst, arith}
-use Rattle.lz_slot.specs.declared.command.Command.{Command}
-use Rattle.lz_slot.specs.declared.command.Command.TheVariants.{Add, Remove, Has}
-use Rattle.lz_slot.specs.Sets.{key_of}
-use Rattle.lz_slot.specs.Histories.{History}
+use Rattle.lz_slot.specs.{declared.command.Command.{Command, TheVariants.{Add, Remove, Has}}, Sets.{key_of}, Histories.{History}}
 use Rattle.lz_disk.specs.Images.{Medium}
-use Rattle.lz_list.specs.declared.place.Place.{Place}
-use Rattle.lz_list.specs.declared.place.Place.TheVariants.{Bucket, Node}
-use Rattle.lz_list.specs.declared.walk.Look.{Look}
-use Rattle.lz_list.specs.declared.walk.Look.TheVariants.{AtHead, AtKey, AtMet, AtBelow}
-use Rattle.lz_list.specs.Words.{Words, place_number, link_to}
-use Rattle.lz_list.specs.Walks.{wants}
-use Rattle.lz_list.specs.Lists.{IsWord, IsPlace}
-use Rattle.lz_list.specs.Traces.{Trace, bucket_of}
-use Rattle.lz_list.specs.Pinned.{Stood}
+use Rattle.lz_list.specs.declared.{place.Place.{Place, TheVariants.{Bucket, Node}}, walk.Look.{Look, TheVariants.{AtHead, AtKey, AtMet, AtBelow}}}
+use Rattle.lz_list.specs.{Words.{Words, place_number, link_to}, Walks.{wants}, Lists.{IsWord, IsPlace}, Traces.{Trace, bucket_of}, Pinned.{Stood}}
 use Rattle.lz_list.proofs.Traces.Hindsight.{lawful_begins}
-use Rattle.lz_machine.specs.declared.actor.Hold.TheVariants.{Marked}
-use Rattle.lz_machine.specs.declared.event.Event.{Event}
-use Rattle.lz_machine.specs.declared.event.Event.TheVariants.{Invoke}
-use Rattle.lz_machine.specs.declared.event.Reply.{Reply}
-use Rattle.lz_machine.specs.declared.event.Reply.TheVariants.{Yes, No}
-use Rattle.lz_machine.specs.declared.caller.Sequence.{Sequence}
-use Rattle.lz_machine.specs.declared.caller.Sequence.TheVariants.{Pinning, Resting, Writing, Adding, Removing, Releasing, Halting}
-use Rattle.lz_machine.specs.declared.caller.Progress.{Progress}
-use Rattle.lz_machine.specs.declared.caller.Progress.TheVariants.{Playing, Walking, SeeingPins, Claiming}
-use Rattle.lz_machine.specs.Yards.{Yard, actor_in}
-use Rattle.lz_machine.specs.Calls.{event_at, loaded}
-use Rattle.lz_machine.specs.Runs.{Caller, with_words, next_event, MayPlay}
-use Rattle.lz_machine.specs.Stands.{InBucket, WasBetween}
-use Rattle.lz_machine.specs.Notes.{Notes}
-use Rattle.lz_machine.specs.CallersSound.{View, view_of, HasMet, MayRest, IsLooking, Relies}
-use Rattle.lz_machine.specs.Sound.{Sound}
-use Rattle.lz_machine.specs.Ready.{IsEventOf}
-use Rattle.lz_machine.proofs.Frames.OneActor.{mine}
-use Rattle.lz_machine.proofs.Frames.Ranges.{on_range, stood_range, few_slots}
-use Rattle.lz_machine.proofs.Frames.OtherCallers.{held_node}
-use Rattle.lz_machine.proofs.Frames.LoadedWord.{bucket_range}
-use Rattle.lz_machine.proofs.Steps.Claim.{ended_between, pred_was, node_was}
-use Rattle.lz_machine.proofs.Theorem.ShownChains.{heads_are, links_are, keys_are, is_curr}
+use Rattle.lz_machine.specs.declared.{actor.Hold.TheVariants.{Marked}, event.{Event.{Event, TheVariants.{Invoke}}, Reply.{Reply, TheVariants.{Yes, No}}}}
+use Rattle.lz_machine.specs.declared.caller.Sequence.{Sequence, TheVariants.{Pinning, Resting, Writing, Adding, Removing, Releasing, Halting}}
+use Rattle.lz_machine.specs.{declared.caller.Progress.{Progress, TheVariants.{Playing, Walking, SeeingPins, Claiming}}, Yards.{Yard, actor_in}}
+use Rattle.lz_machine.specs.{Calls.{event_at, loaded}, Runs.{Caller, with_words, next_event, MayPlay}, Stands.{InBucket, WasBetween}, Notes.{Notes}}
+use Rattle.lz_machine.specs.{CallersSound.{View, view_of, HasMet, MayRest, IsLooking, Relies}, Sound.{Sound}, Ready.{IsEventOf}}
+use Rattle.lz_machine.proofs.Frames.{OneActor.{mine}, Ranges.{on_range, stood_range, few_slots}, OtherCallers.{held_node}, LoadedWord.{bucket_range}}
+use Rattle.lz_machine.proofs.{Steps.Claim.{ended_between, pred_was, node_was}, Theorem.ShownChains.{heads_are, links_are, keys_are, is_curr}}
 use Rattle.lz_machine.proofs.Theorem.Readiness.{is_invoke, last, next_of, same_yard, sound_there}
 
 module _ (n calls : ℕ) (y : Yard) (callers : List (Option Caller)) (disk : Medium) (M : History) (P : Trace) (notes : Notes) (sound : Sound n calls y callers disk M P notes)

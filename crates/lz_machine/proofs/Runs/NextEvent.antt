@@ -1,35 +1,18 @@
 -- What becomes of a caller's next event, and how the service after it is sound where its yard, its callers and the disk are.
 use Rattle.std.proofs.Common.{◌≡◌, ◌≢◌, inl, inr, ℕ, ◌≤◌, length, not, ◌&&◌, true, false, List, [], ◌++◌, Option, Some, None, refl, sym, ap, ◌∙◌, subst}
 use Rattle.std.proofs.lemmas.Bool.{cases_Bool}
-use Rattle.lz_slot.specs.declared.command.Command.{Command}
-use Rattle.lz_slot.specs.Sets.{Keys}
-use Rattle.lz_slot.specs.Counted.{set_of_pass}
-use Rattle.lz_slot.specs.Histories.{History}
+use Rattle.lz_slot.specs.{declared.command.Command.{Command}, Sets.{Keys}, Counted.{set_of_pass}, Histories.{History}}
 use Rattle.lz_disk.specs.Images.{Medium}
 use Rattle.lz_vault.specs.Vaults.{died, medium_after}
 use Rattle.lz_list.specs.Traces.{Trace}
-use Rattle.lz_machine.specs.declared.event.Event.{Event}
-use Rattle.lz_machine.specs.declared.event.Event.TheVariants.{Sync}
-use Rattle.lz_machine.specs.declared.event.Outcome.{Outcome}
-use Rattle.lz_machine.specs.declared.event.Outcome.TheVariants.{NotNow, Dead}
-use Rattle.lz_machine.specs.declared.event.Reply.{Reply}
-use Rattle.lz_machine.specs.declared.caller.Progress.{Progress}
-use Rattle.lz_machine.specs.declared.course.Course.{Course}
-use Rattle.lz_machine.specs.declared.course.Course.TheVariants.{Refused, Dies, Plays}
-use Rattle.lz_machine.specs.Yards.{Yard, actor_at, IsInside, pin_in}
-use Rattle.lz_machine.specs.Table.{is_played_dead, is_sure, is_spent, call_of, words_after, publishes, outcome_of, with_vault, yard_done, course_alive, course, line_on, line, call_on, published_on, pin_of}
-use Rattle.lz_machine.specs.Calls.{progress_after}
-use Rattle.lz_machine.specs.Runs.{Caller, caller_at, reply_at, moved_on, played}
-use Rattle.lz_machine.specs.Notes.{Notes, entries}
-use Rattle.lz_machine.specs.CallersSound.{is_before_pin}
-use Rattle.lz_machine.specs.Sound.{Sound, IsAfter, UpSound}
-use Rattle.lz_machine.proofs.Frames.OneActor.{moving, same_entries}
-use Rattle.lz_machine.proofs.Steps.Hop.{call_at, dead_keeps}
-use Rattle.lz_machine.proofs.Steps.Death.{dies_keeps}
-use Rattle.lz_machine.proofs.Frames.PinNotes.{IsNoted, noted_same}
-use Rattle.lz_machine.proofs.Frames.ChangeNotes.{IsTold, is_change, told_same, told_quiet}
-use Rattle.lz_machine.proofs.Frames.PinOrder.{turn_after, adds_none, begun_grown}
-use Rattle.lz_machine.proofs.Runs.Course.{course_by}
+use Rattle.lz_machine.specs.declared.event.{Event.{Event, TheVariants.{Sync}}, Outcome.{Outcome, TheVariants.{NotNow, Dead}}, Reply.{Reply}}
+use Rattle.lz_machine.specs.declared.{caller.Progress.{Progress}, course.Course.{Course, TheVariants.{Refused, Dies, Plays}}}
+use Rattle.lz_machine.specs.{Yards.{Yard, actor_at, IsInside, pin_in}, Table.{is_played_dead, is_sure, is_spent, call_of, words_after, publishes, outcome_of}}
+use Rattle.lz_machine.specs.{Table.{with_vault, yard_done, course_alive, course, line_on, line, call_on, published_on, pin_of}, Calls.{progress_after}}
+use Rattle.lz_machine.specs.{Runs.{Caller, caller_at, reply_at, moved_on, played}, Notes.{Notes, entries}, CallersSound.{is_before_pin}}
+use Rattle.lz_machine.{specs.Sound.{Sound, IsAfter, UpSound}, proofs.Frames.{OneActor.{moving, same_entries}, PinNotes.{IsNoted, noted_same}}}
+use Rattle.lz_machine.proofs.Frames.{ChangeNotes.{IsTold, is_change, told_same, told_quiet}, PinOrder.{turn_after, adds_none, begun_grown}}
+use Rattle.lz_machine.proofs.{Steps.{Hop.{call_at, dead_keeps}, Death.{dies_keeps}}, Runs.Course.{course_by}}
 use mathlib.Core.Bool.{false≢true}
 
 -- the service after an event that took this course is sound, with some notes, by which a pass that went in has the trace of then,

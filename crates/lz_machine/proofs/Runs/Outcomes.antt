@@ -1,11 +1,7 @@
 -- What events answer.
 use Rattle.std.proofs.Common.{◌≡◌, ◌≢◌, Bool, true, false, refl, sym, ap, ◌∙◌, arith}
 use mathlib.Core.Bool.{false≢true}
-use Rattle.lz_machine.specs.declared.event.Event.{Event}
-use Rattle.lz_machine.specs.declared.event.Outcome.{Outcome}
-use Rattle.lz_machine.specs.declared.event.Outcome.TheVariants.{Worn, NotNow, Fault, Dead}
-use Rattle.lz_machine.specs.declared.actor.Actor.{Actor}
-use Rattle.lz_machine.specs.Yards.{Yard}
+use Rattle.lz_machine.specs.{declared.{event.{Event.{Event}, Outcome.{Outcome, TheVariants.{Worn, NotNow, Fault, Dead}}}, actor.Actor.{Actor}}, Yards.{Yard}}
 use Rattle.lz_machine.specs.Table.{outcome_of}
 
 -- an event that was done isn't refused, and its device call didn't fail

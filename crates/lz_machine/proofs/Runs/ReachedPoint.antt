@@ -1,7 +1,6 @@
 -- Points that a run reaches.
 use Rattle.std.proofs.Common.{◌≡◌, ◌∷◌, ap, sym, subst, arith}
-use Rattle.lz_machine.specs.Points.{IsReached}
-use Rattle.lz_machine.specs.Runs.{Start, State, Transition, MayStep, shape_of, Point, point_after, first_point, Reached}
+use Rattle.lz_machine.specs.{Points.{IsReached}, Runs.{Start, State, Transition, MayStep, shape_of, Point, point_after, first_point, Reached}}
 use Rattle.lz_machine.proofs.Runs.Shape.{run_keeps_shape}
 
 -- a point that is reached leads to another by a step that may be taken

@@ -1,13 +1,8 @@
 -- No step changes the shape of the table.
-use Rattle.std.proofs.Common.{◌≡◌, ℕ, suc, true, false, List, [], ◌∷◌, refl, ◌∙◌}
-use Rattle.std.specs.Prelude.{Option, Some, None}
-use Rattle.lz_machine.specs.declared.event.Event.{Event}
-use Rattle.lz_machine.specs.declared.actor.Actor.{Actor}
-use Rattle.lz_machine.specs.declared.course.Course.{Course}
-use Rattle.lz_machine.specs.declared.course.Course.TheVariants.{Refused}
-use Rattle.lz_machine.specs.Yards.{Yard, actor_at}
-use Rattle.lz_machine.specs.Table.{line_on, course}
-use Rattle.lz_machine.specs.Runs.{State, Up, Down, Transition, Turn, Fails, OpenFails, Service, Caller, Point, run, state_after, shape_of, caller_at, after_turn, after_fault, next_event}
+use Rattle.std.{proofs.Common.{◌≡◌, ℕ, suc, true, false, List, [], ◌∷◌, refl, ◌∙◌}, specs.Prelude.{Option, Some, None}}
+use Rattle.lz_machine.specs.{declared.{event.Event.{Event}, actor.Actor.{Actor}, course.Course.{Course, TheVariants.{Refused}}}, Yards.{Yard, actor_at}}
+use Rattle.lz_machine.specs.{Table.{line_on, course}, Runs.{State, Up, Down, Transition, Turn, Fails, OpenFails, Service, Caller, Point, run, state_after}}
+use Rattle.lz_machine.specs.Runs.{shape_of, caller_at, after_turn, after_fault, next_event}
 use Rattle.lz_disk.specs.Images.{Medium}
 
 pub line_keeps_shape : (c : Course) (y : Yard) (actor : Actor) (a : ℕ) (e : Event) → (line_on c y actor a e).0.shape ≡ y.shape

@@ -1,20 +1,16 @@
 -- Two states that differ in how far one actor's call has come, and their steps.
-use Rattle.std.proofs.Common.{◌≡◌, ◌≢◌, ℕ, zero, suc, ◌==◌, false, List, ◌++◌, length, get_or, set, Option, Some, None, refl, sym, ap, ◌∙◌, subst, arith, get_or-set_other, get_or-set_same, length-set}
-use mathlib.Core.Bool.{false≢true}
+use Rattle.std.proofs.Common.{◌≡◌, ◌≢◌, ℕ, zero, suc, ◌==◌, false, List, ◌++◌, length, get_or, set, Option, Some, None, refl, sym, ap, ◌∙◌, subst, arith}
+use Rattle.std.proofs.{Common.{get_or-set_other, get_or-set_same, length-set}, lemmas.{Bool.{cases_eq, cases_lt, eq-eqb}, List.{get_or_past}}}
 use Rattle.std.specs.Prelude.{IsNone}
-use Rattle.std.proofs.lemmas.Bool.{cases_eq, cases_lt, eq-eqb}
-use Rattle.std.proofs.lemmas.List.{get_or_past}
-use Rattle.lz_slot.specs.Counted.{set_of_pass}
-use Rattle.lz_slot.proofs.Counted.{length-set_of_pass}
+use mathlib.Core.Bool.{false≢true}
+use Rattle.lz_slot.{specs.Counted.{set_of_pass}, proofs.Counted.{length-set_of_pass}}
 use Rattle.lz_disk.specs.Images.{Medium, at_rest}
 use Rattle.lz_vault.specs.Vaults.{medium_after}
 use Rattle.lz_list.specs.Traces.{Trace}
-use Rattle.lz_machine.specs.declared.event.Outcome.{Outcome}
-use Rattle.lz_machine.specs.Yards.{Yard}
-use Rattle.lz_machine.specs.Table.{line, line_failed, line_call}
-use Rattle.lz_machine.specs.Calls.{begun, progress_after}
-use Rattle.lz_machine.specs.Runs.{invoked, Caller, Service, State, Up, Down, Transition, Calls, Turn, Fails, Looks, Trips, Stops, Crashes, CrashesIn, Opens, OpenFails, caller_at, next_event, reply_at, moved_on, after_turn, after_fault, looked, state_after, HasTurn, HasFault, LeftInside, MayStep, marks_of_turn, marks_of, turn_publishes, trace_after}
-use Rattle.lz_machine.specs.Laws.{is_of, outcome_of_turn, outcome_at}
+use Rattle.lz_machine.specs.{declared.event.Outcome.{Outcome}, Yards.{Yard}, Table.{line, line_failed, line_call}, Calls.{begun, progress_after}}
+use Rattle.lz_machine.specs.Runs.{invoked, Caller, Service, State, Up, Down, Transition, Calls, Turn, Fails, Looks, Trips, Stops, Crashes, CrashesIn, Opens}
+use Rattle.lz_machine.specs.Runs.{OpenFails, caller_at, next_event, reply_at, moved_on, after_turn, after_fault, looked, state_after, HasTurn, HasFault}
+use Rattle.lz_machine.specs.{Runs.{LeftInside, MayStep, marks_of_turn, marks_of, turn_publishes, trace_after}, Laws.{is_of, outcome_of_turn, outcome_at}}
 
 set_alike : {X : Type 0} (xs ys : List X) (i j : ℕ) (x d : X) → length xs ≡ length ys → get_or xs j d ≡ get_or ys j d → get_or (set xs i x) j d ≡ get_or (set ys i x) j d
 set_alike xs ys i j x d count same = grind (arith, get_or-set_same, get_or_past, length-set, cases_lt, get_or-set_other, cases_eq)

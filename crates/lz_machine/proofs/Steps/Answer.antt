@@ -1,55 +1,27 @@
 -- An answer keeps the invariant: the pass is outside then, a slot that wasn't used is given back, and the call ends with its row.
-use Rattle.std.proofs.Common.{◌≡◌, ◌≢◌, ◌⊎◌, ⊎_elim, inl, inr, ℕ, ◌≤◌, ◌+◌, ◌%◌, not, ◌||◌, if◌then◌else◌, Bool, true, false, List, ◌∷◌, length, Option, Some, None, refl, sym, ap, ◌∙◌, subst, arith}
+use Rattle.std.proofs.Common.{◌≡◌, ◌≢◌, ◌⊎◌, ⊎_elim, inl, inr, ℕ, ◌≤◌, ◌+◌, ◌%◌, not, ◌||◌, if◌then◌else◌, Bool, true, false, List, ◌∷◌, length, Option, Some}
+use Rattle.std.proofs.{Common.{None, refl, sym, ap, ◌∙◌, subst, arith}, lemmas.Bool.{cases_Bool, Decides.{nat_tests}}}
 use mathlib.Core.Bool.{false≢true}
-use Rattle.std.proofs.lemmas.Bool.{cases_Bool}
-use Rattle.std.proofs.lemmas.Bool.Decides.{nat_tests}
-use Rattle.lz_slot.specs.declared.command.Command.{Command}
-use Rattle.lz_slot.specs.declared.command.Command.TheVariants.{Add, Remove}
-use Rattle.lz_slot.specs.declared.history.Mark.{Mark}
-use Rattle.lz_slot.specs.Sets.{Keys}
-use Rattle.lz_slot.specs.Counted.{set_of_pass}
-use Rattle.lz_slot.specs.Histories.{History}
-use Rattle.lz_slot.proofs.Counted.{of_pass_same, of_pass_other, length-set_of_pass}
+use Rattle.lz_slot.specs.{declared.{command.Command.{Command, TheVariants.{Add, Remove}}, history.Mark.{Mark}}, Sets.{Keys}, Counted.{set_of_pass}}
+use Rattle.lz_slot.{specs.Histories.{History}, proofs.Counted.{of_pass_same, of_pass_other, length-set_of_pass}}
 use Rattle.lz_disk.specs.Images.{Medium}
 use Rattle.lz_vault.specs.Vaults.{medium_after}
 use Rattle.lz_allot.specs.Uses.{Use, see_pin, give_back, is_outside}
-use Rattle.lz_list.specs.Words.{Words}
-use Rattle.lz_list.specs.Traces.{Trace, halt_word}
-use Rattle.lz_machine.specs.declared.event.Event.TheVariants.{Answer}
-use Rattle.lz_machine.specs.declared.event.Outcome.TheVariants.{Done, NotNow}
-use Rattle.lz_machine.specs.declared.event.Reply.{Reply}
-use Rattle.lz_machine.specs.declared.event.Reply.TheVariants.{Worn as SaysWorn, OldFile as SaysOldFile}
-use Rattle.lz_machine.specs.declared.actor.Actor.{Actor}
-use Rattle.lz_machine.specs.declared.actor.Hold.TheVariants.{Nothing}
-use Rattle.lz_machine.specs.declared.course.Course.{Course}
-use Rattle.lz_machine.specs.declared.caller.Progress.TheVariants.{Answering}
+use Rattle.lz_list.specs.{Words.{Words}, Traces.{Trace, halt_word}}
+use Rattle.lz_machine.specs.declared.event.{Event.TheVariants.{Answer}, Outcome.TheVariants.{Done, NotNow}, Reply.{Reply}}
+use Rattle.lz_machine.specs.declared.{event.Reply.TheVariants.{Worn as SaysWorn, OldFile as SaysOldFile}, actor.{Actor.{Actor}, Hold.TheVariants.{Nothing}}}
+use Rattle.lz_machine.specs.declared.{course.Course.{Course}, caller.Progress.TheVariants.{Answering}}
 use Rattle.lz_machine.specs.Yards.{Yard, actor_at, idle_actor, IsInside, actor_in, pin_in, stage_in}
 use Rattle.lz_machine.specs.Table.{last_pin, stays_out, pin_of, needs, course, line, line_on, call_on, yard_done, with_slot, kept_slot, given_back, is_unused}
-use Rattle.lz_machine.specs.Runs.{Caller, caller_at, mark_of, played}
-use Rattle.lz_machine.specs.LocksSound.{HasLock, RestsOn, LocksSound}
-use Rattle.lz_machine.specs.Notes.{Notes, entries}
+use Rattle.lz_machine.specs.{Runs.{Caller, caller_at, mark_of, played}, LocksSound.{HasLock, RestsOn, LocksSound}, Notes.{Notes, entries}}
 use Rattle.lz_machine.specs.CallersSound.{view_of, is_before_pin, side_of, IsEmptyHanded, MayAnswer, Relies, CallerSound, CallersSound}
-use Rattle.lz_machine.specs.SlotsSound.{opens, SlotsSound}
-use Rattle.lz_machine.specs.LedgerSound.{TailsSound}
-use Rattle.lz_machine.specs.Sound.{TraceSound, ReuseSound, IsAfter, Sound, UpSound}
-use Rattle.lz_machine.proofs.Runs.Course.{answer_plays}
-use Rattle.lz_machine.proofs.Frames.ActorTable.{by_actor}
-use Rattle.lz_machine.proofs.Frames.OneActor.{caller_range, carry}
-use Rattle.lz_machine.proofs.Frames.Outside.{out_even, side_even}
-use Rattle.lz_machine.proofs.Frames.Grip.{keeps_itself}
-use Rattle.lz_machine.proofs.Frames.KeptSlots.{slots_turn, slots_uses}
-use Rattle.lz_machine.proofs.Frames.NodeLocks.{held_locks}
-use Rattle.lz_machine.proofs.Frames.Hand.{reuse_turn}
-use Rattle.lz_machine.proofs.Steps.Hop.{call_at, own}
-use Rattle.lz_machine.proofs.Steps.Pin.{pinned, trace_pinned, left_reuse}
-use Rattle.lz_machine.proofs.Frames.Uses.{seen_keeps, seen_reuse}
-use Rattle.lz_machine.proofs.Ledger.Parts.{ending, ends_now, none_now, changed_still, gone, stays_open}
-use Rattle.lz_machine.proofs.Ledger.End.{after_ended, tail_ended}
-use Rattle.lz_machine.proofs.Ledger.Reply.{EndsSo, ends}
+use Rattle.lz_machine.specs.{SlotsSound.{opens, SlotsSound}, LedgerSound.{TailsSound}, Sound.{TraceSound, ReuseSound, IsAfter, Sound, UpSound}}
+use Rattle.lz_machine.proofs.{Runs.Course.{answer_plays}, Frames.{ActorTable.{by_actor}, OneActor.{caller_range, carry}, Outside.{out_even, side_even}}}
+use Rattle.lz_machine.proofs.Frames.{Grip.{keeps_itself}, KeptSlots.{slots_turn, slots_uses}, NodeLocks.{held_locks}, Hand.{reuse_turn}}
+use Rattle.lz_machine.proofs.Frames.{Uses.{seen_keeps, seen_reuse}, PinNotes.{IsNoted, noted_same, noted_out}, ChangeNotes.{IsTold, told_ended, told_out}}
+use Rattle.lz_machine.proofs.{Frames.PinOrder.{since_out}, Steps.{Hop.{call_at, own}, Pin.{pinned, trace_pinned, left_reuse}}}
 use Rattle.lz_machine.proofs.Steps.ReturnedSlot.{closed_unused, given_slots, given_locks, given_reuse, given_none, given_hold, held_then, hand_b}
-use Rattle.lz_machine.proofs.Frames.PinNotes.{IsNoted, noted_same, noted_out}
-use Rattle.lz_machine.proofs.Frames.ChangeNotes.{IsTold, told_ended, told_out}
-use Rattle.lz_machine.proofs.Frames.PinOrder.{since_out}
+use Rattle.lz_machine.proofs.Ledger.{Parts.{ending, ends_now, none_now, changed_still, gone, stays_open}, End.{after_ended, tail_ended}, Reply.{EndsSo, ends}}
 
 module _ (n calls : ℕ) (y : Yard) (callers : List (Option Caller)) (disk : Medium) (M : History) (P : Trace) (notes : Notes) (sound : Sound n calls y callers disk M P notes) (after : IsAfter y.words.pins callers (entries y.shape.passes callers notes) M notes.begun)
     (a i : ℕ) (c : Command) (says : Reply) (is : caller_at callers a ≡ Some (call_at i c (Answering says))) (le : a ≤ y.shape.passes) (how : EndsSo n calls y.shape.passes callers P M notes a i le sound.ledger y.words.pins after c says is) where

@@ -1,52 +1,23 @@
 -- Check keeps the invariant: its three tests tell of the trace.
 use Rattle.std.proofs.Common.{◌≡◌, inl, inr, ℕ, suc, ◌≤◌, ◌&&◌, not, Bool, true, false, List, Option, Some, None, refl, sym, ap, ◌∙◌, subst, arith}
+use Rattle.std.proofs.lemmas.{Bool.Decides.{nat_tests}, Option.{same_Some}}
 use mathlib.Core.Bool.{false≢true}
-use Rattle.std.proofs.lemmas.Bool.Decides.{nat_tests}
-use Rattle.std.proofs.lemmas.Option.{same_Some}
-use Rattle.lz_slot.specs.Limits.{most_slots}
-use Rattle.lz_slot.specs.declared.command.Command.{Command}
-use Rattle.lz_slot.specs.declared.command.Command.TheVariants.{Add, Remove}
-use Rattle.lz_slot.specs.Sets.{key_of}
-use Rattle.lz_slot.specs.Counted.{set_of_pass}
+use Rattle.lz_slot.specs.{Limits.{most_slots}, declared.command.Command.{Command, TheVariants.{Add, Remove}}, Sets.{key_of}, Counted.{set_of_pass}}
 use Rattle.lz_slot.specs.Histories.{History}
 use Rattle.lz_disk.specs.Images.{Medium}
-use Rattle.lz_list.specs.declared.place.Place.{Place}
-use Rattle.lz_list.specs.declared.place.Place.TheVariants.{Bucket, Node}
-use Rattle.lz_list.specs.Words.{Words, place_number, link_to, next_at, is_marked_at}
-use Rattle.lz_list.specs.Traces.{Trace, on, chain, bucket_of, key_word, is_marked}
-use Rattle.lz_list.specs.Pinned.{Stood, IsQuiet}
-use Rattle.lz_list.specs.Laws.{IsHigh}
-use Rattle.lz_list.proofs.Chains.PlaceRank.{on_start}
-use Rattle.lz_list.proofs.Traces.Hindsight.{stood_bucket}
-use Rattle.lz_list.proofs.Traces.WalkEnd.{left_surely}
-use Rattle.lz_list.specs.Locks.{check, is_marked_node}
-use Rattle.lz_machine.specs.declared.event.Event.TheVariants.{Check}
-use Rattle.lz_machine.specs.declared.actor.Actor.{Actor}
-use Rattle.lz_machine.specs.declared.actor.Hold.{Hold}
-use Rattle.lz_machine.specs.declared.actor.Hold.TheVariants.{Locks, Checked}
-use Rattle.lz_machine.specs.declared.caller.Sequence.TheVariants.{Releasing}
-use Rattle.lz_machine.specs.declared.caller.Progress.{Progress}
-use Rattle.lz_machine.specs.declared.caller.Progress.TheVariants.{Playing, Checking}
-use Rattle.lz_machine.specs.Yards.{Yard, Shape, actor_at, pin_in}
-use Rattle.lz_machine.specs.Table.{with_hold, yard_done, outcome_of}
-use Rattle.lz_machine.specs.Calls.{progress_after, changes}
-use Rattle.lz_machine.specs.Runs.{Caller, caller_at}
-use Rattle.lz_machine.specs.Stands.{Faces, WasBetween, InBucket}
-use Rattle.lz_machine.specs.Notes.{Notes}
+use Rattle.lz_list.specs.{declared.place.Place.{Place, TheVariants.{Bucket, Node}}, Words.{Words, place_number, link_to, next_at, is_marked_at}}
+use Rattle.lz_list.specs.{Traces.{Trace, on, chain, bucket_of, key_word, is_marked}, Pinned.{Stood, IsQuiet}, Laws.{IsHigh}, Locks.{check, is_marked_node}}
+use Rattle.lz_list.proofs.{Chains.PlaceRank.{on_start}, Traces.{Hindsight.{stood_bucket}, WalkEnd.{left_surely}}}
+use Rattle.lz_machine.specs.declared.{event.Event.TheVariants.{Check}, actor.{Actor.{Actor}, Hold.{Hold, TheVariants.{Locks, Checked}}}}
+use Rattle.lz_machine.specs.declared.caller.{Sequence.TheVariants.{Releasing}, Progress.{Progress, TheVariants.{Playing, Checking}}}
+use Rattle.lz_machine.specs.{Yards.{Yard, Shape, actor_at, pin_in}, Table.{with_hold, yard_done, outcome_of}, Calls.{progress_after, changes}}
+use Rattle.lz_machine.specs.{Runs.{Caller, caller_at}, Stands.{Faces, WasBetween, InBucket}, Notes.{Notes}}
 use Rattle.lz_machine.specs.SlotsSound.{closes, opens, shuts, unlocks, has_removed_node}
 use Rattle.lz_machine.specs.LocksSound.{HasLock, has_locks, RestsOn, IsBeside, IsRightBefore, IsChecked}
-use Rattle.lz_machine.specs.CallersSound.{IsBeyond, HasEnded, MayAim, IsAimed, IsWritten, View, CallerSound}
-use Rattle.lz_machine.specs.Sound.{TraceSound, Sound}
-use Rattle.lz_machine.proofs.Frames.OneActor.{moving}
-use Rattle.lz_machine.proofs.Frames.Grip.{fresh_grip}
-use Rattle.lz_machine.proofs.Frames.NodeLocks.{held_locks}
-use Rattle.lz_machine.proofs.Frames.Ranges.{stood_range, few_slots}
-use Rattle.lz_machine.proofs.Frames.LoadedWord.{bucket_range, head_next, link_next, link_mark}
-use Rattle.lz_machine.proofs.Steps.Walk.{GoesOn}
-use Rattle.lz_machine.proofs.Steps.Hop.{call_at, own, own_inside}
-use Rattle.lz_machine.proofs.Frames.Hand.{in_hands, same_hand, other_hand, hands_keep}
-use Rattle.lz_machine.proofs.Steps.Claim.{pred_was, node_was, aimed_same}
-use Rattle.lz_machine.proofs.Frames.Outside.{inside_side}
+use Rattle.lz_machine.specs.{CallersSound.{IsBeyond, HasEnded, MayAim, IsAimed, IsWritten, View, CallerSound}, Sound.{TraceSound, Sound}}
+use Rattle.lz_machine.proofs.Frames.{OneActor.{moving}, Grip.{fresh_grip}, NodeLocks.{held_locks}, Ranges.{stood_range, few_slots}}
+use Rattle.lz_machine.proofs.Frames.{LoadedWord.{bucket_range, head_next, link_next, link_mark}, Hand.{in_hands, same_hand, other_hand, hands_keep}}
+use Rattle.lz_machine.proofs.{Frames.Outside.{inside_side}, Steps.{Walk.{GoesOn}, Hop.{call_at, own, own_inside}, Claim.{pred_was, node_was, aimed_same}}}
 
 -- a place that leads along one bucket's chain does so along that of another key of the bucket
 pub faces_bucket : (buckets k j x n : ℕ) (P : Trace) → bucket_of buckets j ≡ bucket_of buckets k → Faces buckets k x n P → Faces buckets j x n P

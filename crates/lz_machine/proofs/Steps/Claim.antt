@@ -1,43 +1,18 @@
 -- A claim keeps the invariant.
 use Rattle.std.proofs.Common.{◌≡◌, ℕ, suc, Bool, true, false, List, Option, Some, None, refl, sym, ap, ◌∙◌, subst, arith}
-use Rattle.lz_slot.specs.declared.format.Format.{Format}
-use Rattle.lz_slot.specs.declared.command.Command.{Command}
-use Rattle.lz_slot.specs.declared.command.Command.TheVariants.{Add, Remove}
-use Rattle.lz_slot.specs.Sets.{key_of}
-use Rattle.lz_slot.specs.Counted.{set_of_pass}
+use Rattle.lz_slot.specs.{declared.{format.Format.{Format}, command.Command.{Command, TheVariants.{Add, Remove}}}, Sets.{key_of}, Counted.{set_of_pass}}
 use Rattle.lz_slot.specs.Histories.{History}
 use Rattle.lz_disk.specs.Images.{Medium}
 use Rattle.lz_vault.specs.Stages.{Cell}
-use Rattle.lz_list.specs.declared.place.Place.{Place}
-use Rattle.lz_list.specs.declared.place.Place.TheVariants.{Bucket, Node}
-use Rattle.lz_list.specs.Words.{place_number, link_to}
-use Rattle.lz_list.specs.Traces.{Trace, Adjacent, on, chain_of, bucket_of}
-use Rattle.lz_list.specs.Pinned.{Stood}
-use Rattle.lz_machine.specs.declared.event.Event.TheVariants.{Claim}
-use Rattle.lz_machine.specs.declared.actor.Actor.{Actor}
-use Rattle.lz_machine.specs.declared.actor.Hold.TheVariants.{Locks}
-use Rattle.lz_machine.specs.declared.caller.Progress.{Progress}
-use Rattle.lz_machine.specs.declared.caller.Progress.TheVariants.{Claiming, Checking}
-use Rattle.lz_machine.specs.Yards.{Yard, actor_at}
-use Rattle.lz_machine.specs.Table.{yard_done, outcome_of}
-use Rattle.lz_machine.specs.Calls.{progress_after}
-use Rattle.lz_machine.specs.Runs.{Caller, caller_at}
-use Rattle.lz_machine.specs.Stands.{WasBetween, InBucket}
-use Rattle.lz_machine.specs.Notes.{Notes}
-use Rattle.lz_machine.specs.SlotsSound.{closes, opens, has_removed_node}
-use Rattle.lz_machine.specs.LocksSound.{HasLock, RestsOn}
-use Rattle.lz_machine.specs.CallersSound.{HasEnded, IsAimed}
-use Rattle.lz_machine.specs.Sound.{Sound}
-use Rattle.lz_machine.proofs.Frames.OneActor.{moving}
-use Rattle.lz_machine.proofs.Frames.Grip.{fresh_grip}
-use Rattle.lz_machine.proofs.Frames.NodeLocks.{IsPlaceIn, claimed_locks}
-use Rattle.lz_machine.proofs.Frames.Ranges.{stood_range, few_slots}
-use Rattle.lz_machine.proofs.Frames.LoadedWord.{bucket_range}
-use Rattle.lz_list.proofs.Chains.PlaceRank.{adjacent_on}
-use Rattle.lz_list.proofs.Traces.Hindsight.{once_weaker, next_stood}
-use Rattle.lz_list.specs.Locks.{is_pair_free, pair_owned}
-use Rattle.lz_machine.proofs.Steps.Hop.{call_at, own, goes_on_keeps}
-use Rattle.lz_machine.proofs.Frames.Hand.{in_hands, same_hand, other_hand, hands_keep}
+use Rattle.lz_list.specs.{declared.place.Place.{Place, TheVariants.{Bucket, Node}}, Words.{place_number, link_to}}
+use Rattle.lz_list.specs.{Traces.{Trace, Adjacent, on, chain_of, bucket_of}, Pinned.{Stood}, Locks.{is_pair_free, pair_owned}}
+use Rattle.lz_list.proofs.{Chains.PlaceRank.{adjacent_on}, Traces.Hindsight.{once_weaker, next_stood}}
+use Rattle.lz_machine.specs.declared.{event.Event.TheVariants.{Claim}, actor.{Actor.{Actor}, Hold.TheVariants.{Locks}}, caller.Progress.{Progress}}
+use Rattle.lz_machine.specs.{declared.caller.Progress.TheVariants.{Claiming, Checking}, Yards.{Yard, actor_at}, Table.{yard_done, outcome_of}}
+use Rattle.lz_machine.specs.{Calls.{progress_after}, Runs.{Caller, caller_at}, Stands.{WasBetween, InBucket}, Notes.{Notes}}
+use Rattle.lz_machine.specs.{SlotsSound.{closes, opens, has_removed_node}, LocksSound.{HasLock, RestsOn}, CallersSound.{HasEnded, IsAimed}, Sound.{Sound}}
+use Rattle.lz_machine.proofs.Frames.{OneActor.{moving}, Grip.{fresh_grip}, NodeLocks.{IsPlaceIn, claimed_locks}, Ranges.{stood_range, few_slots}}
+use Rattle.lz_machine.proofs.{Frames.{LoadedWord.{bucket_range}, Hand.{in_hands, same_hand, other_hand, hands_keep}}, Steps.Hop.{call_at, own, goes_on_keeps}}
 use mathlib.Core.Bool.{false≢true}
 
 -- where a walk has ended, the two places stood next to each other

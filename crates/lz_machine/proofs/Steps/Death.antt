@@ -1,24 +1,13 @@
 -- A turn in which the vault dies keeps the invariant: no sync is left, or a sync failed.
 use Rattle.std.proofs.Common.{◌≡◌, ℕ, false, List, Option, Some, refl}
-use Rattle.lz_slot.specs.declared.command.Command.{Command}
-use Rattle.lz_slot.specs.Histories.{History}
+use Rattle.lz_slot.specs.{declared.command.Command.{Command}, Histories.{History}}
 use Rattle.lz_disk.specs.Images.{Medium}
 use Rattle.lz_vault.specs.Vaults.{died}
 use Rattle.lz_list.specs.Traces.{Trace}
-use Rattle.lz_machine.specs.declared.event.Event.TheVariants.{Sync}
-use Rattle.lz_machine.specs.declared.event.Outcome.TheVariants.{Dead, Fault}
-use Rattle.lz_machine.specs.declared.event.Reply.TheVariants.{Device}
-use Rattle.lz_machine.specs.declared.caller.Progress.{Progress}
-use Rattle.lz_machine.specs.Yards.{Yard}
-use Rattle.lz_machine.specs.Table.{with_vault, is_sure, line_failed}
-use Rattle.lz_machine.specs.Calls.{progress_after, halts}
-use Rattle.lz_machine.specs.Runs.{Caller, caller_at}
-use Rattle.lz_machine.specs.Notes.{Notes}
-use Rattle.lz_machine.specs.CallersSound.{is_before_pin}
-use Rattle.lz_machine.specs.Sound.{Sound}
-use Rattle.lz_machine.proofs.Frames.OneActor.{moving}
-use Rattle.lz_machine.proofs.Steps.Hop.{call_at, goes_on_keeps, dead_keeps}
-use Rattle.lz_machine.proofs.Steps.Sync.{died_keeps}
+use Rattle.lz_machine.specs.declared.event.{Event.TheVariants.{Sync}, Outcome.TheVariants.{Dead, Fault}, Reply.TheVariants.{Device}}
+use Rattle.lz_machine.specs.{declared.caller.Progress.{Progress}, Yards.{Yard}, Table.{with_vault, is_sure, line_failed}, Calls.{progress_after, halts}}
+use Rattle.lz_machine.{specs.{Runs.{Caller, caller_at}, Notes.{Notes}, CallersSound.{is_before_pin}, Sound.{Sound}}, proofs.Frames.OneActor.{moving}}
+use Rattle.lz_machine.proofs.Steps.{Hop.{call_at, goes_on_keeps, dead_keeps}, Sync.{died_keeps}}
 
 module _ (n calls : ℕ) (y : Yard) (callers : List (Option Caller)) (disk : Medium) (M : History) (P : Trace) (notes : Notes) (a i : ℕ) (c : Command) (at : Progress) (is : caller_at callers a ≡ Some (call_at i c at)) (sound : Sound n calls y callers disk M P notes) (inside : is_before_pin at ≡ false) where
   -- no sync is left

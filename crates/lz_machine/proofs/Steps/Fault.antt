@@ -1,41 +1,20 @@
 -- A turn whose device call fails keeps the invariant of an open service.
 use Rattle.std.proofs.Common.{◌≡◌, inl, inr, ℕ, zero, suc, if◌then◌else◌, Bool, true, false, List, [], Option, Some, None, refl, sym, ap, subst}
-use Rattle.std.specs.Prelude.{unwrap_or, slice_set}
-use Rattle.std.proofs.lemmas.Bool.{cases_Bool}
-use Rattle.lz_slot.specs.declared.command.Command.{Command}
-use Rattle.lz_slot.specs.declared.command.Command.TheVariants.{Add, Remove, Has}
-use Rattle.lz_slot.specs.Sets.{Keys, key_of}
-use Rattle.lz_slot.specs.Histories.{History}
+use Rattle.std.{proofs.lemmas.Bool.{cases_Bool}, specs.Prelude.{unwrap_or, slice_set}}
+use Rattle.lz_slot.specs.{declared.command.Command.{Command, TheVariants.{Add, Remove, Has}}, Sets.{Keys, key_of}, Histories.{History}}
 use Rattle.lz_disk.specs.Images.{Medium}
-use Rattle.lz_vault.specs.declared.vault.Stage.TheVariants.{Opening, Closing}
-use Rattle.lz_vault.specs.Stages.{Cell, stage_put}
+use Rattle.lz_vault.specs.{declared.vault.Stage.TheVariants.{Opening, Closing}, Stages.{Cell, stage_put}}
 use Rattle.lz_vault.specs.Vaults.{DeviceCall, NoCall, SyncAll, MayFail, key_call, opening_call, closing_call}
 use Rattle.lz_list.specs.Traces.{Trace}
-use Rattle.lz_machine.specs.declared.event.Event.{Event}
-use Rattle.lz_machine.specs.declared.event.Event.TheVariants.{WriteKey, WriteOpen, WriteClose, Sync}
-use Rattle.lz_machine.specs.declared.event.Outcome.TheVariants.{Fault}
-use Rattle.lz_machine.specs.declared.event.Reply.TheVariants.{Device}
-use Rattle.lz_machine.specs.declared.course.Course.{Course}
-use Rattle.lz_machine.specs.declared.course.Course.TheVariants.{Plays}
-use Rattle.lz_machine.specs.declared.caller.Sequence.{Sequence}
-use Rattle.lz_machine.specs.declared.caller.Sequence.TheVariants.{Pinning, Resting, Writing, Adding, Removing, Releasing, Halting}
-use Rattle.lz_machine.specs.declared.caller.Progress.{Progress}
-use Rattle.lz_machine.specs.declared.caller.Progress.TheVariants.{Playing}
-use Rattle.lz_machine.specs.Yards.{Yard, actor_at, cell_in, stage_in}
-use Rattle.lz_machine.specs.Table.{slot_of, node_of, is_played_dead, is_sure, call_of, cells_after, call_on, course, line_call, line_failed, vault_failed, with_vault}
-use Rattle.lz_machine.specs.Calls.{halts}
-use Rattle.lz_machine.specs.Runs.{Caller, caller_at, next_event, reply_at, played}
-use Rattle.lz_machine.specs.Notes.{Notes}
-use Rattle.lz_machine.specs.CallersSound.{view_of, Relies, ReliesOn, is_before_pin}
-use Rattle.lz_machine.specs.Sound.{Sound, UpSound}
-use Rattle.lz_machine.proofs.Frames.OneActor.{moving}
-use Rattle.lz_machine.proofs.Frames.SlotWrite.{key_cells}
-use Rattle.lz_machine.proofs.Steps.Hop.{call_at, own}
-use Rattle.lz_machine.proofs.Steps.Death.{sync_fails_keeps}
-use Rattle.lz_machine.proofs.Steps.WriteClose.{write_close_fails_keeps}
-use Rattle.lz_machine.proofs.Steps.WriteKey.{write_key_fails_keeps}
-use Rattle.lz_machine.proofs.Frames.OpenedGate.{write_open_fails_keeps}
-use Rattle.lz_machine.proofs.Runs.Course.{plays_alive}
+use Rattle.lz_machine.specs.declared.event.{Event.{Event, TheVariants.{WriteKey, WriteOpen, WriteClose, Sync}}, Outcome.TheVariants.{Fault}}
+use Rattle.lz_machine.specs.declared.{event.Reply.TheVariants.{Device}, course.Course.{Course, TheVariants.{Plays}}, caller.Sequence.{Sequence}}
+use Rattle.lz_machine.specs.declared.caller.{Sequence.TheVariants.{Pinning, Resting, Writing, Adding, Removing, Releasing, Halting}, Progress.{Progress}}
+use Rattle.lz_machine.specs.{declared.caller.Progress.TheVariants.{Playing}, Yards.{Yard, actor_at, cell_in, stage_in}, Table.{slot_of, node_of}}
+use Rattle.lz_machine.specs.Table.{is_played_dead, is_sure, call_of, cells_after, call_on, course, line_call, line_failed, vault_failed, with_vault}
+use Rattle.lz_machine.specs.{Calls.{halts}, Runs.{Caller, caller_at, next_event, reply_at, played}, Notes.{Notes}}
+use Rattle.lz_machine.{specs.{CallersSound.{view_of, Relies, ReliesOn, is_before_pin}, Sound.{Sound, UpSound}}, proofs.Frames.OneActor.{moving}}
+use Rattle.lz_machine.proofs.{Frames.{SlotWrite.{key_cells}, OpenedGate.{write_open_fails_keeps}}, Steps.{Hop.{call_at, own}, Death.{sync_fails_keeps}}}
+use Rattle.lz_machine.proofs.{Steps.{WriteClose.{write_close_fails_keeps}, WriteKey.{write_key_fails_keeps}}, Runs.Course.{plays_alive}}
 use Rattle.lz_machine.proofs.Runs.NextEvent.{turned_same}
 
 -- an event whose device call may fail is played, and makes that call

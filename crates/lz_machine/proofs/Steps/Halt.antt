@@ -1,34 +1,15 @@
 -- Halt keeps the invariant.
 use Rattle.std.proofs.Common.{◌≡◌, ℕ, true, List, ◌∷◌, Option, Some, refl, arith}
-use Rattle.lz_slot.specs.declared.command.Command.{Command}
-use Rattle.lz_slot.specs.Histories.{History}
+use Rattle.lz_slot.specs.{declared.command.Command.{Command}, Histories.{History}}
 use Rattle.lz_disk.specs.Images.{Medium}
-use Rattle.lz_list.specs.declared.publishing.Publishing.TheVariants.{Halted as halted}
-use Rattle.lz_list.specs.Words.{Words}
-use Rattle.lz_list.specs.Traces.{Trace}
-use Rattle.lz_machine.specs.declared.event.Event.TheVariants.{Halt}
-use Rattle.lz_machine.specs.declared.event.Outcome.TheVariants.{Done}
-use Rattle.lz_machine.specs.declared.event.Reply.{Reply}
-use Rattle.lz_machine.specs.declared.event.Reply.TheVariants.{Halted, Device}
-use Rattle.lz_machine.specs.declared.caller.Sequence.TheVariants.{Halting}
-use Rattle.lz_machine.specs.declared.caller.Progress.TheVariants.{Playing, Answering}
-use Rattle.lz_machine.specs.Yards.{Yard, Shape, actor_at, actor_in}
-use Rattle.lz_machine.specs.Table.{yard_done}
-use Rattle.lz_machine.specs.Calls.{progress_after}
-use Rattle.lz_machine.specs.Runs.{Caller, caller_at}
-use Rattle.lz_machine.specs.Notes.{Notes}
-use Rattle.lz_machine.specs.CallersSound.{view_of, IsCut}
-use Rattle.lz_machine.specs.Sound.{TraceSound, Sound}
-use Rattle.lz_machine.specs.SlotsSound.{SlotsSound}
-use Rattle.lz_machine.proofs.Frames.ChainSlots.{reuse_published}
-use Rattle.lz_machine.proofs.Frames.OneActor.{moving}
-use Rattle.lz_machine.proofs.Frames.OtherCallers.{callers_stay}
-use Rattle.lz_machine.proofs.Frames.KeptSlots.{slots_published}
-use Rattle.lz_machine.proofs.Frames.HeldLocks.{halted_leaves, locks_published}
-use Rattle.lz_machine.proofs.Ledger.QuietPublishing.{ledger_published}
-use Rattle.lz_machine.proofs.Steps.Walk.{GoesOn}
+use Rattle.lz_list.specs.{declared.publishing.Publishing.TheVariants.{Halted as halted}, Words.{Words}, Traces.{Trace}}
+use Rattle.lz_machine.specs.declared.event.{Event.TheVariants.{Halt}, Outcome.TheVariants.{Done}, Reply.{Reply, TheVariants.{Halted, Device}}}
+use Rattle.lz_machine.specs.declared.caller.{Sequence.TheVariants.{Halting}, Progress.TheVariants.{Playing, Answering}}
+use Rattle.lz_machine.specs.{Yards.{Yard, Shape, actor_at, actor_in}, Table.{yard_done}, Calls.{progress_after}, Runs.{Caller, caller_at}, Notes.{Notes}}
+use Rattle.lz_machine.specs.{CallersSound.{view_of, IsCut}, Sound.{TraceSound, Sound}, SlotsSound.{SlotsSound}, LedgerSound.{may_have_tail}}
+use Rattle.lz_machine.proofs.Frames.{ChainSlots.{reuse_published}, OneActor.{moving}, OtherCallers.{callers_stay}, KeptSlots.{slots_published}}
+use Rattle.lz_machine.proofs.{Frames.HeldLocks.{halted_leaves, locks_published}, Ledger.QuietPublishing.{ledger_published}, Steps.Walk.{GoesOn}}
 use Rattle.lz_machine.proofs.Steps.Hop.{call_at, own, goes_on_keeps}
-use Rattle.lz_machine.specs.LedgerSound.{may_have_tail}
 
 pub trace_halted : (shape : Shape) (words : Words) (P : Trace) → TraceSound shape words P → TraceSound shape (record { heads = words.heads; links = words.links; keys = words.keys; pins = words.pins; halt = 1 }) (halted ∷ P)
 trace_halted shape words P h = record { lawful = (tt, h.lawful); some = h.some; small = h.small; heads = h.heads; links = h.links; keys = h.keys; halt = refl; pins = h.pins }

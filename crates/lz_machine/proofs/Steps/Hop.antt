@@ -1,33 +1,16 @@
 -- Loads, and events that a dead vault refuses, keep the invariant: nothing changes but how far the call has come.
-use Rattle.std.proofs.Common.{◌≡◌, ◌≢◌, inl, inr, ℕ, true, false, List, Option, Some, None, refl, sym, ap, ◌∙◌}
-use Rattle.std.proofs.lemmas.Bool.Decides.{eqb_tells}
-use Rattle.lz_slot.specs.declared.command.Command.{Command}
-use Rattle.lz_slot.specs.declared.command.Command.TheVariants.{Add}
-use Rattle.lz_slot.specs.Sets.{key_of}
-use Rattle.lz_slot.specs.Histories.{History}
+use Rattle.std.proofs.{Common.{◌≡◌, ◌≢◌, inl, inr, ℕ, true, false, List, Option, Some, None, refl, sym, ap, ◌∙◌}, lemmas.Bool.Decides.{eqb_tells}}
+use Rattle.lz_slot.specs.{declared.command.Command.{Command, TheVariants.{Add}}, Sets.{key_of}, Histories.{History}}
 use Rattle.lz_disk.specs.Images.{Medium}
-use Rattle.lz_list.specs.declared.word.Word.TheVariants.{Halt as halt_word_at}
-use Rattle.lz_list.specs.declared.walk.Look.{Look}
-use Rattle.lz_list.specs.declared.walk.Look.TheVariants.{AtHead}
-use Rattle.lz_list.specs.Words.{get}
-use Rattle.lz_list.specs.Walks.{wants}
+use Rattle.lz_list.specs.{declared.{word.Word.TheVariants.{Halt as halt_word_at}, walk.Look.{Look, TheVariants.{AtHead}}}, Words.{get}, Walks.{wants}}
 use Rattle.lz_list.specs.Traces.{Trace, halt_word}
-use Rattle.lz_machine.specs.declared.event.Outcome.TheVariants.{Value, Dead}
-use Rattle.lz_machine.specs.declared.event.Reply.TheVariants.{Halted}
-use Rattle.lz_machine.specs.declared.caller.Progress.{Progress}
-use Rattle.lz_machine.specs.declared.caller.Progress.TheVariants.{LoadsHalt, Walking}
-use Rattle.lz_machine.specs.Yards.{Yard, IsInside, actor_in, pin_in}
-use Rattle.lz_machine.specs.Calls.{progress_after, halts, halt_loaded}
-use Rattle.lz_machine.specs.Runs.{Caller, caller_at}
-use Rattle.lz_machine.specs.Notes.{Notes}
-use Rattle.lz_machine.specs.CallersSound.{view_of, IsEmptyHanded, MayAnswer, CallerSound, is_before_pin, side_of}
-use Rattle.lz_machine.specs.Sound.{Sound}
-use Rattle.lz_machine.proofs.Frames.OneActor.{moving, mine}
-use Rattle.lz_machine.proofs.Frames.SameYard.{KeepsTail, going_keeps}
+use Rattle.lz_machine.specs.declared.{event.{Outcome.TheVariants.{Value, Dead}, Reply.TheVariants.{Halted}}, caller.Progress.{Progress}}
+use Rattle.lz_machine.specs.{declared.caller.Progress.TheVariants.{LoadsHalt, Walking}, Yards.{Yard, IsInside, actor_in, pin_in}}
+use Rattle.lz_machine.specs.{Calls.{progress_after, halts, halt_loaded}, Runs.{Caller, caller_at}, Notes.{Notes}}
+use Rattle.lz_machine.specs.{CallersSound.{view_of, IsEmptyHanded, MayAnswer, CallerSound, is_before_pin, side_of}, Sound.{Sound}}
+use Rattle.lz_machine.proofs.Frames.{OneActor.{moving, mine}, SameYard.{KeepsTail, going_keeps}, Ranges.{few_slots}, Outside.{side_even, inside_side}}
 use Rattle.lz_machine.proofs.Steps.Walk.{GoesOn, hop_after}
 use mathlib.Core.Bool.{false≢true}
-use Rattle.lz_machine.proofs.Frames.Ranges.{few_slots}
-use Rattle.lz_machine.proofs.Frames.Outside.{side_even, inside_side}
 
 -- a call of this number and command
 abbrev pub call_at : ℕ → Command → Progress → Caller

@@ -1,39 +1,19 @@
 -- A new call keeps the invariant.
-use Rattle.std.proofs.Common.{◌≡◌, ◌≢◌, ⊎_elim, inl, inr, ℕ, zero, suc, ◌≤◌, ◌%◌, Bool, false, List, [], ◌∷◌, ◌++◌, length, Option, Some, None, refl, sym, ap, ◌∙◌, subst, arith}
+use Rattle.std.proofs.Common.{◌≡◌, ◌≢◌, ⊎_elim, inl, inr, ℕ, zero, suc, ◌≤◌, ◌%◌, Bool, false, List, [], ◌∷◌, ◌++◌, length, Option, Some, None, refl, sym, ap}
+use Rattle.std.proofs.{Common.{◌∙◌, subst, arith}, lemmas.{Bool.{cases_eq, Decides.{nat_tests}}, Option.{same_Some}}}
 use mathlib.Core.Bool.{false≢true}
-use Rattle.std.proofs.lemmas.Bool.{cases_eq}
-use Rattle.std.proofs.lemmas.Bool.Decides.{nat_tests}
-use Rattle.std.proofs.lemmas.Option.{same_Some}
-use Rattle.lz_slot.specs.Sets.{Keys}
-use Rattle.lz_slot.specs.declared.command.Command.{Command}
-use Rattle.lz_slot.specs.declared.command.Command.TheVariants.{Add, Remove}
-use Rattle.lz_slot.specs.declared.history.Mark.{Mark}
-use Rattle.lz_slot.specs.declared.history.Mark.TheVariants.{Call, Answer, Refused}
-use Rattle.lz_slot.specs.Counted.{set_of_pass}
-use Rattle.lz_slot.specs.Histories.{History, IsCalled, IsAnswered, IsUnderWay, Life}
-use Rattle.lz_slot.proofs.Counted.{of_pass_same, of_pass_other, length-set_of_pass}
+use Rattle.lz_slot.specs.{Sets.{Keys}, declared.{command.Command.{Command, TheVariants.{Add, Remove}}, history.Mark.{Mark}}}
+use Rattle.lz_slot.specs.{declared.history.Mark.TheVariants.{Call, Answer, Refused}, Counted.{set_of_pass}}
+use Rattle.lz_slot.{specs.Histories.{History, IsCalled, IsAnswered, IsUnderWay, Life}, proofs.Counted.{of_pass_same, of_pass_other, length-set_of_pass}}
 use Rattle.lz_disk.specs.Images.{Medium}
 use Rattle.lz_list.specs.Traces.{Trace}
-use Rattle.lz_machine.specs.declared.caller.Progress.{Progress}
-use Rattle.lz_machine.specs.Calls.{begun}
-use Rattle.lz_machine.specs.Kept.{publishing}
-use Rattle.lz_machine.specs.Ledgers.{Row, HasRow, Each, change_at, times}
-use Rattle.lz_machine.specs.Entries.{IsRowIn, IsLedger, IsSettledEntry, IsChangeOf}
-use Rattle.lz_machine.specs.Runs.{Service, Caller, Up, Calls, MayStep, invoked, caller_at}
-use Rattle.lz_machine.specs.Yards.{Yard, pin_in, actor_in, cell_in, IsInside}
-use Rattle.lz_machine.specs.Table.{pin_of, is_old as is_old_file}
-use Rattle.lz_machine.specs.Notes.{Notes, pending_row, pending, entries}
-use Rattle.lz_machine.specs.CallersSound.{IsSide, IsEmptyHanded, Relies, view_of, CallerSound, CallersSound}
-use Rattle.lz_machine.specs.LedgerSound.{LedgerSound, HasTail, TailsSound}
-use Rattle.lz_machine.specs.Sound.{Sound, IsAfter, UpSound}
-use Rattle.lz_machine.proofs.Frames.ActorTable.{by_actor}
-use Rattle.lz_machine.proofs.Frames.Outside.{even_of}
-use Rattle.lz_machine.proofs.Frames.Refusal.{begun_side, begun_relies, noted_refusal, invoked_up}
-use Rattle.lz_machine.proofs.Ledger.Fit.{each_has}
-use Rattle.lz_machine.proofs.Ledger.Answers.{each_weaker}
-use Rattle.lz_machine.proofs.Ledger.Order.{has_left}
-use Rattle.lz_machine.proofs.Runs.CallerTable.{none_of}
-use Rattle.lz_machine.proofs.Ledger.CallMark.{number_of, is_call}
+use Rattle.lz_machine.specs.{declared.caller.Progress.{Progress}, Calls.{begun}, Kept.{publishing}, Ledgers.{Row, HasRow, Each, change_at, times}}
+use Rattle.lz_machine.specs.{Entries.{IsRowIn, IsLedger, IsSettledEntry, IsChangeOf}, Runs.{Service, Caller, Up, Calls, MayStep, invoked, caller_at}}
+use Rattle.lz_machine.specs.{Yards.{Yard, pin_in, actor_in, cell_in, IsInside}, Table.{pin_of, is_old as is_old_file}}
+use Rattle.lz_machine.specs.{Notes.{Notes, pending_row, pending, entries}, CallersSound.{IsSide, IsEmptyHanded, Relies, view_of, CallerSound, CallersSound}}
+use Rattle.lz_machine.{specs.{LedgerSound.{LedgerSound, HasTail, TailsSound}, Sound.{Sound, IsAfter, UpSound}}, proofs.Frames.ActorTable.{by_actor}}
+use Rattle.lz_machine.proofs.{Frames.{Outside.{even_of}, Refusal.{begun_side, begun_relies, noted_refusal, invoked_up}}, Ledger.Fit.{each_has}}
+use Rattle.lz_machine.proofs.{Ledger.{Answers.{each_weaker}, Order.{has_left}, CallMark.{number_of, is_call}}, Runs.CallerTable.{none_of}}
 
 -- the mark of a call is no other mark
 clash : {i a : ℕ} {c : Command} (m : Mark) → is_call m ≡ false → Call i a c ≡ m → ⊥

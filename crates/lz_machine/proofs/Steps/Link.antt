@@ -1,62 +1,29 @@
 -- Link keeps the invariant: the node whose gate its adder has opened is put on its chain.
-use Rattle.std.proofs.Common.{◌≡◌, ◌≢◌, inl, inr, ℕ, suc, ◌<◌, ◌≤◌, ◌==◌, not, true, List, ◌∷◌, ◌++◌, length, Option, Some, None, refl, sym, ap, ◌∙◌, subst, arith}
+use Rattle.lz_machine.proofs.Frames.OtherLink as links
+use Rattle.std.proofs.Common.{◌≡◌, ◌≢◌, inl, inr, ℕ, suc, ◌<◌, ◌≤◌, ◌==◌, not, true, List, ◌∷◌, ◌++◌, length, Option, Some, None, refl, sym, ap, ◌∙◌, subst}
+use Rattle.std.{proofs.{Common.{arith}, lemmas.{Bool.{cases_eq, Decides.{nat_tests}}, Option.{same_Some, none-some}}}, specs.Prelude.{unwrap_or}}
 use mathlib.Core.Bool.{false≢true}
-use Rattle.std.specs.Prelude.{unwrap_or}
-use Rattle.std.proofs.lemmas.Bool.{cases_eq}
-use Rattle.std.proofs.lemmas.Bool.Decides.{nat_tests}
-use Rattle.std.proofs.lemmas.Option.{same_Some, none-some}
-use Rattle.lz_slot.specs.declared.command.Command.TheVariants.{Add, Remove}
-use Rattle.lz_slot.specs.Counted.{set_of_pass}
-use Rattle.lz_slot.specs.Histories.{History}
-use Rattle.lz_slot.proofs.Counted.{length-set_of_pass}
+use Rattle.lz_slot.{specs.{declared.command.Command.TheVariants.{Add, Remove}, Counted.{set_of_pass}, Histories.{History}}, proofs.Counted.{length-set_of_pass}}
 use Rattle.lz_disk.specs.Images.{Medium}
 use Rattle.lz_allot.specs.Uses.{Taken, use_of}
-use Rattle.lz_list.specs.declared.place.Place.{Place}
-use Rattle.lz_list.specs.declared.place.Place.TheVariants.{Node}
-use Rattle.lz_list.specs.declared.publishing.Publishing.TheVariants.{Linked as linked}
-use Rattle.lz_list.specs.declared.word.Word.TheVariants.{Key as key_at}
-use Rattle.lz_list.specs.Words.{Words, get, redirect, place_number, link_to}
+use Rattle.lz_list.specs.declared.{place.Place.{Place, TheVariants.{Node}}, publishing.Publishing.TheVariants.{Linked as linked}}
+use Rattle.lz_list.specs.{declared.word.Word.TheVariants.{Key as key_at}, Words.{Words, get, redirect, place_number, link_to}}
 use Rattle.lz_list.specs.Traces.{Trace, Lawful, IsLoose, on, chain_of, bucket_of, place_of, key_word, linking, is_settled, is_removed, member}
-use Rattle.lz_list.proofs.Traces.NodeBits.{on_insert_other, not_yet}
-use Rattle.lz_list.proofs.Traces.WalkEnd.{on_insert}
-use Rattle.lz_list.proofs.Changes.NodeLink.{inserted_on}
-use Rattle.lz_list.specs.Locks.{claimed_places}
-use Rattle.lz_machine.specs.declared.event.Event.TheVariants.{Link}
-use Rattle.lz_machine.specs.declared.actor.Actor.{Actor}
-use Rattle.lz_machine.specs.declared.actor.Hold.{Hold}
-use Rattle.lz_machine.specs.declared.actor.Hold.TheVariants.{Linked}
-use Rattle.lz_machine.specs.declared.caller.Sequence.TheVariants.{Adding}
-use Rattle.lz_machine.specs.declared.caller.Progress.{Progress}
-use Rattle.lz_machine.specs.declared.caller.Progress.TheVariants.{Playing}
-use Rattle.lz_machine.specs.Yards.{Yard, actor_at, actor_in, pin_in, cell_in, stage_in}
-use Rattle.lz_machine.specs.Table.{slot_of, yard_done, publishes}
-use Rattle.lz_machine.specs.Runs.{Caller, caller_at}
-use Rattle.lz_machine.specs.Kept.{upto}
-use Rattle.lz_machine.specs.Stands.{IsLinkable, InBucket}
-use Rattle.lz_machine.specs.Notes.{Notes, entries}
+use Rattle.lz_list.{specs.Locks.{claimed_places}, proofs.{Traces.{NodeBits.{on_insert_other, not_yet}, WalkEnd.{on_insert}}, Changes.NodeLink.{inserted_on}}}
+use Rattle.lz_machine.specs.declared.{event.Event.TheVariants.{Link}, actor.{Actor.{Actor}, Hold.{Hold, TheVariants.{Linked}}}}
+use Rattle.lz_machine.specs.declared.caller.{Sequence.TheVariants.{Adding}, Progress.{Progress, TheVariants.{Playing}}}
+use Rattle.lz_machine.specs.{Yards.{Yard, actor_at, actor_in, pin_in, cell_in, stage_in}, Table.{slot_of, yard_done, publishes}, Runs.{Caller, caller_at}}
+use Rattle.lz_machine.specs.{Kept.{upto}, Stands.{IsLinkable, InBucket}, Notes.{Notes, entries}}
 use Rattle.lz_machine.specs.SlotsSound.{closes, unlocks, has_removed_node, IsHandStage, IsGateOpened, IsGateWritten, SlotStands, is_node, SlotsSound}
 use Rattle.lz_machine.specs.LocksSound.{has_locks, HasPlace, HasLock, IsBeside, HasOpened, RestsOn, LocksSound}
-use Rattle.lz_machine.specs.CallersSound.{Relies, HasAdded, view_of, CallerSound, CallersSound}
-use Rattle.lz_machine.specs.LedgerSound.{TailsSound}
-use Rattle.lz_machine.specs.Sound.{ReuseSound, Sound}
-use Rattle.lz_machine.proofs.Frames.OneActor.{caller_range, moving, callers_moved, ledger_turn}
-use Rattle.lz_machine.proofs.Frames.ChainSlots.{reuse_published}
-use Rattle.lz_machine.proofs.Frames.NodeLocks.{turned_locks}
-use Rattle.lz_machine.proofs.Frames.OneSlot.{slot_grips, slot_turn}
-use Rattle.lz_machine.proofs.Frames.Publishing.{key_linking}
-use Rattle.lz_machine.proofs.Frames.Ranges.{on_range, few_slots}
-use Rattle.lz_machine.proofs.Frames.LoadedWord.{key_load}
-use Rattle.lz_machine.proofs.Frames.OtherCallers.{caller_stays}
-use Rattle.lz_machine.proofs.Steps.Hop.{call_at, own}
-use Rattle.lz_machine.proofs.Frames.Hand.{same_hand, other_hand}
-use Rattle.lz_machine.proofs.Frames.HeldLocks.{rests_on_pair, pair_published, linked_leaves, one_place}
-use Rattle.lz_machine.proofs.Frames.Store.{trace_linked}
-use Rattle.lz_machine.proofs.Ledger.Membership.{upto_all}
+use Rattle.lz_machine.specs.{CallersSound.{Relies, HasAdded, view_of, CallerSound, CallersSound}, LedgerSound.{TailsSound}, Sound.{ReuseSound, Sound}}
+use Rattle.lz_machine.proofs.Frames.{OneActor.{caller_range, moving, callers_moved, ledger_turn}, ChainSlots.{reuse_published}, NodeLocks.{turned_locks}}
+use Rattle.lz_machine.proofs.Frames.{OneSlot.{slot_grips, slot_turn}, Publishing.{key_linking}, Ranges.{on_range, few_slots}, LoadedWord.{key_load}}
+use Rattle.lz_machine.proofs.Frames.{OtherCallers.{caller_stays}, Hand.{same_hand, other_hand}}
+use Rattle.lz_machine.proofs.Frames.{HeldLocks.{rests_on_pair, pair_published, linked_leaves, one_place}, Store.{trace_linked}, SameYard.{tail_turn}}
+use Rattle.lz_machine.proofs.{Frames.BesideKey.{beside_of, opened_shut, opened_written}, Steps.Hop.{call_at, own}}
+use Rattle.lz_machine.proofs.{Steps.Unlink.{resting_locks, first_place, redirect_pins}, Ledger.Membership.{upto_all}}
 use Rattle.lz_machine.proofs.Ledger.Change.{row_of, changes_at, changed_same, changed_other, ledger_changed, tail_changed}
-use Rattle.lz_machine.proofs.Steps.Unlink.{resting_locks, first_place, redirect_pins}
-use Rattle.lz_machine.proofs.Frames.OtherLink as links
-use Rattle.lz_machine.proofs.Frames.SameYard.{tail_turn}
-use Rattle.lz_machine.proofs.Frames.BesideKey.{beside_of, opened_shut, opened_written}
 
 module _ (n calls : ℕ) (y : Yard) (callers : List (Option Caller)) (disk : Medium) (M : History) (P : Trace) (notes : Notes) (sound : Sound n calls y callers disk M P notes) (a i k s : ℕ) (is : caller_at callers a ≡ Some (call_at i (Add k) (Playing (Adding s) 1))) where
   abbrev at : Progress

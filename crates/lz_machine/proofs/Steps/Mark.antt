@@ -1,58 +1,26 @@
 -- Mark keeps the invariant: the node whose gate its remover has closed is no member any more.
-use Rattle.std.proofs.Common.{◌≡◌, ◌≢◌, inl, inr, ℕ, zero, suc, ◌<◌, ◌≤◌, ◌==◌, not, true, false, List, ◌∷◌, ◌++◌, length, Option, Some, refl, sym, ap, ◌∙◌, subst, arith}
+use Rattle.std.proofs.Common.{◌≡◌, ◌≢◌, inl, inr, ℕ, zero, suc, ◌<◌, ◌≤◌, ◌==◌, not, true, false, List, ◌∷◌, ◌++◌, length, Option, Some, refl, sym, ap, ◌∙◌}
+use Rattle.std.{proofs.{Common.{subst, arith}, lemmas.{Bool.{cases_eq, Decides.{nat_tests}}, Option.{same_Some}}}, specs.Prelude.{unwrap_or}}
 use mathlib.Core.Bool.{false≢true}
-use Rattle.std.specs.Prelude.{unwrap_or}
-use Rattle.std.proofs.lemmas.Bool.{cases_eq}
-use Rattle.std.proofs.lemmas.Bool.Decides.{nat_tests}
-use Rattle.std.proofs.lemmas.Option.{same_Some}
-use Rattle.lz_slot.specs.declared.command.Command.TheVariants.{Add, Remove}
-use Rattle.lz_slot.specs.Counted.{set_of_pass}
-use Rattle.lz_slot.specs.Histories.{History}
-use Rattle.lz_slot.proofs.Counted.{length-set_of_pass}
+use Rattle.lz_slot.{specs.{declared.command.Command.TheVariants.{Add, Remove}, Counted.{set_of_pass}, Histories.{History}}, proofs.Counted.{length-set_of_pass}}
 use Rattle.lz_disk.specs.Images.{Medium}
-use Rattle.lz_list.specs.declared.place.Place.{Place}
-use Rattle.lz_list.specs.declared.place.Place.TheVariants.{Node}
-use Rattle.lz_list.specs.declared.publishing.Publishing.TheVariants.{Marked as marked}
-use Rattle.lz_list.specs.declared.word.Word.TheVariants.{Key as key_at}
-use Rattle.lz_list.specs.Words.{get, change_flags, marked_flags, place_number}
-use Rattle.lz_list.specs.Traces.{Trace, Lawful, IsLoose, on, chain_of, bucket_of, key_word, IsNode, linking, is_marked, member, next_link}
-use Rattle.lz_list.proofs.Chains.TraceChain.{words_show_chain}
-use Rattle.lz_list.proofs.Traces.NodeBits.{node, one_node}
-use Rattle.lz_machine.specs.declared.event.Event.TheVariants.{Mark}
-use Rattle.lz_list.specs.Laws.{IsLow}
-use Rattle.lz_list.specs.Locks.{claimed_places}
-use Rattle.lz_machine.specs.declared.actor.Actor.{Actor}
-use Rattle.lz_machine.specs.declared.actor.Hold.{Hold}
-use Rattle.lz_machine.specs.declared.actor.Hold.TheVariants.{GateClosed, Marked}
-use Rattle.lz_machine.specs.declared.caller.Sequence.TheVariants.{Removing}
-use Rattle.lz_machine.specs.declared.caller.Progress.{Progress}
-use Rattle.lz_machine.specs.declared.caller.Progress.TheVariants.{Playing}
-use Rattle.lz_machine.specs.Yards.{Yard, actor_at, actor_in, cell_in, stage_in}
-use Rattle.lz_machine.specs.Table.{with_hold, node_of, yard_done, publishes}
-use Rattle.lz_machine.specs.Runs.{Caller, caller_at}
-use Rattle.lz_machine.specs.Notes.{Notes, entries}
-use Rattle.lz_machine.specs.CallersSound.{HasMarked, Relies, view_of, CallersSound}
+use Rattle.lz_list.specs.declared.{place.Place.{Place, TheVariants.{Node}}, publishing.Publishing.TheVariants.{Marked as marked}}
+use Rattle.lz_list.specs.{declared.word.Word.TheVariants.{Key as key_at}, Words.{get, change_flags, marked_flags, place_number}}
+use Rattle.lz_list.specs.{Traces.{Trace, Lawful, IsLoose, on, chain_of, bucket_of, key_word, IsNode, linking, is_marked, member, next_link}, Laws.{IsLow}}
+use Rattle.lz_list.{specs.Locks.{claimed_places}, proofs.{Chains.TraceChain.{words_show_chain}, Traces.NodeBits.{node, one_node}}}
+use Rattle.lz_machine.specs.declared.{event.Event.TheVariants.{Mark}, actor.{Actor.{Actor}, Hold.{Hold, TheVariants.{GateClosed, Marked}}}}
+use Rattle.lz_machine.specs.declared.caller.{Sequence.TheVariants.{Removing}, Progress.{Progress, TheVariants.{Playing}}}
+use Rattle.lz_machine.specs.{Yards.{Yard, actor_at, actor_in, cell_in, stage_in}, Table.{with_hold, node_of, yard_done, publishes}, Runs.{Caller, caller_at}}
+use Rattle.lz_machine.specs.{Notes.{Notes, entries}, CallersSound.{HasMarked, Relies, view_of, CallersSound}}
 use Rattle.lz_machine.specs.SlotsSound.{IsGateWritten, opens, shuts, IsCloser, IsOnChain, is_node, SlotsSound}
-use Rattle.lz_machine.specs.LocksSound.{has_locks, HasPlace, HasLock, IsRightBefore, HasClosed, RestsOn, LocksSound}
-use Rattle.lz_machine.specs.LedgerSound.{TailsSound}
-use Rattle.lz_machine.specs.Sound.{ReuseSound, Sound}
-use Rattle.lz_machine.proofs.Frames.ActorTable.{field_stays}
-use Rattle.lz_machine.proofs.Frames.OneActor.{caller_range, moving, callers_moved, ledger_turn}
-use Rattle.lz_machine.proofs.Frames.ChainSlots.{chain_stands, reuse_published}
-use Rattle.lz_machine.proofs.Frames.NodeLocks.{turned_locks}
-use Rattle.lz_machine.proofs.Frames.OneSlot.{node_grips, slot_turn}
-use Rattle.lz_machine.proofs.Frames.Ranges.{on_range, few_slots}
-use Rattle.lz_machine.proofs.Frames.LoadedWord.{key_load}
-use Rattle.lz_machine.proofs.Frames.OtherCallers.{held_node, caller_stays}
-use Rattle.lz_machine.proofs.Steps.Hop.{call_at, own}
-use Rattle.lz_machine.proofs.Frames.Hand.{same_hand, other_hand}
-use Rattle.lz_machine.proofs.Frames.HeldLocks.{rests_on_pair, pair_published, marked_leaves}
-use Rattle.lz_machine.proofs.Frames.Store.{trace_marked}
-use Rattle.lz_machine.proofs.Ledger.Change.{row_of, changes_at, changed_same, changed_other, ledger_changed, tail_changed}
-use Rattle.lz_machine.proofs.Steps.Unlink.{resting_locks, node_place}
-use Rattle.lz_machine.proofs.Ledger.Membership.{upto_all}
-use Rattle.lz_machine.specs.Kept.{upto}
-use Rattle.lz_machine.proofs.Frames.SameYard.{tail_turn}
+use Rattle.lz_machine.specs.{LocksSound.{has_locks, HasPlace, HasLock, IsRightBefore, HasClosed, RestsOn, LocksSound}, LedgerSound.{TailsSound}}
+use Rattle.lz_machine.{specs.{Sound.{ReuseSound, Sound}, Kept.{upto}}, proofs.Frames.ActorTable.{field_stays}}
+use Rattle.lz_machine.proofs.Frames.{OneActor.{caller_range, moving, callers_moved, ledger_turn}, ChainSlots.{chain_stands, reuse_published}}
+use Rattle.lz_machine.proofs.Frames.{NodeLocks.{turned_locks}, OneSlot.{node_grips, slot_turn}, Ranges.{on_range, few_slots}, LoadedWord.{key_load}}
+use Rattle.lz_machine.proofs.Frames.{OtherCallers.{held_node, caller_stays}, Hand.{same_hand, other_hand}}
+use Rattle.lz_machine.proofs.Frames.{HeldLocks.{rests_on_pair, pair_published, marked_leaves}, Store.{trace_marked}, SameYard.{tail_turn}}
+use Rattle.lz_machine.proofs.Steps.{Hop.{call_at, own}, Unlink.{resting_locks, node_place}}
+use Rattle.lz_machine.proofs.Ledger.{Change.{row_of, changes_at, changed_same, changed_other, ledger_changed, tail_changed}, Membership.{upto_all}}
 
 module _ (n calls : ℕ) (y : Yard) (callers : List (Option Caller)) (disk : Medium) (M : History) (P : Trace) (notes : Notes) (sound : Sound n calls y callers disk M P notes) (a i k s : ℕ) (is : caller_at callers a ≡ Some (call_at i (Remove k) (Playing (Removing s) 1))) where
   abbrev at : Progress

@@ -1,44 +1,22 @@
 -- A pass that goes in keeps the invariant: a pin, and the first half of a look. So does one that only looked and goes out.
-use Rattle.std.proofs.Common.{◌≡◌, ◌≢◌, ℕ, suc, ◌≤◌, ◌+◌, ◌%◌, ◌==◌, if◌then◌else◌, Bool, true, List, [], ◌∷◌, length, Option, Some, None, refl, sym, ◌∙◌, subst, arith}
-use Rattle.lz_slot.specs.declared.command.Command.{Command}
-use Rattle.lz_slot.specs.Counted.{of_pass, set_of_pass}
-use Rattle.lz_slot.specs.Histories.{History}
+use Rattle.std.proofs.Common.{◌≡◌, ◌≢◌, ℕ, suc, ◌≤◌, ◌+◌, ◌%◌, ◌==◌, if◌then◌else◌, Bool, true, List, [], ◌∷◌, length, Option, Some, None, refl, sym, ◌∙◌}
+use Rattle.std.proofs.Common.{subst, arith}
+use Rattle.lz_slot.specs.{declared.command.Command.{Command}, Counted.{of_pass, set_of_pass}, Histories.{History}}
 use Rattle.lz_slot.proofs.Counted.{of_pass_same, of_pass_other, length-set_of_pass}
 use Rattle.lz_disk.specs.Images.{Medium}
 use Rattle.lz_vault.specs.Stages.{Cell}
-use Rattle.lz_allot.specs.declared.sight.Sight.{Sight}
-use Rattle.lz_allot.specs.declared.sight.Sight.TheVariants.{Left}
-use Rattle.lz_allot.specs.Uses.{Use, Free, Limbo, use_of}
-use Rattle.lz_list.specs.declared.publishing.Publishing.{Publishing}
-use Rattle.lz_list.specs.declared.publishing.Publishing.TheVariants.{KeyPrepared as key_prepared, LinkPrepared as link_prepared}
-use Rattle.lz_list.specs.declared.word.Word.TheVariants.{Pin as pin_at}
-use Rattle.lz_list.specs.Words.{Words, get, set}
-use Rattle.lz_list.specs.Traces.{Trace, IsLoose, on, chain}
-use Rattle.lz_list.specs.Pinned.{Stood, IsKept, IsQuiet}
-use Rattle.lz_list.proofs.Traces.Absence.{begins_itself}
-use Rattle.lz_list.proofs.Traces.Hindsight.{once_begins}
-use Rattle.lz_machine.specs.declared.event.Event.TheVariants.{Pin}
-use Rattle.lz_machine.specs.declared.event.Outcome.TheVariants.{Done, Worn}
-use Rattle.lz_machine.specs.declared.event.Reply.TheVariants.{Worn as SaysWorn}
-use Rattle.lz_machine.specs.declared.actor.Actor.{Actor}
-use Rattle.lz_machine.specs.declared.caller.Sequence.TheVariants.{Pinning}
-use Rattle.lz_machine.specs.declared.caller.Progress.TheVariants.{Playing, LoadsHalt, Answering}
-use Rattle.lz_machine.specs.Yards.{Yard, Shape, actor_at, IsInside, actor_in, pin_in}
-use Rattle.lz_machine.specs.Table.{last_pin, yard_done}
-use Rattle.lz_machine.specs.Calls.{progress_after}
-use Rattle.lz_machine.specs.Runs.{Caller, caller_at, with_words}
-use Rattle.lz_machine.specs.Limbo.{IsAway, IsRightSight}
-use Rattle.lz_machine.specs.Notes.{Notes}
-use Rattle.lz_machine.specs.CallersSound.{view_of, CallerSound, CallersSound}
-use Rattle.lz_machine.specs.SlotsSound.{SlotsSound}
-use Rattle.lz_machine.specs.LedgerSound.{LedgerSound}
-use Rattle.lz_machine.specs.Sound.{ReuseSound, TraceSound, Sound}
-use Rattle.lz_machine.proofs.Frames.ActorTable.{by_actor}
-use Rattle.lz_machine.proofs.Frames.Limbo.{away_new, seen_pin, seen_leave, shorter}
-use Rattle.lz_machine.proofs.Frames.OneActor.{moving, moved_same, moved_other, carry, ledger_turn}
-use Rattle.lz_machine.proofs.Frames.SameYard.{going_keeps, tails_turn}
-use Rattle.lz_machine.proofs.Frames.ChainSlots.{limbo_loose, free_loose}
-use Rattle.lz_machine.proofs.Steps.Hop.{call_at, own}
+use Rattle.lz_allot.specs.{declared.sight.Sight.{Sight, TheVariants.{Left}}, Uses.{Use, Free, Limbo, use_of}}
+use Rattle.lz_list.specs.declared.publishing.Publishing.{Publishing, TheVariants.{KeyPrepared as key_prepared, LinkPrepared as link_prepared}}
+use Rattle.lz_list.specs.{declared.word.Word.TheVariants.{Pin as pin_at}, Words.{Words, get, set}, Traces.{Trace, IsLoose, on, chain}}
+use Rattle.lz_list.{specs.Pinned.{Stood, IsKept, IsQuiet}, proofs.Traces.{Absence.{begins_itself}, Hindsight.{once_begins}}}
+use Rattle.lz_machine.specs.declared.event.{Event.TheVariants.{Pin}, Outcome.TheVariants.{Done, Worn}, Reply.TheVariants.{Worn as SaysWorn}}
+use Rattle.lz_machine.specs.declared.{actor.Actor.{Actor}, caller.{Sequence.TheVariants.{Pinning}, Progress.TheVariants.{Playing, LoadsHalt, Answering}}}
+use Rattle.lz_machine.specs.{Yards.{Yard, Shape, actor_at, IsInside, actor_in, pin_in}, Table.{last_pin, yard_done}, Calls.{progress_after}}
+use Rattle.lz_machine.specs.{Runs.{Caller, caller_at, with_words}, Limbo.{IsAway, IsRightSight}, Notes.{Notes}}
+use Rattle.lz_machine.specs.{CallersSound.{view_of, CallerSound, CallersSound}, SlotsSound.{SlotsSound}, LedgerSound.{LedgerSound}}
+use Rattle.lz_machine.{specs.Sound.{ReuseSound, TraceSound, Sound}, proofs.Frames.{ActorTable.{by_actor}, Limbo.{away_new, seen_pin, seen_leave, shorter}}}
+use Rattle.lz_machine.proofs.Frames.{OneActor.{moving, moved_same, moved_other, carry, ledger_turn}, SameYard.{going_keeps, tails_turn}}
+use Rattle.lz_machine.proofs.{Frames.ChainSlots.{limbo_loose, free_loose}, Steps.Hop.{call_at, own}}
 use mathlib.Core.Bool.{false≢true}
 
 -- at its pin nothing that stood since was prepared again

@@ -1,37 +1,21 @@
 -- Each step of an open service keeps the invariant, with notes that go on from those before it.
 use Rattle.std.proofs.Common.{◌≡◌, ◌≢◌, inl, inr, ℕ, ◌≤◌, ◌%◌, List, [], ◌∷◌, ◌++◌, Option, Some, None, refl, sym, ◌∙◌, subst, arith, suc}
 use Rattle.std.proofs.lemmas.Bool.{cases_eq}
-use Rattle.lz_slot.specs.declared.command.Command.{Command}
-use Rattle.lz_slot.specs.declared.history.Mark.{Mark}
-use Rattle.lz_slot.specs.Sets.{Keys}
+use Rattle.lz_slot.specs.{declared.{command.Command.{Command}, history.Mark.{Mark, TheVariants.{Call}}}, Sets.{Keys}}
 use Rattle.lz_slot.specs.Histories.{History, Life, lives, with_mark}
 use Rattle.lz_disk.specs.Images.{Medium}
 use Rattle.lz_vault.specs.Vaults.{medium_after}
 use Rattle.lz_list.specs.Traces.{Trace}
-use Rattle.lz_machine.specs.declared.event.Event.TheVariants.{Answer}
-use Rattle.lz_machine.specs.declared.event.Reply.{Reply}
-use Rattle.lz_machine.specs.declared.event.Reply.TheVariants.{Yes}
-use Rattle.lz_machine.specs.declared.caller.Progress.{Progress}
-use Rattle.lz_machine.specs.declared.caller.Progress.TheVariants.{Answering}
-use Rattle.lz_machine.specs.Yards.{Yard, actor_at, pin_in}
-use Rattle.lz_machine.specs.Table.{last_pin, course, line, line_call, line_publishes, line_failed}
-use Rattle.lz_machine.specs.Runs.{Start, Service, Caller, Up, Turn, Fails, Looks, MayStep, HasTurn, HasFault, after_turn, after_fault, turn_publishes, marks_of_turn, mark_of_turn, mark_of, point_after, caller_at, next_event, reply_at, played, looked, start_keys, State, Down, Transition, Calls, Trips, Opens, OpenFails, state_after, trace_after, calls_made_after, marks_of, invoked}
-use Rattle.lz_machine.specs.Notes.{Notes, entries}
-use Rattle.lz_machine.specs.Sound.{UpSound, PointSound, IsSound}
-use Rattle.lz_machine.proofs.Steps.Hop.{call_at}
-use Rattle.lz_machine.proofs.Steps.Pin.{begins_now, look_in_keeps, look_out_keeps}
-use Rattle.lz_machine.proofs.Frames.PinNotes.{IsNoted, noted_in, noted_out, noted_same}
-use Rattle.lz_machine.proofs.Frames.ChangeNotes.{IsTold, told_same}
-use Rattle.lz_machine.proofs.Frames.PinOrder.{pin_after, since_pin, since_out, out_after}
-use Rattle.lz_machine.proofs.Steps.Turn.{turn_up}
-use Rattle.lz_machine.proofs.Steps.Fault.{fault_up}
-use Rattle.lz_machine.proofs.Runs.PointParts.{point}
-use Rattle.lz_machine.proofs.Runs.CallerTable.{none_of}
+use Rattle.lz_machine.specs.declared.{event.{Event.TheVariants.{Answer}, Reply.{Reply, TheVariants.{Yes}}}, caller.Progress.{Progress, TheVariants.{Answering}}}
+use Rattle.lz_machine.specs.{Yards.{Yard, actor_at, pin_in}, Table.{last_pin, course, line, line_call, line_publishes, line_failed}, Runs.{Start, Service}}
+use Rattle.lz_machine.specs.Runs.{Caller, Up, Turn, Fails, Looks, MayStep, HasTurn, HasFault, after_turn, after_fault, turn_publishes, marks_of_turn}
+use Rattle.lz_machine.specs.Runs.{mark_of_turn, mark_of, point_after, caller_at, next_event, reply_at, played, looked, start_keys, State, Down, Transition}
+use Rattle.lz_machine.specs.{Runs.{Calls, Trips, Opens, OpenFails, state_after, trace_after, calls_made_after, marks_of, invoked}, Notes.{Notes, entries}}
+use Rattle.lz_machine.{specs.{Sound.{UpSound, PointSound, IsSound}, Calls.{begun}}, proofs.Steps.Hop.{call_at}}
+use Rattle.lz_machine.proofs.Steps.{Pin.{begins_now, look_in_keeps, look_out_keeps}, Turn.{turn_up}, Fault.{fault_up}, Answer.{answer_up}}
+use Rattle.lz_machine.proofs.{Steps.Invoke.{calling, call_up}, Frames.{PinNotes.{IsNoted, noted_in, noted_out, noted_same}, ChangeNotes.{IsTold, told_same}}}
+use Rattle.lz_machine.proofs.{Frames.PinOrder.{pin_after, since_pin, since_out, out_after}, Runs.{PointParts.{point}, CallerTable.{none_of}}}
 use Rattle.lz_machine.proofs.Runs.Shape.{line_keeps_shape, line_keeps_format}
-use Rattle.lz_slot.specs.declared.history.Mark.TheVariants.{Call}
-use Rattle.lz_machine.specs.Calls.{begun}
-use Rattle.lz_machine.proofs.Steps.Answer.{answer_up}
-use Rattle.lz_machine.proofs.Steps.Invoke.{calling, call_up}
 
 -- a service after a step is sound, with notes that go on from those before
 pub record GoesOn (n calls : ℕ) (life : Life) (pins : List ℕ) (P : Trace) (before : Notes) (service : Service) (disk : Medium) (Q : Trace) : Type 0 where

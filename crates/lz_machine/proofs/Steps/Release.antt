@@ -1,41 +1,17 @@
 -- A release keeps the invariant: after a test that failed, after a linking, and after an unlinking.
 use Rattle.std.proofs.Common.{◌≡◌, ℕ, Bool, true, false, List, Option, Some, refl, sym, ap, ◌∙◌, subst, arith}
 use mathlib.Core.Bool.{false≢true}
-use Rattle.lz_slot.specs.declared.command.Command.{Command}
-use Rattle.lz_slot.specs.declared.command.Command.TheVariants.{Add, Remove}
-use Rattle.lz_slot.specs.Sets.{key_of}
-use Rattle.lz_slot.specs.Counted.{set_of_pass}
-use Rattle.lz_slot.specs.Histories.{History}
+use Rattle.lz_slot.specs.{declared.command.Command.{Command, TheVariants.{Add, Remove}}, Sets.{key_of}, Counted.{set_of_pass}, Histories.{History}}
 use Rattle.lz_disk.specs.Images.{Medium}
-use Rattle.lz_list.specs.declared.walk.Look.TheVariants.{AtHead}
-use Rattle.lz_list.specs.Traces.{Trace}
-use Rattle.lz_list.specs.Locks.{pair_owned}
-use Rattle.lz_machine.specs.declared.event.Event.TheVariants.{Release}
-use Rattle.lz_machine.specs.declared.event.Outcome.TheVariants.{Done}
-use Rattle.lz_machine.specs.declared.actor.Actor.{Actor}
-use Rattle.lz_machine.specs.declared.actor.Hold.{Hold}
+use Rattle.lz_list.specs.{declared.walk.Look.TheVariants.{AtHead}, Traces.{Trace}, Locks.{pair_owned}}
+use Rattle.lz_machine.specs.declared.{event.{Event.TheVariants.{Release}, Outcome.TheVariants.{Done}}, actor.{Actor.{Actor}, Hold.{Hold}}}
 use Rattle.lz_machine.specs.declared.actor.Hold.TheVariants.{Nothing, Locks, Linked, Unlinked, Released}
-use Rattle.lz_machine.specs.declared.caller.Sequence.TheVariants.{Releasing, Adding, Removing}
-use Rattle.lz_machine.specs.declared.caller.Progress.{Progress}
-use Rattle.lz_machine.specs.declared.caller.Progress.TheVariants.{Playing, Walking}
-use Rattle.lz_machine.specs.Yards.{Yard, actor_at, pin_in}
-use Rattle.lz_machine.specs.Table.{with_hold, released, yard_done}
-use Rattle.lz_machine.specs.Calls.{progress_after}
-use Rattle.lz_machine.specs.Runs.{Caller, caller_at}
-use Rattle.lz_machine.specs.Notes.{Notes}
-use Rattle.lz_machine.specs.SlotsSound.{closes, opens, has_removed_node}
-use Rattle.lz_machine.specs.LocksSound.{has_locks, RestsOn}
-use Rattle.lz_machine.specs.CallersSound.{is_before_pin}
-use Rattle.lz_machine.specs.Sound.{Sound}
-use Rattle.lz_machine.proofs.Frames.OneActor.{moving}
-use Rattle.lz_machine.proofs.Frames.Grip.{KeepsGrips, fresh_grip}
-use Rattle.lz_machine.proofs.Frames.NodeLocks.{released_locks}
-use Rattle.lz_machine.proofs.Steps.Walk.{GoesOn}
-use Rattle.lz_machine.proofs.Steps.Hop.{call_at, own, own_inside}
-use Rattle.lz_machine.proofs.Frames.Hand.{in_hands, same_hand, other_hand, hands_keep}
-use Rattle.lz_machine.proofs.Steps.Claim.{aimed_same}
-use Rattle.lz_machine.proofs.Frames.SameYard.{KeepsTail}
-use Rattle.lz_machine.proofs.Frames.Outside.{inside_side}
+use Rattle.lz_machine.specs.declared.caller.{Sequence.TheVariants.{Releasing, Adding, Removing}, Progress.{Progress, TheVariants.{Playing, Walking}}}
+use Rattle.lz_machine.specs.{Yards.{Yard, actor_at, pin_in}, Table.{with_hold, released, yard_done}, Calls.{progress_after}, Runs.{Caller, caller_at}}
+use Rattle.lz_machine.specs.{Notes.{Notes}, SlotsSound.{closes, opens, has_removed_node}, LocksSound.{has_locks, RestsOn}, CallersSound.{is_before_pin}}
+use Rattle.lz_machine.{specs.Sound.{Sound}, proofs.Frames.{OneActor.{moving}, Grip.{KeepsGrips, fresh_grip}, NodeLocks.{released_locks}}}
+use Rattle.lz_machine.proofs.{Frames.{Hand.{in_hands, same_hand, other_hand, hands_keep}, SameYard.{KeepsTail}, Outside.{inside_side}}, Steps.Walk.{GoesOn}}
+use Rattle.lz_machine.proofs.Steps.{Hop.{call_at, own, own_inside}, Claim.{aimed_same}}
 
 -- an actor that has unlinked its node has it out still
 out_grip : (dead : Bool) (old : Actor) → old.hold ≡ Unlinked → KeepsGrips dead dead old (with_hold old Released)

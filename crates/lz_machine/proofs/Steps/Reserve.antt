@@ -1,53 +1,26 @@
 -- Seeing a pin, and asking for a slot, keep the invariant.
-use Rattle.std.proofs.Common.{◌≡◌, ◌≢◌, ◌⊎◌, inl, inr, ℕ, ◌<◌, nat_lt, Bool, true, false, List, length, Option, Some, None, refl, sym, ap, ◌∙◌, subst, arith, get_or-set_other, get_or-set_same, length-set}
+use Rattle.std.proofs.Common.{◌≡◌, ◌≢◌, ◌⊎◌, inl, inr, ℕ, ◌<◌, nat_lt, Bool, true, false, List, length, Option, Some, None, refl, sym, ap, ◌∙◌, subst, arith}
+use Rattle.std.proofs.{Common.{get_or-set_other, get_or-set_same, length-set}, lemmas.Bool.{cases_Bool, cases_eq, Decides.{nat_tests}}}
+use Rattle.std.proofs.lemmas.{List.Quantifiers.{position-Some}, Option.{same_Some, none-some}}
 use mathlib.Core.Bool.{false≢true}
-use Rattle.std.proofs.lemmas.Bool.{cases_Bool, cases_eq}
-use Rattle.std.proofs.lemmas.Bool.Decides.{nat_tests}
-use Rattle.lz_slot.specs.declared.command.Command.{Command}
-use Rattle.lz_slot.specs.declared.command.Command.TheVariants.{Add, Remove}
-use Rattle.lz_slot.specs.Counted.{set_of_pass}
-use Rattle.lz_slot.specs.Histories.{History}
+use Rattle.lz_slot.specs.{declared.command.Command.{Command, TheVariants.{Add, Remove}}, Counted.{set_of_pass}, Histories.{History}, Sets.{key_of}}
 use Rattle.lz_slot.proofs.Counted.{length-set_of_pass}
 use Rattle.lz_disk.specs.Images.{Medium}
 use Rattle.lz_allot.specs.declared.sight.Sight.{Sight}
 use Rattle.lz_allot.specs.Uses.{Use, Free, Taken, Limbo, use_of, collect, see_pin, lowest_free, take_slot, is_free as is_free_use, counts}
-use Rattle.lz_list.specs.declared.word.Word.TheVariants.{Pin as pin_at}
-use Rattle.lz_list.specs.Words.{get}
-use Rattle.lz_list.specs.Traces.{Trace}
-use Rattle.lz_machine.specs.declared.event.Event.TheVariants.{Reserve, SeePin}
-use Rattle.lz_machine.specs.declared.event.Outcome.TheVariants.{Done, NoSlot}
-use Rattle.lz_machine.specs.declared.event.Reply.TheVariants.{Full}
-use Rattle.lz_machine.specs.declared.actor.Actor.{Actor}
-use Rattle.lz_machine.specs.declared.actor.Hold.{Hold}
-use Rattle.lz_machine.specs.declared.actor.Hold.TheVariants.{Nothing}
-use Rattle.lz_machine.specs.declared.caller.Progress.{Progress}
-use Rattle.lz_machine.specs.declared.caller.Progress.TheVariants.{Reserving, SeeingPins}
-use Rattle.lz_machine.specs.Yards.{Yard, actor_at, actor_in, pin_in, cell_in, stage_in}
-use Rattle.lz_machine.specs.Table.{with_slot, reserved, slot_found, yard_done, outcome_of}
-use Rattle.lz_machine.specs.Calls.{progress_after, after_see_pin, after_reserve}
-use Rattle.lz_machine.specs.Runs.{Caller, caller_at}
-use Rattle.lz_machine.specs.Limbo.{IsAway}
-use Rattle.lz_slot.specs.Sets.{key_of}
-use Rattle.lz_machine.specs.Notes.{Notes}
-use Rattle.lz_machine.specs.SlotsSound.{closes, opens, shuts, unlocks, has_removed_node, is_held, SlotsSound, IsGateOpened}
-use Rattle.lz_machine.specs.LocksSound.{HasLock, RestsOn}
-use Rattle.lz_machine.specs.CallersSound.{IsAdder, MayAnswer, CallerSound, is_before_pin, WasAbsent}
-use Rattle.lz_machine.specs.Sound.{ReuseSound, Sound}
-use Rattle.lz_machine.proofs.Frames.OneActor.{moving, callers_turn, ledger_turn}
-use Rattle.lz_machine.proofs.Frames.SameYard.{KeepsTail, in_passes, tail_turn}
-use Rattle.lz_machine.proofs.Frames.NodeLocks.{held_locks}
-use Rattle.lz_machine.proofs.Steps.Walk.{GoesOn}
+use Rattle.lz_list.specs.{declared.word.Word.TheVariants.{Pin as pin_at}, Words.{get}, Traces.{Trace}}
+use Rattle.lz_machine.specs.declared.event.{Event.TheVariants.{Reserve, SeePin}, Outcome.TheVariants.{Done, NoSlot}, Reply.TheVariants.{Full}}
+use Rattle.lz_machine.specs.declared.{actor.{Actor.{Actor}, Hold.{Hold, TheVariants.{Nothing}}}, caller.Progress.{Progress}}
+use Rattle.lz_machine.specs.{declared.caller.Progress.TheVariants.{Reserving, SeeingPins}, Yards.{Yard, actor_at, actor_in, pin_in, cell_in, stage_in}}
+use Rattle.lz_machine.specs.{Table.{with_slot, reserved, slot_found, yard_done, outcome_of}, Calls.{progress_after, after_see_pin, after_reserve}}
+use Rattle.lz_machine.specs.{Runs.{Caller, caller_at}, Limbo.{IsAway}, Notes.{Notes}}
+use Rattle.lz_machine.specs.{SlotsSound.{closes, opens, shuts, unlocks, has_removed_node, is_held, SlotsSound, IsGateOpened}, LocksSound.{HasLock, RestsOn}}
+use Rattle.lz_machine.specs.{CallersSound.{IsAdder, MayAnswer, CallerSound, is_before_pin, WasAbsent}, Sound.{ReuseSound, Sound}}
+use Rattle.lz_machine.proofs.Frames.{OneActor.{moving, callers_turn, ledger_turn}, SameYard.{KeepsTail, in_passes, tail_turn}, NodeLocks.{held_locks}}
+use Rattle.lz_machine.proofs.Frames.{Hand.{range, same_hand, other_hand, hands_keep}, Grip.{fresh_grip}, BesideKey.{opened_shut}}
+use Rattle.lz_machine.proofs.Frames.{ChainSlots.{free_taken, free_stands}, OneSlot.{slot_grips, same_nodes, slot_turn}, KeptSlots.{slots_uses}}
+use Rattle.lz_machine.proofs.{Frames.{Uses.{KeepsUses, seen_keeps, seen_reuse, collect_keeps, collect_reuse}, Outside.{inside_side}}, Steps.Walk.{GoesOn}}
 use Rattle.lz_machine.proofs.Steps.Hop.{call_at, own, goes_on_keeps, own_inside}
-use Rattle.lz_machine.proofs.Frames.Hand.{range, same_hand, other_hand, hands_keep}
-use Rattle.lz_machine.proofs.Frames.Grip.{fresh_grip}
-use Rattle.std.proofs.lemmas.List.Quantifiers.{position-Some}
-use Rattle.std.proofs.lemmas.Option.{same_Some, none-some}
-use Rattle.lz_machine.proofs.Frames.BesideKey.{opened_shut}
-use Rattle.lz_machine.proofs.Frames.ChainSlots.{free_taken, free_stands}
-use Rattle.lz_machine.proofs.Frames.OneSlot.{slot_grips, same_nodes, slot_turn}
-use Rattle.lz_machine.proofs.Frames.KeptSlots.{slots_uses}
-use Rattle.lz_machine.proofs.Frames.Uses.{KeepsUses, seen_keeps, seen_reuse, collect_keeps, collect_reuse}
-use Rattle.lz_machine.proofs.Frames.Outside.{inside_side}
 
 -- the yard with other uses
 abbrev pub with_uses : Yard → List Use → Yard

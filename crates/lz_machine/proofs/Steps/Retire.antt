@@ -1,45 +1,22 @@
 -- Retire keeps the invariant: the slot goes to limbo, and no pass has been seen since.
-use Rattle.std.proofs.Common.{◌≡◌, ◌≢◌, ◌⊎◌, inl, inr, ℕ, zero, suc, ◌<◌, ◌≤◌, List, length, replicate, get_or, Option, Some, refl, sym, ap, ◌∙◌, subst, arith, get_or-set_other, get_or-set_same, length-set}
+use Rattle.std.proofs.Common.{◌≡◌, ◌≢◌, ◌⊎◌, inl, inr, ℕ, zero, suc, ◌<◌, ◌≤◌, List, length, replicate, get_or, Option, Some, refl, sym, ap, ◌∙◌, subst, arith}
+use Rattle.std.proofs.{Common.{get_or-set_other, get_or-set_same, length-set}, lemmas.{Bool.{cases_eq, cases_lt}, List.{get_or-replicate, length-replicate}}}
+use Rattle.std.{proofs.lemmas.Option.{none-some}, specs.Prelude.{unwrap_or}}
 use mathlib.Core.Bool.{false≢true}
-use Rattle.std.specs.Prelude.{unwrap_or}
-use Rattle.std.proofs.lemmas.Bool.{cases_eq, cases_lt}
-use Rattle.std.proofs.lemmas.List.{get_or-replicate, length-replicate}
-use Rattle.std.proofs.lemmas.Option.{none-some}
-use Rattle.lz_slot.specs.declared.command.Command.TheVariants.{Remove}
-use Rattle.lz_slot.specs.Counted.{of_pass, set_of_pass}
-use Rattle.lz_slot.specs.Histories.{History}
+use Rattle.lz_slot.specs.{declared.command.Command.TheVariants.{Remove}, Counted.{of_pass, set_of_pass}, Histories.{History}}
 use Rattle.lz_slot.proofs.Counted.{length-set_of_pass}
 use Rattle.lz_disk.specs.Images.{Medium}
-use Rattle.lz_allot.specs.declared.sight.Sight.{Sight}
-use Rattle.lz_allot.specs.declared.sight.Sight.TheVariants.{Unseen, Left}
-use Rattle.lz_allot.specs.Uses.{Use, Taken, Limbo, use_of, retire}
+use Rattle.lz_allot.specs.{declared.sight.Sight.{Sight, TheVariants.{Unseen, Left}}, Uses.{Use, Taken, Limbo, use_of, retire}}
 use Rattle.lz_list.specs.Traces.{Trace}
-use Rattle.lz_machine.specs.declared.event.Event.TheVariants.{Retire}
-use Rattle.lz_machine.specs.declared.event.Outcome.TheVariants.{Done}
-use Rattle.lz_machine.specs.declared.event.Reply.TheVariants.{Yes}
-use Rattle.lz_machine.specs.declared.actor.Actor.{Actor}
-use Rattle.lz_machine.specs.declared.actor.Hold.TheVariants.{Nothing}
-use Rattle.lz_machine.specs.declared.caller.Sequence.TheVariants.{Removing}
-use Rattle.lz_machine.specs.declared.caller.Progress.{Progress}
-use Rattle.lz_machine.specs.declared.caller.Progress.TheVariants.{Playing, Answering}
-use Rattle.lz_machine.specs.Yards.{Yard, actor_at, IsInside, actor_in, pin_in}
-use Rattle.lz_machine.specs.Table.{with_hold, yard_done}
-use Rattle.lz_machine.specs.Calls.{progress_after}
-use Rattle.lz_machine.specs.Runs.{Caller, caller_at}
-use Rattle.lz_machine.specs.Limbo.{IsRightSight}
-use Rattle.lz_machine.specs.Notes.{Notes}
-use Rattle.lz_machine.specs.SlotsSound.{opens, has_removed_node, IsOut, is_limbo, SlotsSound}
-use Rattle.lz_machine.specs.LocksSound.{HasLock, RestsOn}
-use Rattle.lz_machine.specs.CallersSound.{Relies, view_of, CallerSound}
-use Rattle.lz_machine.specs.Sound.{ReuseSound, Sound}
-use Rattle.lz_machine.proofs.Frames.OneActor.{moving, callers_turn, ledger_turn}
-use Rattle.lz_machine.proofs.Frames.SameYard.{in_passes, tails_turn}
-use Rattle.lz_machine.proofs.Frames.NodeLocks.{held_locks}
-use Rattle.lz_machine.proofs.Steps.Hop.{call_at, own}
-use Rattle.lz_machine.proofs.Frames.Hand.{same_hand, other_hand}
-use Rattle.lz_machine.proofs.Frames.Uses.{inside_range, limbo_same, free_limbo}
-use Rattle.lz_machine.proofs.Frames.ActorTable.{field_stays}
-use Rattle.lz_machine.proofs.Frames.OneSlot.{node_grips, same_nodes, slot_turn}
+use Rattle.lz_machine.specs.declared.{event.{Event.TheVariants.{Retire}, Outcome.TheVariants.{Done}, Reply.TheVariants.{Yes}}, actor.Actor.{Actor}}
+use Rattle.lz_machine.specs.declared.{actor.Hold.TheVariants.{Nothing}, caller.{Sequence.TheVariants.{Removing}, Progress.{Progress}}}
+use Rattle.lz_machine.specs.{declared.caller.Progress.TheVariants.{Playing, Answering}, Yards.{Yard, actor_at, IsInside, actor_in, pin_in}}
+use Rattle.lz_machine.specs.{Table.{with_hold, yard_done}, Calls.{progress_after}, Runs.{Caller, caller_at}, Limbo.{IsRightSight}, Notes.{Notes}}
+use Rattle.lz_machine.specs.{SlotsSound.{opens, has_removed_node, IsOut, is_limbo, SlotsSound}, LocksSound.{HasLock, RestsOn}}
+use Rattle.lz_machine.specs.{CallersSound.{Relies, view_of, CallerSound}, Sound.{ReuseSound, Sound}}
+use Rattle.lz_machine.proofs.Frames.{OneActor.{moving, callers_turn, ledger_turn}, SameYard.{in_passes, tails_turn}, NodeLocks.{held_locks}}
+use Rattle.lz_machine.proofs.Frames.{Hand.{same_hand, other_hand}, Uses.{inside_range, limbo_same, free_limbo}, ActorTable.{field_stays}}
+use Rattle.lz_machine.proofs.{Frames.OneSlot.{node_grips, same_nodes, slot_turn}, Steps.Hop.{call_at, own}}
 
 module _ (n calls : ℕ) (y : Yard) (callers : List (Option Caller)) (disk : Medium) (M : History) (P : Trace) (notes : Notes) (sound : Sound n calls y callers disk M P notes) (a i k s : ℕ) (is : caller_at callers a ≡ Some (call_at i (Remove k) (Playing (Removing s) 6))) where
   abbrev at : Progress

@@ -1,26 +1,14 @@
 -- A slot that an actor has reserved and not used is given back: what is said of slots, locks and reuse stays.
-use Rattle.std.proofs.Common.{◌≡◌, ◌≢◌, inl, inr, ℕ, ◌≤◌, Bool, true, List, length, Some, None, refl, sym, ap, ◌∙◌, subst, arith, get_or-set_other, get_or-set_same, length-set}
+use Rattle.std.proofs.Common.{◌≡◌, ◌≢◌, inl, inr, ℕ, ◌≤◌, Bool, true, List, length, Some, None, refl, sym, ap, ◌∙◌, subst, arith, get_or-set_other}
+use Rattle.std.proofs.{Common.{get_or-set_same, length-set}, lemmas.{Bool.{cases_eq}, Option.{same_Some, none-some}}}
 use mathlib.Core.Bool.{false≢true}
-use Rattle.std.proofs.lemmas.Bool.{cases_eq}
-use Rattle.std.proofs.lemmas.Option.{same_Some, none-some}
-use Rattle.lz_slot.specs.Counted.{set_of_pass}
-use Rattle.lz_slot.proofs.Counted.{of_pass_same, of_pass_other}
-use Rattle.lz_vault.specs.declared.vault.Stage.{Stage}
-use Rattle.lz_vault.specs.declared.vault.Stage.TheVariants.{Opening, Open, Closing}
-use Rattle.lz_vault.specs.Stages.{Cell, IsFree}
+use Rattle.lz_slot.{specs.Counted.{set_of_pass}, proofs.Counted.{of_pass_same, of_pass_other}}
+use Rattle.lz_vault.specs.{declared.vault.Stage.{Stage, TheVariants.{Opening, Open, Closing}}, Stages.{Cell, IsFree}}
 use Rattle.lz_allot.specs.Uses.{Use, Free, Taken, use_of, give_back}
-use Rattle.lz_list.specs.Locks.{NodeLocks}
-use Rattle.lz_list.specs.Traces.{Trace}
-use Rattle.lz_machine.specs.declared.actor.Actor.{Actor}
-use Rattle.lz_machine.specs.declared.actor.Hold.{Hold}
-use Rattle.lz_machine.specs.Yards.{Shape, idle_actor, actor_in, stage_in}
-use Rattle.lz_machine.specs.Table.{with_slot, is_unused}
-use Rattle.lz_machine.specs.SlotsSound.{is_free, SlotsSound}
-use Rattle.lz_machine.specs.LocksSound.{HasLock, RestsOn, LocksSound}
-use Rattle.lz_machine.specs.Sound.{ReuseSound}
-use Rattle.lz_machine.proofs.Frames.NodeLocks.{held_locks}
-use Rattle.lz_machine.proofs.Frames.Uses.{free_limbo}
-use Rattle.lz_machine.proofs.Frames.OneSlot.{same_nodes, slot_turn}
+use Rattle.lz_list.specs.{Locks.{NodeLocks}, Traces.{Trace}}
+use Rattle.lz_machine.specs.{declared.actor.{Actor.{Actor}, Hold.{Hold}}, Yards.{Shape, idle_actor, actor_in, stage_in}, Table.{with_slot, is_unused}}
+use Rattle.lz_machine.specs.{SlotsSound.{is_free, SlotsSound}, LocksSound.{HasLock, RestsOn, LocksSound}, Sound.{ReuseSound}}
+use Rattle.lz_machine.proofs.Frames.{NodeLocks.{held_locks}, Uses.{free_limbo}, OneSlot.{same_nodes, slot_turn}}
 
 -- a stage that wasn't used has a closed gate
 pub unused_closed : (stage : Stage) → is_unused stage ≡ true → IsFree stage

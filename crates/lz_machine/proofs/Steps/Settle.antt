@@ -1,53 +1,24 @@
 -- Settle keeps the invariant: of an adder, of a remover, and of a call that rests on a node; also where it comes early.
 use Rattle.std.proofs.Common.{◌≡◌, ◌≢◌, ◌⊎◌, inl, inr, ℕ, suc, ◌<◌, Bool, true, false, List, [], ◌∷◌, ◌++◌, Option, Some, refl, sym, ap, ◌∙◌, subst, arith}
+use Rattle.std.proofs.lemmas.{Bool.{cases_Bool}, Option.{same_Some, none-some}}
 use mathlib.Core.Bool.{false≢true}
-use Rattle.std.proofs.lemmas.Bool.{cases_Bool}
-use Rattle.std.proofs.lemmas.Option.{same_Some, none-some}
-use Rattle.lz_slot.specs.declared.command.Command.{Command}
-use Rattle.lz_slot.specs.declared.command.Command.TheVariants.{Add, Remove, Has}
-use Rattle.lz_slot.specs.Histories.{History}
+use Rattle.lz_slot.specs.{declared.command.Command.{Command, TheVariants.{Add, Remove, Has}}, Histories.{History}}
 use Rattle.lz_disk.specs.Images.{Medium}
-use Rattle.lz_vault.specs.declared.vault.Stage.{Stage}
-use Rattle.lz_vault.specs.declared.vault.Stage.TheVariants.{Closed, Open}
-use Rattle.lz_vault.specs.Stages.{is_covered}
-use Rattle.lz_list.specs.declared.publishing.Change.{Change}
-use Rattle.lz_list.specs.declared.publishing.Change.TheVariants.{Added, Removed}
-use Rattle.lz_list.specs.declared.publishing.Publishing.{Publishing}
-use Rattle.lz_list.specs.declared.publishing.Publishing.TheVariants.{Settled as settled}
-use Rattle.lz_list.specs.Traces.{Trace, Begins, IsLoose, on, chain_of, bucket_of, key_word, linking, linking_in, is_settled, is_removed, is_marked, member, SettledNo}
-use Rattle.lz_list.specs.Pinned.{Stood, IsQuiet}
-use Rattle.lz_list.proofs.Traces.NodeBits.{node}
-use Rattle.lz_list.proofs.Traces.Hindsight.{lawful_begins, quiet_begins}
+use Rattle.lz_vault.specs.{declared.vault.Stage.{Stage, TheVariants.{Closed, Open}}, Stages.{is_covered}}
+use Rattle.lz_list.specs.declared.publishing.{Change.{Change, TheVariants.{Added, Removed}}, Publishing.{Publishing, TheVariants.{Settled as settled}}}
+use Rattle.lz_list.specs.Traces.{Trace, Begins, IsLoose, on, chain_of, bucket_of, key_word, linking, linking_in, is_settled, is_removed, is_marked, member}
+use Rattle.lz_list.{specs.{Traces.{SettledNo}, Pinned.{Stood, IsQuiet}}, proofs.Traces.{NodeBits.{node}, Hindsight.{lawful_begins, quiet_begins}}}
 use Rattle.lz_list.proofs.Traces.WalkEnd.{linking_since, marked_rests, unmarked_rests, mark_stays, begins_before}
-use Rattle.lz_machine.specs.declared.event.Event.TheVariants.{Settle}
-use Rattle.lz_machine.specs.declared.event.Outcome.{Outcome}
-use Rattle.lz_machine.specs.declared.event.Outcome.TheVariants.{Done, Early}
-use Rattle.lz_machine.specs.declared.event.Reply.{Reply}
-use Rattle.lz_machine.specs.declared.event.Reply.TheVariants.{Yes, No}
-use Rattle.lz_machine.specs.declared.actor.Hold.{Hold}
-use Rattle.lz_machine.specs.declared.actor.Hold.TheVariants.{Marked}
-use Rattle.lz_machine.specs.declared.caller.Sequence.TheVariants.{Adding, Removing, Resting}
-use Rattle.lz_machine.specs.declared.caller.Progress.{Progress}
-use Rattle.lz_machine.specs.declared.caller.Progress.TheVariants.{Playing, Answering}
-use Rattle.lz_machine.specs.Yards.{Yard, actor_at, cell_at, IsInside, actor_in, pin_in, stage_in}
-use Rattle.lz_machine.specs.Table.{is_sure, settling, yard_done, outcome_of, publishes}
-use Rattle.lz_machine.specs.Calls.{progress_after}
-use Rattle.lz_machine.specs.Runs.{Caller, caller_at, with_words}
+use Rattle.lz_machine.specs.declared.event.{Event.TheVariants.{Settle}, Outcome.{Outcome, TheVariants.{Done, Early}}, Reply.{Reply, TheVariants.{Yes, No}}}
+use Rattle.lz_machine.specs.declared.{actor.Hold.{Hold, TheVariants.{Marked}}, caller.{Sequence.TheVariants.{Adding, Removing, Resting}, Progress.{Progress}}}
+use Rattle.lz_machine.specs.{declared.caller.Progress.TheVariants.{Playing, Answering}, Yards.{Yard, actor_at, cell_at, IsInside, actor_in, pin_in, stage_in}}
+use Rattle.lz_machine.specs.{Table.{is_sure, settling, yard_done, outcome_of, publishes}, Calls.{progress_after}, Runs.{Caller, caller_at, with_words}}
 use Rattle.lz_machine.specs.Notes.{Notes}
 use Rattle.lz_machine.specs.CallersSound.{view_of, Relies, HasAdded, HasMarked, HasMet, MayRest, IsSettledChange, RestsYes, RestsNo, HasLetGo, is_before_pin}
-use Rattle.lz_machine.specs.SlotsSound.{IsNodeStage, IsOnChain, IsGateOpened, IsGateWritten}
-use Rattle.lz_machine.specs.LocksSound.{HasClosed, RestsOn}
-use Rattle.lz_machine.specs.Sound.{Sound}
-use Rattle.lz_machine.proofs.Frames.ChainSlots.{chain_stands}
-use Rattle.lz_machine.proofs.Frames.OneActor.{moving}
-use Rattle.lz_machine.proofs.Ledger.Membership.{upto_begins}
-use Rattle.lz_machine.proofs.Ledger.Growth.{upto_more}
-use Rattle.lz_machine.proofs.Frames.Ranges.{on_range, stood_range, few_slots}
-use Rattle.lz_machine.proofs.Steps.Walk.{GoesOn, once_some}
-use Rattle.lz_machine.proofs.Steps.Hop.{call_at, own, own_inside, goes_on_keeps}
-use Rattle.lz_machine.proofs.Frames.OtherCallers.{held_node}
-use Rattle.lz_machine.proofs.Frames.OtherSettling.{Allows, stored, settled_keeps, stood_stands}
-use Rattle.lz_machine.proofs.Frames.SameYard.{KeepsTail}
+use Rattle.lz_machine.specs.{SlotsSound.{IsNodeStage, IsOnChain, IsGateOpened, IsGateWritten}, LocksSound.{HasClosed, RestsOn}, Sound.{Sound}}
+use Rattle.lz_machine.proofs.Frames.{ChainSlots.{chain_stands}, OneActor.{moving}, Ranges.{on_range, stood_range, few_slots}, OtherCallers.{held_node}}
+use Rattle.lz_machine.proofs.{Frames.{OtherSettling.{Allows, stored, settled_keeps, stood_stands}, SameYard.{KeepsTail}}, Ledger.Membership.{upto_begins}}
+use Rattle.lz_machine.proofs.{Ledger.Growth.{upto_more}, Steps.{Walk.{GoesOn, once_some}, Hop.{call_at, own, own_inside, goes_on_keeps}}}
 
 -- the change that a durable stage of a node settles
 opened_sure : (stage : Stage) → IsGateOpened stage → is_covered stage ≡ true → stage ≡ Open

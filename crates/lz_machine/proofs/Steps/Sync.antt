@@ -1,39 +1,19 @@
 -- A sync, and the death of the vault, keep the invariant.
 use Rattle.std.proofs.Common.{◌≡◌, ◌≢◌, inl, inr, ℕ, suc, Bool, true, false, List, ◌∷◌, map, Option, Some, refl, sym, ap, ◌∙◌, subst, arith}
-use mathlib.Core.Bool.{false≢true}
 use Rattle.std.proofs.lemmas.List.{length-map}
-use Rattle.lz_slot.specs.declared.command.Command.{Command}
-use Rattle.lz_slot.specs.declared.command.Command.TheVariants.{Add, Remove}
-use Rattle.lz_slot.specs.Histories.{History}
+use mathlib.Core.Bool.{false≢true}
+use Rattle.lz_slot.specs.{declared.command.Command.{Command, TheVariants.{Add, Remove}}, Histories.{History}}
 use Rattle.lz_disk.specs.Images.{Medium, synced}
-use Rattle.lz_vault.specs.declared.vault.Stage.{Stage}
-use Rattle.lz_vault.specs.declared.vault.Stage.TheVariants.{Closed, Keyed, Opening, Open, Closing}
-use Rattle.lz_vault.specs.Stages.{Cell, Keeps, stage_synced, cell_synced, is_covered, IsFree}
-use Rattle.lz_vault.specs.Vaults.{SyncAll, medium_after, syncs_after, died}
+use Rattle.lz_vault.specs.declared.vault.Stage.{Stage, TheVariants.{Closed, Keyed, Opening, Open, Closing}}
+use Rattle.lz_vault.specs.{Stages.{Cell, Keeps, stage_synced, cell_synced, is_covered, IsFree}, Vaults.{SyncAll, medium_after, syncs_after, died}}
 use Rattle.lz_vault.proofs.Changes.{from_map, sync_keeps}
-use Rattle.lz_list.specs.declared.walk.Look.TheVariants.{AtHead}
-use Rattle.lz_list.specs.Traces.{Trace}
-use Rattle.lz_machine.specs.declared.event.Event.TheVariants.{Sync}
-use Rattle.lz_machine.specs.declared.event.Outcome.TheVariants.{Done}
-use Rattle.lz_machine.specs.declared.event.Reply.{Reply}
-use Rattle.lz_machine.specs.declared.actor.Actor.{Actor}
-use Rattle.lz_machine.specs.declared.caller.Sequence.TheVariants.{Writing, Adding, Removing, Resting}
-use Rattle.lz_machine.specs.declared.caller.Progress.TheVariants.{Playing, Walking}
-use Rattle.lz_machine.specs.Yards.{Yard, Shape, actor_at, actor_in, pin_in, cell_in, stage_in}
-use Rattle.lz_machine.specs.Table.{is_sure, call_of, with_vault, yard_done}
-use Rattle.lz_machine.specs.Calls.{progress_after}
-use Rattle.lz_machine.specs.Runs.{Caller, caller_at}
-use Rattle.lz_machine.specs.Ledgers.{Row}
-use Rattle.lz_machine.specs.Notes.{Notes, entries}
-use Rattle.lz_machine.specs.SlotsSound.{IsGateOpened, IsGateWritten}
-use Rattle.lz_machine.specs.LedgerSound.{TailsSound}
-use Rattle.lz_machine.specs.CallersSound.{IsKeyed}
-use Rattle.lz_machine.specs.Sound.{Sound}
-use Rattle.lz_machine.proofs.Frames.OneActor.{moving}
-use Rattle.lz_machine.proofs.Frames.Grip.{keeps_itself}
-use Rattle.lz_machine.proofs.Frames.KeptSlots.{KeepsGate, slots_in, slots_turn}
-use Rattle.lz_machine.proofs.Frames.Cells.{KeepsCell, caller_vaulted}
-use Rattle.lz_machine.proofs.Steps.Hop.{call_at, own, goes_on_keeps}
+use Rattle.lz_list.specs.{declared.walk.Look.TheVariants.{AtHead}, Traces.{Trace}}
+use Rattle.lz_machine.specs.declared.{event.{Event.TheVariants.{Sync}, Outcome.TheVariants.{Done}, Reply.{Reply}}, actor.Actor.{Actor}}
+use Rattle.lz_machine.specs.declared.caller.{Sequence.TheVariants.{Writing, Adding, Removing, Resting}, Progress.TheVariants.{Playing, Walking}}
+use Rattle.lz_machine.specs.{Yards.{Yard, Shape, actor_at, actor_in, pin_in, cell_in, stage_in}, Table.{is_sure, call_of, with_vault, yard_done}}
+use Rattle.lz_machine.specs.{Calls.{progress_after}, Runs.{Caller, caller_at}, Ledgers.{Row}, Notes.{Notes, entries}, SlotsSound.{IsGateOpened, IsGateWritten}}
+use Rattle.lz_machine.{specs.{LedgerSound.{TailsSound}, CallersSound.{IsKeyed}, Sound.{Sound}}, proofs.Frames.{OneActor.{moving}, Grip.{keeps_itself}}}
+use Rattle.lz_machine.proofs.{Frames.{KeptSlots.{KeepsGate, slots_in, slots_turn}, Cells.{KeepsCell, caller_vaulted}}, Steps.Hop.{call_at, own, goes_on_keeps}}
 
 -- the cell of a slot after a sync
 pub cell_map : (cells : List Cell) (s : ℕ) → cell_in (map cell_synced cells) s ≡ cell_synced (cell_in cells s)

@@ -1,54 +1,26 @@
 -- A turn of a call that goes on keeps the invariant of an open service, whatever the call plays next.
 use Rattle.std.proofs.Common.{◌≡◌, ◌≢◌, inl, inr, ℕ, zero, suc, ◌≤◌, ◌==◌, Bool, true, false, List, [], length, Option, Some, None, refl, sym, subst, arith}
-use Rattle.std.proofs.lemmas.Bool.Decides.{eqb_tells}
-use Rattle.std.proofs.lemmas.Option.{none-some}
-use Rattle.lz_slot.specs.declared.command.Command.{Command}
-use Rattle.lz_slot.specs.declared.command.Command.TheVariants.{Add, Remove}
-use Rattle.lz_slot.specs.Sets.{Keys, key_of}
-use Rattle.lz_slot.specs.Histories.{History}
+use Rattle.std.proofs.lemmas.{Bool.Decides.{eqb_tells}, Option.{none-some}}
+use Rattle.lz_slot.specs.{declared.command.Command.{Command, TheVariants.{Add, Remove}}, Sets.{Keys, key_of}, Histories.{History}}
 use Rattle.lz_disk.specs.Images.{Medium}
-use Rattle.lz_list.specs.declared.place.Place.{Place}
-use Rattle.lz_list.specs.declared.walk.Look.{Look}
-use Rattle.lz_list.specs.declared.word.Word.TheVariants.{Pin as pin_at, Halt as halt_word_at}
-use Rattle.lz_list.specs.Words.{get, next_at, link_to}
-use Rattle.lz_list.specs.declared.place.Place.TheVariants.{Node}
-use Rattle.lz_list.specs.Walks.{wants}
-use Rattle.lz_list.specs.Traces.{Trace}
-use Rattle.lz_machine.specs.declared.event.Event.TheVariants.{Pin, Hop, Reserve, WriteKey, Claim, Check, WriteOpen, Link, WriteClose, Mark, Release, Settle, Unlink, Retire, SeePin, Halt}
-use Rattle.lz_machine.specs.declared.event.Outcome.TheVariants.{Done, Worn, NotNow}
-use Rattle.lz_machine.specs.declared.event.Reply.{Reply}
-use Rattle.lz_machine.specs.declared.course.Course.TheVariants.{Refused, Plays}
-use Rattle.lz_machine.specs.declared.caller.Sequence.{Sequence}
-use Rattle.lz_machine.specs.declared.caller.Sequence.TheVariants.{Pinning, Resting, Writing, Adding, Removing, Releasing, Halting}
-use Rattle.lz_machine.specs.declared.caller.Progress.{Progress}
+use Rattle.lz_list.specs.declared.{place.Place.{Place, TheVariants.{Node}}, walk.Look.{Look}, word.Word.TheVariants.{Pin as pin_at, Halt as halt_word_at}}
+use Rattle.lz_list.specs.{Words.{get, next_at, link_to}, Walks.{wants}, Traces.{Trace}}
+use Rattle.lz_machine.specs.declared.event.Event.TheVariants.{Pin, Hop, Reserve, WriteKey, Claim, Check, WriteOpen, Link, WriteClose, Mark, Release, Settle}
+use Rattle.lz_machine.specs.declared.event.{Event.TheVariants.{Unlink, Retire, SeePin, Halt}, Outcome.TheVariants.{Done, Worn, NotNow}, Reply.{Reply}}
+use Rattle.lz_machine.specs.declared.{course.Course.TheVariants.{Refused, Plays}, caller.Sequence.{Sequence}}
+use Rattle.lz_machine.specs.declared.caller.{Sequence.TheVariants.{Pinning, Resting, Writing, Adding, Removing, Releasing, Halting}, Progress.{Progress}}
 use Rattle.lz_machine.specs.declared.caller.Progress.TheVariants.{Playing, LoadsHalt, Walking, Reserving, SeeingPins, Claiming, Checking, Answering}
-use Rattle.lz_machine.specs.Yards.{Yard, actor_at}
-use Rattle.lz_machine.specs.Table.{last_pin, node_of, words_after, publishes, yard_done, course_alive, course, line, pin_of}
-use Rattle.lz_machine.specs.Runs.{Caller, caller_at, next_event, reply_at}
-use Rattle.lz_machine.specs.Notes.{Notes, entries}
-use Rattle.lz_machine.specs.CallersSound.{view_of, Relies, ReliesOn, ReliesAdding, ReliesRemoving, ReliesWriting}
-use Rattle.lz_machine.specs.Sound.{UpSound}
-use Rattle.lz_machine.proofs.Frames.OneActor.{moving, caller_range, moved_other, same_entries}
-use Rattle.lz_machine.proofs.Steps.Hop.{call_at, own, hop_keeps, halt_load_keeps}
-use Rattle.lz_machine.proofs.Steps.Claim.{claim_keeps}
-use Rattle.lz_machine.proofs.Steps.Check.{check_keeps}
-use Rattle.lz_machine.proofs.Steps.Release.{release_keeps, linked_release_keeps, unlinked_release_keeps}
-use Rattle.lz_machine.proofs.Steps.Reserve.{see_pin_keeps, reserve_keeps}
-use Rattle.lz_machine.proofs.Steps.Pin.{begins_now, pin_keeps, worn_keeps}
-use Rattle.lz_machine.proofs.Steps.Sync.{sync_written_keeps, sync_added_keeps, sync_marked_keeps, sync_rest_keeps}
-use Rattle.lz_machine.proofs.Steps.Halt.{halt_keeps}
-use Rattle.lz_machine.proofs.Steps.Retire.{retire_keeps}
-use Rattle.lz_machine.proofs.Steps.Unlink.{unlink_keeps, redirect_pins}
-use Rattle.lz_machine.proofs.Ledger.Change.{changes_at}
-use Rattle.lz_machine.proofs.Steps.Mark.{mark_keeps}
-use Rattle.lz_machine.proofs.Steps.Link.{link_keeps}
-use Rattle.lz_machine.proofs.Steps.WriteClose.{write_close_keeps}
-use Rattle.lz_machine.proofs.Steps.WriteKey.{write_key_keeps}
-use Rattle.lz_machine.proofs.Steps.WriteOpen.{write_open_keeps}
-use Rattle.lz_machine.proofs.Steps.Settle.{settle_added_keeps, settle_marked_keeps, settle_rest_keeps}
-use Rattle.lz_machine.proofs.Frames.PinNotes.{noted_same, noted_in}
-use Rattle.lz_machine.proofs.Frames.ChangeNotes.{told_same, told_link, told_mark}
-use Rattle.lz_machine.proofs.Frames.PinOrder.{since_pin, turn_after, adds_change, pin_after}
+use Rattle.lz_machine.specs.{Yards.{Yard, actor_at}, Table.{last_pin, node_of, words_after, publishes, yard_done, course_alive, course, line, pin_of}}
+use Rattle.lz_machine.specs.{Runs.{Caller, caller_at, next_event, reply_at}, Notes.{Notes, entries}}
+use Rattle.lz_machine.specs.{CallersSound.{view_of, Relies, ReliesOn, ReliesAdding, ReliesRemoving, ReliesWriting}, Sound.{UpSound}}
+use Rattle.lz_machine.proofs.Frames.{OneActor.{moving, caller_range, moved_other, same_entries}, PinNotes.{noted_same, noted_in}}
+use Rattle.lz_machine.proofs.Frames.{ChangeNotes.{told_same, told_link, told_mark}, PinOrder.{since_pin, turn_after, adds_change, pin_after}}
+use Rattle.lz_machine.proofs.Steps.{Hop.{call_at, own, hop_keeps, halt_load_keeps}, Claim.{claim_keeps}, Check.{check_keeps}}
+use Rattle.lz_machine.proofs.Steps.{Release.{release_keeps, linked_release_keeps, unlinked_release_keeps}, Reserve.{see_pin_keeps, reserve_keeps}}
+use Rattle.lz_machine.proofs.Steps.{Pin.{begins_now, pin_keeps, worn_keeps}, Sync.{sync_written_keeps, sync_added_keeps, sync_marked_keeps, sync_rest_keeps}}
+use Rattle.lz_machine.proofs.Steps.{Halt.{halt_keeps}, Retire.{retire_keeps}, Unlink.{unlink_keeps, redirect_pins}, Mark.{mark_keeps}, Link.{link_keeps}}
+use Rattle.lz_machine.proofs.Steps.{WriteClose.{write_close_keeps}, WriteKey.{write_key_keeps}, WriteOpen.{write_open_keeps}}
+use Rattle.lz_machine.proofs.{Steps.Settle.{settle_added_keeps, settle_marked_keeps, settle_rest_keeps}, Ledger.Change.{changes_at}}
 use Rattle.lz_machine.proofs.Runs.NextEvent.{since_same, Goes, turned, turned_same, by_course, by_course_too, plays_turn, plays_turn_too, sync_turn}
 
 -- a settling changes no pin

@@ -1,57 +1,25 @@
 -- Unlink keeps the invariant: the node that its remover has marked and settled is taken out.
-use Rattle.std.proofs.Common.{◌≡◌, ◌≢◌, inl, inr, ℕ, suc, ◌<◌, not, true, List, ◌∷◌, ◌++◌, Option, Some, None, refl, sym, ap, ◌∙◌, subst, arith}
-use mathlib.Core.Bool.{false≢true}
-use Rattle.std.specs.Prelude.{unwrap_or}
-use Rattle.std.proofs.lemmas.Bool.{cases_eq}
-use Rattle.std.proofs.lemmas.Bool.Decides.{nat_tests}
-use Rattle.std.proofs.lemmas.Option.{same_Some}
-use Rattle.lz_slot.specs.declared.command.Command.TheVariants.{Add, Remove}
-use Rattle.lz_slot.specs.Counted.{set_of_pass}
-use Rattle.lz_slot.specs.Histories.{History}
-use Rattle.lz_slot.proofs.Counted.{length-set_of_pass}
-use Rattle.lz_disk.specs.Images.{Medium}
-use Rattle.lz_list.specs.declared.place.Place.{Place}
-use Rattle.lz_list.specs.declared.place.Place.TheVariants.{Bucket, Node}
-use Rattle.lz_list.specs.declared.publishing.Publishing.TheVariants.{Unlinked as unlinked}
-use Rattle.lz_list.specs.declared.word.Word.TheVariants.{Key as key_at}
-use Rattle.lz_list.specs.Words.{Words, get, redirect, next_at, place_number}
-use Rattle.lz_list.specs.Traces.{Trace, Lawful, IsLoose, on, chain, chain_of, bucket_of, key_word, is_marked, next_link, node_next}
-use Rattle.lz_list.proofs.Chains.TraceChain.{words_show_chain}
-use Rattle.lz_list.proofs.Traces.NodeBits.{node, one_node, on_without}
-use Rattle.lz_list.proofs.Traces.WalkEnd.{on_without_other}
-use Rattle.lz_list.specs.Locks.{claimed_places}
-use Rattle.lz_machine.specs.declared.event.Event.TheVariants.{Unlink}
-use Rattle.lz_machine.specs.declared.actor.Actor.{Actor}
-use Rattle.lz_machine.specs.declared.actor.Hold.{Hold}
-use Rattle.lz_machine.specs.declared.actor.Hold.TheVariants.{Nothing, Marked, Unlinked, Released}
-use Rattle.lz_machine.specs.declared.caller.Sequence.TheVariants.{Removing}
-use Rattle.lz_machine.specs.declared.caller.Progress.{Progress}
-use Rattle.lz_machine.specs.declared.caller.Progress.TheVariants.{Playing}
-use Rattle.lz_machine.specs.Yards.{Yard, actor_at, actor_in, cell_in}
-use Rattle.lz_machine.specs.Table.{with_hold, node_of, yard_done, publishes}
-use Rattle.lz_machine.specs.Runs.{Caller, caller_at}
-use Rattle.lz_machine.specs.Stands.{FacesNode, IsLeaving, InBucket}
-use Rattle.lz_machine.specs.Notes.{Notes}
-use Rattle.lz_machine.specs.SlotsSound.{opens, IsOut, is_out, IsGone, SlotsSound}
-use Rattle.lz_machine.specs.LocksSound.{has_locks, HasPlace, HasLock, IsRightBefore, HasClosed, RestsOn, LocksSound}
-use Rattle.lz_machine.specs.CallersSound.{Relies, view_of, CallersSound}
-use Rattle.lz_machine.specs.Sound.{ReuseSound, Sound}
-use Rattle.lz_machine.proofs.Frames.ActorTable.{field_stays}
-use Rattle.lz_machine.proofs.Frames.OneActor.{moving, callers_moved, ledger_turn}
-use Rattle.lz_machine.proofs.Frames.ChainSlots.{chain_stands, reuse_published}
-use Rattle.lz_machine.proofs.Frames.NodeLocks.{turned_locks}
-use Rattle.lz_machine.proofs.Frames.OneSlot.{node_grips, slot_turn}
-use Rattle.lz_machine.proofs.Frames.Publishing.{change_stays}
-use Rattle.lz_machine.proofs.Frames.Ranges.{on_range, few_slots}
-use Rattle.lz_machine.proofs.Frames.LoadedWord.{link_next, key_load}
-use Rattle.lz_machine.proofs.Ledger.QuietPublishing.{ledger_published}
-use Rattle.lz_machine.proofs.Frames.OtherCallers.{held_node, caller_stays}
-use Rattle.lz_machine.proofs.Steps.Hop.{call_at, own}
-use Rattle.lz_machine.proofs.Frames.Hand.{same_hand, other_hand}
-use Rattle.lz_machine.proofs.Frames.HeldLocks.{rests_on_pair, pair_published, unlinked_leaves, one_place}
-use Rattle.lz_machine.proofs.Frames.Store.{trace_unlinked}
 use Rattle.lz_machine.proofs.Frames.OtherUnlink as unlinks
-use Rattle.lz_machine.proofs.Frames.SameYard.{in_passes, tail_turn}
+use Rattle.std.proofs.Common.{◌≡◌, ◌≢◌, inl, inr, ℕ, suc, ◌<◌, not, true, List, ◌∷◌, ◌++◌, Option, Some, None, refl, sym, ap, ◌∙◌, subst, arith}
+use Rattle.std.{proofs.lemmas.{Bool.{cases_eq, Decides.{nat_tests}}, Option.{same_Some}}, specs.Prelude.{unwrap_or}}
+use mathlib.Core.Bool.{false≢true}
+use Rattle.lz_slot.{specs.{declared.command.Command.TheVariants.{Add, Remove}, Counted.{set_of_pass}, Histories.{History}}, proofs.Counted.{length-set_of_pass}}
+use Rattle.lz_disk.specs.Images.{Medium}
+use Rattle.lz_list.specs.declared.{place.Place.{Place, TheVariants.{Bucket, Node}}, publishing.Publishing.TheVariants.{Unlinked as unlinked}}
+use Rattle.lz_list.specs.{declared.word.Word.TheVariants.{Key as key_at}, Words.{Words, get, redirect, next_at, place_number}}
+use Rattle.lz_list.specs.{Traces.{Trace, Lawful, IsLoose, on, chain, chain_of, bucket_of, key_word, is_marked, next_link, node_next}, Locks.{claimed_places}}
+use Rattle.lz_list.proofs.{Chains.TraceChain.{words_show_chain}, Traces.{NodeBits.{node, one_node, on_without}, WalkEnd.{on_without_other}}}
+use Rattle.lz_machine.specs.declared.{event.Event.TheVariants.{Unlink}, actor.{Actor.{Actor}, Hold.{Hold, TheVariants.{Nothing, Marked, Unlinked, Released}}}}
+use Rattle.lz_machine.specs.declared.caller.{Sequence.TheVariants.{Removing}, Progress.{Progress, TheVariants.{Playing}}}
+use Rattle.lz_machine.specs.{Yards.{Yard, actor_at, actor_in, cell_in}, Table.{with_hold, node_of, yard_done, publishes}, Runs.{Caller, caller_at}}
+use Rattle.lz_machine.specs.{Stands.{FacesNode, IsLeaving, InBucket}, Notes.{Notes}, SlotsSound.{opens, IsOut, is_out, IsGone, SlotsSound}}
+use Rattle.lz_machine.specs.LocksSound.{has_locks, HasPlace, HasLock, IsRightBefore, HasClosed, RestsOn, LocksSound}
+use Rattle.lz_machine.{specs.{CallersSound.{Relies, view_of, CallersSound}, Sound.{ReuseSound, Sound}}, proofs.Frames.ActorTable.{field_stays}}
+use Rattle.lz_machine.proofs.Frames.{OneActor.{moving, callers_moved, ledger_turn}, ChainSlots.{chain_stands, reuse_published}, NodeLocks.{turned_locks}}
+use Rattle.lz_machine.proofs.Frames.{OneSlot.{node_grips, slot_turn}, Publishing.{change_stays}, Ranges.{on_range, few_slots}, LoadedWord.{link_next, key_load}}
+use Rattle.lz_machine.proofs.Frames.{OtherCallers.{held_node, caller_stays}, Hand.{same_hand, other_hand}}
+use Rattle.lz_machine.proofs.Frames.{HeldLocks.{rests_on_pair, pair_published, unlinked_leaves, one_place}, Store.{trace_unlinked}}
+use Rattle.lz_machine.proofs.{Frames.SameYard.{in_passes, tail_turn}, Ledger.QuietPublishing.{ledger_published}, Steps.Hop.{call_at, own}}
 
 -- an actor that rests on its pair has its locks
 pub resting_locks : (hold : Hold) → rests_on_pair hold ≡ true → has_locks hold ≡ true

@@ -1,39 +1,18 @@
 -- A load on a walk keeps the invariant: what the walk relies on next follows from the word that it loaded.
-use Rattle.std.proofs.Common.{◌≡◌, ◌⊎◌, inl, inr, ℕ, suc, ◌≤◌, if◌then◌else◌, not, Bool, true, false, List, [], ◌∷◌, Option, Some, None, refl, sym, ap, ◌∙◌, arith}
-use Rattle.lz_slot.specs.declared.format.Format.{Format}
-use Rattle.lz_slot.specs.Limits.{most_slots}
-use Rattle.lz_slot.specs.declared.command.Command.{Command}
-use Rattle.lz_slot.specs.declared.command.Command.TheVariants.{Add, Remove, Has}
-use Rattle.lz_slot.specs.Sets.{key_of}
-use Rattle.lz_list.specs.declared.place.Place.{Place}
-use Rattle.lz_list.specs.declared.flags.Flags.{Flags}
-use Rattle.lz_list.specs.declared.walk.Look.{Look}
-use Rattle.lz_list.specs.declared.walk.Met.TheVariants.{Absent, Unmarked, Marked}
-use Rattle.lz_list.specs.Words.{Words, get, place_number, link_to}
-use Rattle.lz_list.specs.Walks.{wants, hopped}
-use Rattle.lz_list.specs.Traces.{Trace, Begins, bucket_of, key_word, is_marked, flags_after, is_removed, linking, SettledNo}
-use Rattle.lz_list.specs.Pinned.{Once, Stood, IsQuiet}
-use Rattle.lz_list.specs.Laws.{IsHigh}
-use Rattle.lz_list.proofs.Traces.Absence.{begins_itself}
-use Rattle.lz_list.proofs.Traces.Hindsight.{absent_since}
-use Rattle.lz_list.proofs.Traces.NodeBits.{node}
+use Rattle.std.proofs.Common.{◌≡◌, ◌⊎◌, inl, inr, ℕ, suc, ◌≤◌, if◌then◌else◌, not, Bool, true, false, List, [], ◌∷◌, Option, Some, None, refl, sym, ap, ◌∙◌}
+use Rattle.std.proofs.Common.{arith}
+use Rattle.lz_slot.specs.{declared.{format.Format.{Format}, command.Command.{Command, TheVariants.{Add, Remove, Has}}}, Limits.{most_slots}, Sets.{key_of}}
+use Rattle.lz_list.specs.declared.{place.Place.{Place}, flags.Flags.{Flags}, walk.{Look.{Look}, Met.TheVariants.{Absent, Unmarked, Marked}}}
+use Rattle.lz_list.specs.{Words.{Words, get, place_number, link_to}, Walks.{wants, hopped}}
+use Rattle.lz_list.specs.{Traces.{Trace, Begins, bucket_of, key_word, is_marked, flags_after, is_removed, linking, SettledNo}, Pinned.{Once, Stood, IsQuiet}}
+use Rattle.lz_list.{specs.Laws.{IsHigh}, proofs.Traces.{Absence.{begins_itself}, Hindsight.{absent_since}, NodeBits.{node}}}
 use Rattle.lz_list.proofs.Traces.WalkEnd.{left_surely, marked_rests, unmarked_rests, removed_later}
-use Rattle.lz_flush.specs.declared.need.Need.{Need}
-use Rattle.lz_flush.specs.declared.need.Need.TheVariants.{Now, Sync as needs_sync}
-use Rattle.lz_flush.specs.Settling.{may_answer}
-use Rattle.lz_machine.specs.declared.event.Reply.{Reply}
-use Rattle.lz_machine.specs.declared.event.Reply.TheVariants.{Yes, No}
-use Rattle.lz_vault.specs.Stages.{Cell}
-use Rattle.lz_machine.specs.declared.actor.Actor.{Actor}
-use Rattle.lz_machine.specs.declared.caller.Progress.{Progress}
-use Rattle.lz_machine.specs.declared.caller.Progress.TheVariants.{Answering}
-use Rattle.lz_machine.specs.Yards.{Shape}
-use Rattle.lz_machine.specs.Calls.{walked, hops_on, rests}
-use Rattle.lz_machine.specs.Stands.{WasBetween}
+use Rattle.lz_flush.specs.{declared.need.Need.{Need, TheVariants.{Now, Sync as needs_sync}}, Settling.{may_answer}}
+use Rattle.lz_machine.specs.declared.{event.Reply.{Reply, TheVariants.{Yes, No}}, actor.Actor.{Actor}, caller.Progress.{Progress, TheVariants.{Answering}}}
+use Rattle.lz_machine.specs.{Yards.{Shape}, Calls.{walked, hops_on, rests}, Stands.{WasBetween}}
 use Rattle.lz_machine.specs.CallersSound.{View, HasLetGo, IsAimed, MayAim, IsLooking, HasMet, RestsYes, RestsNo, WasAbsent, MayRest, Relies, is_before_pin}
-use Rattle.lz_machine.specs.Sound.{TraceSound}
-use Rattle.lz_machine.proofs.Frames.Ranges.{added_tells, removed_tells}
-use Rattle.lz_machine.proofs.Frames.OneLoad.{there_since, loaded, wanted}
+use Rattle.lz_machine.{specs.Sound.{TraceSound}, proofs.Frames.{Ranges.{added_tells, removed_tells}, OneLoad.{there_since, loaded, wanted}}}
+use Rattle.lz_vault.specs.Stages.{Cell}
 
 -- what a call relies on next, inside
 pub record GoesOn (v : View) (c : Command) (next : Progress) (P0 P : Trace) (changed : Option ℕ) : Type 0 where

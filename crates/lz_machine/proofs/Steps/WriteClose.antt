@@ -1,61 +1,24 @@
 -- WriteClose keeps the invariant: the gate of the node that the remover has checked is closed.
-use Rattle.lz_machine.specs.declared.event.Reply.TheVariants.{Device}
-use Rattle.lz_machine.specs.Table.{with_vault}
-use Rattle.lz_machine.specs.Calls.{halts}
-use Rattle.lz_machine.proofs.Frames.Grip.{closer_locks}
-use Rattle.std.proofs.Common.{◌≡◌, ◌≢◌, inl, inr, ℕ, ◌<◌, true, false, List, length, Option, Some, refl, sym, ap, ◌∙◌, subst, arith}
+use Rattle.lz_machine.specs.declared.{event.{Reply.TheVariants.{Device}, Event.TheVariants.{WriteClose}}, actor.{Actor.{Actor}, Hold.{Hold}}}
+use Rattle.lz_machine.specs.declared.{actor.Hold.TheVariants.{Checked, GateClosed}, caller.{Sequence.TheVariants.{Removing}, Progress.{Progress}}}
+use Rattle.lz_machine.specs.{declared.caller.Progress.TheVariants.{Playing}, Table.{with_vault, with_hold, node_of, yard_done, call_of}, Calls.{halts}}
+use Rattle.lz_machine.specs.{Yards.{Yard, actor_at, actor_in, pin_in, cell_in, stage_in}, Runs.{Caller, caller_at}, Notes.{Notes, entries}}
+use Rattle.lz_machine.specs.SlotsSound.{IsGateWritten, opens, unlocks, has_removed_node, IsCloser, IsNodeStage, is_node, SlotsSound, IsGateOpened, closes}
+use Rattle.lz_machine.specs.{SlotsSound.{IsOnChain}, LocksSound.{has_locks, HasPlace, HasLock, IsRightBefore, RestsOn, IsChecked, LocksSound}}
+use Rattle.lz_machine.specs.{CallersSound.{Relies, view_of, CallerSound}, LedgerSound.{may_have_tail, HasTail}, Sound.{Sound, DiskSound}}
+use Rattle.lz_machine.proofs.Frames.{Grip.{closer_locks}, ActorTable.{by_actor, field_stays}, OneActor.{moving, callers_moved, ledger_turn}, Ranges.{on_range}}
+use Rattle.lz_machine.proofs.Frames.{OtherCallers.{held_node}, Hand.{same_hand, other_hand, reuse_turn}, NodeLocks.{held_locks}}
+use Rattle.lz_machine.proofs.Frames.{Cells.{caller_vaulted, cell_same, cell_other, stage_other, cell_stays}, ChainSlots.{chain_stands}}
+use Rattle.lz_machine.proofs.Frames.{OneSlot.{node_grips, same_nodes, slot_turn}, SlotWrite.{closing_done, closing_lost}, BesideKey.{opened_written}}
+use Rattle.lz_machine.proofs.{Frames.SameYard.{in_passes, tail_turn}, Steps.{Hop.{call_at, own}, Unlink.{node_place}}, Ledger.Change.{own_tail}}
+use Rattle.std.proofs.Common.{◌≡◌, ◌≢◌, inl, inr, ℕ, ◌<◌, true, false, List, length, Option, Some, refl, sym, ap, ◌∙◌, subst, arith, Bool}
+use Rattle.std.{proofs.lemmas.Bool.{cases_eq}, specs.Prelude.{unwrap_or, slice_set}}
 use mathlib.Core.Bool.{false≢true}
-use Rattle.std.specs.Prelude.{unwrap_or}
-use Rattle.std.proofs.lemmas.Bool.{cases_eq}
-use Rattle.lz_slot.specs.declared.command.Command.TheVariants.{Add, Remove}
-use Rattle.lz_slot.specs.Counted.{set_of_pass}
-use Rattle.lz_slot.specs.Histories.{History}
-use Rattle.lz_slot.proofs.Counted.{length-set_of_pass}
+use Rattle.lz_slot.{specs.{declared.command.Command.TheVariants.{Add, Remove}, Counted.{set_of_pass}, Histories.{History}}, proofs.Counted.{length-set_of_pass}}
 use Rattle.lz_disk.specs.Images.{Medium}
-use Rattle.lz_list.specs.declared.place.Place.{Place}
-use Rattle.lz_list.specs.declared.place.Place.TheVariants.{Node}
-use Rattle.lz_list.specs.Traces.{Trace, IsLoose, bucket_of, key_word, is_marked}
-use Rattle.lz_list.specs.Locks.{claimed_places}
-use Rattle.lz_machine.specs.declared.event.Event.TheVariants.{WriteClose}
-use Rattle.lz_machine.specs.declared.actor.Actor.{Actor}
-use Rattle.lz_machine.specs.declared.actor.Hold.{Hold}
-use Rattle.lz_machine.specs.declared.actor.Hold.TheVariants.{Checked, GateClosed}
-use Rattle.lz_machine.specs.declared.caller.Sequence.TheVariants.{Removing}
-use Rattle.lz_machine.specs.declared.caller.Progress.{Progress}
-use Rattle.lz_machine.specs.declared.caller.Progress.TheVariants.{Playing}
-use Rattle.lz_machine.specs.Yards.{Yard, actor_at, actor_in, pin_in, cell_in, stage_in}
-use Rattle.lz_machine.specs.Table.{with_hold, node_of, yard_done}
-use Rattle.lz_machine.specs.Runs.{Caller, caller_at}
-use Rattle.lz_machine.specs.Notes.{Notes, entries}
-use Rattle.lz_machine.specs.SlotsSound.{IsGateWritten, opens, unlocks, has_removed_node, IsCloser, IsNodeStage, is_node, SlotsSound, IsGateOpened, closes, IsOnChain}
-use Rattle.lz_machine.specs.LocksSound.{has_locks, HasPlace, HasLock, IsRightBefore, RestsOn, IsChecked, LocksSound}
-use Rattle.lz_machine.specs.CallersSound.{Relies, view_of, CallerSound}
-use Rattle.lz_machine.specs.LedgerSound.{may_have_tail, HasTail}
-use Rattle.lz_machine.specs.Sound.{Sound}
-use Rattle.lz_machine.proofs.Frames.ActorTable.{by_actor, field_stays}
-use Rattle.lz_machine.proofs.Frames.OneActor.{moving, callers_moved, ledger_turn}
-use Rattle.lz_machine.proofs.Frames.Ranges.{on_range}
-use Rattle.lz_machine.proofs.Frames.OtherCallers.{held_node}
-use Rattle.lz_machine.proofs.Steps.Hop.{call_at, own}
-use Rattle.lz_machine.proofs.Frames.Hand.{same_hand, other_hand}
-use Rattle.lz_machine.proofs.Steps.Unlink.{node_place}
-use Rattle.std.specs.Prelude.{slice_set}
-use Rattle.std.proofs.Common.{Bool}
-use Rattle.lz_vault.specs.declared.vault.Stage.{Stage}
-use Rattle.lz_vault.specs.declared.vault.Stage.TheVariants.{Closed, Opening, Closing}
-use Rattle.lz_vault.specs.Stages.{Cell, IsOpened}
+use Rattle.lz_list.specs.{declared.place.Place.{Place, TheVariants.{Node}}, Traces.{Trace, IsLoose, bucket_of, key_word, is_marked}, Locks.{claimed_places}}
+use Rattle.lz_vault.specs.{declared.vault.Stage.{Stage, TheVariants.{Closed, Opening, Closing}}, Stages.{Cell, IsOpened}}
 use Rattle.lz_vault.specs.Vaults.{Vaulted, MayFail, medium_after, closing_call}
-use Rattle.lz_machine.specs.Table.{call_of}
-use Rattle.lz_machine.specs.Sound.{DiskSound}
-use Rattle.lz_machine.proofs.Frames.NodeLocks.{held_locks}
-use Rattle.lz_machine.proofs.Frames.Hand.{reuse_turn}
-use Rattle.lz_machine.proofs.Frames.Cells.{caller_vaulted, cell_same, cell_other, stage_other, cell_stays}
-use Rattle.lz_machine.proofs.Frames.ChainSlots.{chain_stands}
-use Rattle.lz_machine.proofs.Frames.OneSlot.{node_grips, same_nodes, slot_turn}
-use Rattle.lz_machine.proofs.Frames.SlotWrite.{closing_done, closing_lost}
-use Rattle.lz_machine.proofs.Ledger.Change.{own_tail}
-use Rattle.lz_machine.proofs.Frames.BesideKey.{opened_written}
-use Rattle.lz_machine.proofs.Frames.SameYard.{in_passes, tail_turn}
 
 -- the node that an actor has checked in a vault that lives has its gate open: nobody else has locked it
 module _ (n calls : ℕ) (y : Yard) (callers : List (Option Caller)) (disk : Medium) (M : History) (P : Trace) (notes : Notes) (sound : Sound n calls y callers disk M P notes) (a s : ℕ) (hold : (actor_in y.actors a).hold ≡ Checked) (alive : y.vault.dead ≡ false) (is : (actor_in y.actors a).curr ≡ Some s) where

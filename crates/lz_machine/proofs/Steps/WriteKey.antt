@@ -1,54 +1,24 @@
 -- WriteKey keeps the invariant: the adder's key is put into the slot that it has reserved.
 use Rattle.std.proofs.Common.{◌≡◌, ◌≢◌, inl, inr, ℕ, suc, ◌<◌, ◌≤◌, ◌==◌, Bool, true, false, List, ◌∷◌, ◌++◌, Option, Some, refl, sym, ap, ◌∙◌, subst, arith}
+use Rattle.std.{proofs.lemmas.Bool.Decides.{nat_tests}, specs.Prelude.{slice_set, unwrap_or}}
 use mathlib.Core.Bool.{false≢true}
-use Rattle.std.specs.Prelude.{slice_set, unwrap_or}
-use Rattle.std.proofs.lemmas.Bool.Decides.{nat_tests}
-use Rattle.lz_slot.specs.Rooms.{largest_of}
-use Rattle.lz_slot.specs.declared.command.Command.{Command}
-use Rattle.lz_slot.specs.declared.command.Command.TheVariants.{Add, Remove}
-use Rattle.lz_slot.specs.Sets.{key_of}
-use Rattle.lz_slot.specs.Histories.{History}
+use Rattle.lz_slot.specs.{Rooms.{largest_of}, declared.command.Command.{Command, TheVariants.{Add, Remove}}, Sets.{key_of}, Histories.{History}}
 use Rattle.lz_disk.specs.Images.{Medium}
-use Rattle.lz_vault.specs.declared.vault.Stage.{Stage}
-use Rattle.lz_vault.specs.declared.vault.Stage.TheVariants.{Closed, Opening}
-use Rattle.lz_vault.specs.Stages.{Cell, IsFree, stage_put}
+use Rattle.lz_vault.specs.{declared.vault.Stage.{Stage, TheVariants.{Closed, Opening}}, Stages.{Cell, IsFree, stage_put}}
 use Rattle.lz_vault.specs.Vaults.{Vaulted, MayFail, key_call, medium_after}
-use Rattle.lz_list.specs.declared.publishing.Publishing.TheVariants.{KeyPrepared as key_prepared}
-use Rattle.lz_list.specs.declared.word.Word.TheVariants.{Key as key_at}
-use Rattle.lz_list.specs.Words.{set}
+use Rattle.lz_list.specs.{declared.{publishing.Publishing.TheVariants.{KeyPrepared as key_prepared}, word.Word.TheVariants.{Key as key_at}}, Words.{set}}
 use Rattle.lz_list.specs.Traces.{Trace, Lawful, IsLoose, on, chain_of, bucket_of, key_word}
-use Rattle.lz_machine.specs.declared.event.Event.TheVariants.{WriteKey}
-use Rattle.lz_machine.specs.declared.event.Reply.TheVariants.{Device}
-use Rattle.lz_machine.specs.declared.actor.Hold.{Hold}
-use Rattle.lz_machine.specs.declared.caller.Sequence.TheVariants.{Writing}
-use Rattle.lz_machine.specs.declared.caller.Progress.{Progress}
-use Rattle.lz_machine.specs.declared.caller.Progress.TheVariants.{Playing}
+use Rattle.lz_machine.specs.declared.{event.{Event.TheVariants.{WriteKey}, Reply.TheVariants.{Device}}, actor.Hold.{Hold}}
+use Rattle.lz_machine.specs.declared.caller.{Sequence.TheVariants.{Writing}, Progress.{Progress, TheVariants.{Playing}}}
 use Rattle.lz_machine.specs.Yards.{Yard, actor_at, actor_in, pin_in, cell_in, stage_in}
-use Rattle.lz_machine.specs.Table.{with_vault, call_of, cells_after, slot_of, yard_done, publishes}
-use Rattle.lz_machine.specs.Calls.{halts}
-use Rattle.lz_machine.specs.Runs.{Caller, caller_at}
-use Rattle.lz_machine.specs.Notes.{Notes, entries}
-use Rattle.lz_machine.specs.SlotsSound.{opens, shuts, unlocks, IsGateOpened, IsGateWritten, IsHandStage, SlotsSound}
-use Rattle.lz_machine.specs.LocksSound.{RestsOn, LocksSound}
-use Rattle.lz_machine.specs.CallersSound.{IsKeyed, Relies, view_of, CallerSound, CallersSound}
-use Rattle.lz_machine.specs.LedgerSound.{HasTail}
-use Rattle.lz_machine.specs.Sound.{DiskSound, ReuseSound, Sound}
-use Rattle.lz_machine.proofs.Frames.ActorTable.{by_actor}
-use Rattle.lz_machine.proofs.Frames.OneActor.{moving}
-use Rattle.lz_machine.proofs.Frames.ChainSlots.{reuse_published}
-use Rattle.lz_machine.proofs.Frames.OneSlot.{same_nodes, prepared_slots}
-use Rattle.lz_machine.proofs.Frames.Publishing.{shut_relies}
-use Rattle.lz_machine.proofs.Ledger.QuietPublishing.{ledger_published}
-use Rattle.lz_machine.proofs.Frames.Store.{trace_key}
-use Rattle.lz_machine.proofs.Frames.OtherCallers.{held_node, caller_stays}
-use Rattle.lz_machine.proofs.Frames.HeldLocks.{key_leaves}
-use Rattle.lz_machine.proofs.Steps.Hop.{call_at, own, goes_on_keeps}
-use Rattle.lz_machine.proofs.Frames.FittingKeys.{adds_fitting}
-use Rattle.lz_machine.proofs.Frames.Cells.{caller_vaulted, cell_same, cell_other, stage_other, cell_stays}
-use Rattle.lz_machine.proofs.Frames.PreparedSlot.{rests_prepared}
-use Rattle.lz_machine.proofs.Frames.SlotWrite.{key_done, key_failed, key_syncs, put_free, put_keyed}
-use Rattle.lz_machine.proofs.Frames.BesideKey.{opened_shut}
-use Rattle.lz_machine.proofs.Frames.Ranges.{few_slots}
+use Rattle.lz_machine.specs.{Table.{with_vault, call_of, cells_after, slot_of, yard_done, publishes}, Calls.{halts}, Runs.{Caller, caller_at}}
+use Rattle.lz_machine.specs.{Notes.{Notes, entries}, SlotsSound.{opens, shuts, unlocks, IsGateOpened, IsGateWritten, IsHandStage, SlotsSound}}
+use Rattle.lz_machine.specs.{LocksSound.{RestsOn, LocksSound}, CallersSound.{IsKeyed, Relies, view_of, CallerSound, CallersSound}, LedgerSound.{HasTail}}
+use Rattle.lz_machine.{specs.Sound.{DiskSound, ReuseSound, Sound}, proofs.Frames.{ActorTable.{by_actor}, OneActor.{moving}, ChainSlots.{reuse_published}}}
+use Rattle.lz_machine.proofs.Frames.{OneSlot.{same_nodes, prepared_slots}, Publishing.{shut_relies}, Store.{trace_key}, OtherCallers.{held_node, caller_stays}}
+use Rattle.lz_machine.proofs.Frames.{HeldLocks.{key_leaves}, FittingKeys.{adds_fitting}, Cells.{caller_vaulted, cell_same, cell_other, stage_other, cell_stays}}
+use Rattle.lz_machine.proofs.Frames.{PreparedSlot.{rests_prepared}, SlotWrite.{key_done, key_failed, key_syncs, put_free, put_keyed}, BesideKey.{opened_shut}}
+use Rattle.lz_machine.proofs.{Frames.Ranges.{few_slots}, Ledger.QuietPublishing.{ledger_published}, Steps.Hop.{call_at, own, goes_on_keeps}}
 
 module _ (n calls : ℕ) (y : Yard) (callers : List (Option Caller)) (disk : Medium) (M : History) (P : Trace) (notes : Notes) (sound : Sound n calls y callers disk M P notes) (a i : ℕ) (c : Command) (s : ℕ) (is : caller_at callers a ≡ Some (call_at i c (Playing (Writing s) 0))) where
   abbrev at : Progress

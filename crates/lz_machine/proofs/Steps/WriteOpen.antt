@@ -1,36 +1,16 @@
 -- WriteOpen keeps the invariant: the gate of the slot that the adder will link is opened.
-use Rattle.std.proofs.Common.{◌≡◌, ◌≢◌, ℕ, Bool, false, List, ◌∷◌, ◌++◌, Option, Some, refl, sym, ap, subst}
-use Rattle.std.specs.Prelude.{slice_set, unwrap_or}
-use Rattle.lz_slot.specs.declared.command.Command.TheVariants.{Add}
-use Rattle.lz_slot.specs.Counted.{set_of_pass}
-use Rattle.lz_slot.specs.Histories.{History}
-use Rattle.lz_slot.proofs.Counted.{length-set_of_pass}
+use Rattle.std.{proofs.Common.{◌≡◌, ◌≢◌, ℕ, Bool, false, List, ◌∷◌, ◌++◌, Option, Some, refl, sym, ap, subst}, specs.Prelude.{slice_set, unwrap_or}}
+use Rattle.lz_slot.{specs.{declared.command.Command.TheVariants.{Add}, Counted.{set_of_pass}, Histories.{History}}, proofs.Counted.{length-set_of_pass}}
 use Rattle.lz_disk.specs.Images.{Medium}
-use Rattle.lz_vault.specs.declared.vault.Stage.TheVariants.{Opening}
-use Rattle.lz_vault.specs.Stages.{Cell}
-use Rattle.lz_vault.specs.Vaults.{Vaulted, medium_after, opening_call}
-use Rattle.lz_list.specs.declared.publishing.Publishing.TheVariants.{LinkPrepared as link_prepared}
-use Rattle.lz_list.specs.declared.word.Word.TheVariants.{Link as link_at}
-use Rattle.lz_list.specs.Words.{set, link_to}
-use Rattle.lz_list.specs.Traces.{Trace}
-use Rattle.lz_machine.specs.declared.event.Event.TheVariants.{WriteOpen}
-use Rattle.lz_machine.specs.declared.actor.Actor.{Actor}
-use Rattle.lz_machine.specs.declared.actor.Hold.TheVariants.{GateOpened}
-use Rattle.lz_machine.specs.declared.caller.Sequence.TheVariants.{Adding}
-use Rattle.lz_machine.specs.declared.caller.Progress.TheVariants.{Playing}
-use Rattle.lz_machine.specs.Yards.{Yard, actor_at, actor_in, pin_in, cell_in}
-use Rattle.lz_machine.specs.Table.{with_hold, call_of, slot_of, yard_done, publishes}
-use Rattle.lz_machine.specs.Runs.{Caller, caller_at}
-use Rattle.lz_machine.specs.Notes.{Notes}
-use Rattle.lz_machine.specs.LocksSound.{has_locks, HasLock, RestsOn, LocksSound}
-use Rattle.lz_machine.specs.CallersSound.{Relies, view_of, CallerSound}
-use Rattle.lz_machine.specs.Sound.{DiskSound, Sound}
-use Rattle.lz_machine.proofs.Frames.SlotWrite.{opening_done}
-use Rattle.lz_machine.proofs.Frames.OneActor.{moving}
-use Rattle.lz_machine.proofs.Frames.Hand.{same_hand, other_hand}
-use Rattle.lz_machine.proofs.Steps.Hop.{call_at, own}
-use Rattle.lz_machine.proofs.Frames.NodeLocks.{held_locks}
-use Rattle.lz_machine.proofs.Frames.OpenedGate.{beside_published, h, lt, open_sound, published_sound, ready_published}
+use Rattle.lz_vault.specs.{declared.vault.Stage.TheVariants.{Opening}, Stages.{Cell}, Vaults.{Vaulted, medium_after, opening_call}}
+use Rattle.lz_list.specs.declared.{publishing.Publishing.TheVariants.{LinkPrepared as link_prepared}, word.Word.TheVariants.{Link as link_at}}
+use Rattle.lz_list.specs.{Words.{set, link_to}, Traces.{Trace}}
+use Rattle.lz_machine.specs.declared.{event.Event.TheVariants.{WriteOpen}, actor.{Actor.{Actor}, Hold.TheVariants.{GateOpened}}}
+use Rattle.lz_machine.specs.{declared.caller.{Sequence.TheVariants.{Adding}, Progress.TheVariants.{Playing}}, Yards.{Yard, actor_at, actor_in, pin_in, cell_in}}
+use Rattle.lz_machine.specs.{Table.{with_hold, call_of, slot_of, yard_done, publishes}, Runs.{Caller, caller_at}, Notes.{Notes}}
+use Rattle.lz_machine.specs.{LocksSound.{has_locks, HasLock, RestsOn, LocksSound}, CallersSound.{Relies, view_of, CallerSound}, Sound.{DiskSound, Sound}}
+use Rattle.lz_machine.proofs.Frames.{SlotWrite.{opening_done}, OneActor.{moving}, Hand.{same_hand, other_hand}, NodeLocks.{held_locks}}
+use Rattle.lz_machine.proofs.{Frames.OpenedGate.{beside_published, h, lt, open_sound, published_sound, ready_published}, Steps.Hop.{call_at, own}}
 
 module _ (n calls : ℕ) (y : Yard) (callers : List (Option Caller)) (disk : Medium) (M : History) (P : Trace) (notes : Notes) (sound : Sound n calls y callers disk M P notes) (a i k s : ℕ) (is : caller_at callers a ≡ Some (call_at i (Add k) (Playing (Adding s) 0))) (alive : y.vault.dead ≡ false) where
   abbrev x : Actor

@@ -1,38 +1,18 @@
 -- Between its calls an actor's pin word is even, where no look is half done; a step that is no look leaves it so.
 use Rattle.std.proofs.Common.{◌≡◌, ◌≢◌, IsTrue, IsNone, ℕ, ◌≤◌, ◌%◌, Bool, true, false, List, length, Option, Some, None, refl, sym, ap, subst, arith}
 use mathlib.Core.Bool.{false≢true}
-use Rattle.lz_slot.specs.declared.command.Command.{Command}
-use Rattle.lz_slot.specs.Counted.{set_of_pass}
-use Rattle.lz_slot.specs.Histories.{History}
-use Rattle.lz_slot.proofs.Counted.{of_pass_same, of_pass_other}
+use Rattle.lz_slot.{specs.{declared.command.Command.{Command}, Counted.{set_of_pass}, Histories.{History}}, proofs.Counted.{of_pass_same, of_pass_other}}
 use Rattle.lz_disk.specs.Images.{Medium}
 use Rattle.lz_allot.specs.Uses.{is_outside}
 use Rattle.lz_list.specs.Traces.{Trace}
-use Rattle.lz_machine.specs.declared.course.Course.{Course}
-use Rattle.lz_machine.specs.declared.course.Course.TheVariants.{Plays}
-use Rattle.lz_machine.specs.declared.event.Event.{Event}
-use Rattle.lz_machine.specs.declared.event.Event.TheVariants.{Answer}
-use Rattle.lz_machine.specs.declared.event.Outcome.{Outcome}
-use Rattle.lz_machine.specs.declared.event.Outcome.TheVariants.{NotNow, Fault}
-use Rattle.lz_machine.specs.declared.event.Reply.{Reply}
-use Rattle.lz_machine.specs.declared.caller.Progress.{Progress}
-use Rattle.lz_machine.specs.declared.caller.Progress.TheVariants.{Answering}
-use Rattle.lz_machine.specs.Yards.{Shape, Yard, actor_at}
-use Rattle.lz_machine.specs.Table.{pin_of, course, line_on, line}
-use Rattle.lz_machine.specs.Calls.{progress_after}
-use Rattle.lz_machine.specs.Points.{IsBetweenLooks, IsReached}
-use Rattle.lz_machine.specs.Runs.{Start, State, Up, Down, Point, Transition, Calls, Turn, Fails, Looks, Trips, Stops, Crashes, Opens, OpenFails, Service, Caller, caller_at, next_event, reply_at, moved_on, state_after, after_turn, after_fault, HasTurn, HasFault, MayStep, invoked}
-use Rattle.lz_machine.specs.Notes.{Notes}
-use Rattle.lz_machine.specs.Sound.{Sound, IsSound}
-use Rattle.lz_machine.proofs.Steps.Hop.{call_at}
-use Rattle.lz_machine.proofs.Frames.ActorTable.{by_actor}
-use Rattle.lz_machine.proofs.Frames.OneActor.{caller_range}
-use Rattle.lz_machine.proofs.Frames.Outside.{answered_pin, answered_even, outside_even}
-use Rattle.lz_machine.proofs.Open.FoundSlots.{pass_of}
-use Rattle.lz_machine.proofs.Runs.CallerTable.{fault_no_reply}
-use Rattle.lz_machine.proofs.Runs.Course.{answer_plays}
-use Rattle.lz_machine.proofs.Alone.Frame.{pins_other}
-use Rattle.lz_machine.proofs.Theorem.Reached.{reached_sound, up_at}
+use Rattle.lz_machine.specs.declared.{course.Course.{Course, TheVariants.{Plays}}, event.{Event.{Event, TheVariants.{Answer}}, Outcome.{Outcome}}}
+use Rattle.lz_machine.specs.declared.{event.{Outcome.TheVariants.{NotNow, Fault}, Reply.{Reply}}, caller.Progress.{Progress, TheVariants.{Answering}}}
+use Rattle.lz_machine.specs.{Yards.{Shape, Yard, actor_at}, Table.{pin_of, course, line_on, line}, Calls.{progress_after}, Points.{IsBetweenLooks, IsReached}}
+use Rattle.lz_machine.specs.Runs.{Start, State, Up, Down, Point, Transition, Calls, Turn, Fails, Looks, Trips, Stops, Crashes, Opens, OpenFails, Service}
+use Rattle.lz_machine.specs.Runs.{Caller, caller_at, next_event, reply_at, moved_on, state_after, after_turn, after_fault, HasTurn, HasFault, MayStep, invoked}
+use Rattle.lz_machine.{specs.{Notes.{Notes}, Sound.{Sound, IsSound}}, proofs.{Steps.Hop.{call_at}, Frames.{ActorTable.{by_actor}, OneActor.{caller_range}}}}
+use Rattle.lz_machine.proofs.{Frames.Outside.{answered_pin, answered_even, outside_even}, Open.FoundSlots.{pass_of}, Runs.CallerTable.{fault_no_reply}}
+use Rattle.lz_machine.proofs.{Runs.Course.{answer_plays}, Alone.Frame.{pins_other}, Theorem.Reached.{reached_sound, up_at}}
 
 abbrev pub is_look : Transition → Bool
 is_look (Looks a) = true

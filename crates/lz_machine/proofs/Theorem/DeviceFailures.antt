@@ -1,36 +1,20 @@
 -- A vault is dead after the first device call that fails, and makes no other: so in each life one call at most is told of it.
-use Rattle.std.proofs.Common.{◌≡◌, ◌≢◌, ℕ, zero, suc, ◌+◌, ◌-◌, ◌<◌, ◌≤◌, Bool, true, false, List, [], ◌∷◌, ◌++◌, length, slice_set, Option, Some, None, refl, sym, ap, ◌∙◌, subst, arith}
-use Rattle.std.specs.Prelude.{if◌then◌else◌, replicate, slice_index_or}
+use Rattle.std.proofs.Common.{◌≡◌, ◌≢◌, ℕ, zero, suc, ◌+◌, ◌-◌, ◌<◌, ◌≤◌, Bool, true, false, List, [], ◌∷◌, ◌++◌, length, slice_set, Option, Some, None, refl}
+use Rattle.std.{proofs.{Common.{sym, ap, ◌∙◌, subst, arith}, lemmas.Bool.{cases_Bool}}, specs.Prelude.{if◌then◌else◌, replicate, slice_index_or}}
 use mathlib.Core.Bool.{false≢true}
-use Rattle.std.proofs.lemmas.Bool.{cases_Bool}
-use Rattle.lz_slot.specs.declared.command.Command.{Command}
-use Rattle.lz_slot.specs.Counted.{set_of_pass}
-use Rattle.lz_slot.specs.Histories.{History}
+use Rattle.lz_slot.specs.{declared.command.Command.{Command}, Counted.{set_of_pass}, Histories.{History}}
 use Rattle.lz_disk.specs.Images.{Medium}
 use Rattle.lz_vault.specs.Vaults.{MayFail, NoCall}
-use Rattle.lz_machine.specs.declared.course.Course.{Course}
-use Rattle.lz_machine.specs.declared.course.Course.TheVariants.{Dies}
-use Rattle.lz_machine.specs.declared.event.Event.{Event}
-use Rattle.lz_machine.specs.declared.event.Outcome.{Outcome}
-use Rattle.lz_machine.specs.declared.event.Outcome.TheVariants.{Fault}
-use Rattle.lz_machine.specs.declared.event.Reply.{Reply}
-use Rattle.lz_machine.specs.declared.event.Reply.TheVariants.{Yes, OldFile as SaysOldFile, Device}
-use Rattle.lz_machine.specs.declared.caller.Sequence.{Sequence}
-use Rattle.lz_machine.specs.declared.caller.Sequence.TheVariants.{Resting, Halting}
-use Rattle.lz_machine.specs.declared.caller.Progress.{Progress}
-use Rattle.lz_machine.specs.declared.caller.Progress.TheVariants.{Playing, Answering}
-use Rattle.lz_machine.specs.Yards.{Shape, Yard, actor_at}
-use Rattle.lz_machine.specs.Table.{course, is_old, line, line_call, line_failed, line_on}
-use Rattle.lz_machine.specs.Calls.{goes_on, first_progress, begun, progress_after}
-use Rattle.lz_machine.specs.Runs.{Caller, Service, State, Up, Down, Start, Point, Transition, Calls, Turn, Fails, Looks, Trips, Stops, Crashes, Opens, OpenFails, caller_at, next_event, reply_at, moved_on, state_after, HasTurn, HasFault, MayStep, mark_of, mark_of_turn, marks_of_turn, marks_of, after_turn, after_fault, run, IsRun, first_point}
-use Rattle.lz_machine.specs.Halts.{FailsOnce, calls_due, device_due, device_reply, due_in, failed_in, reply_due, told_device}
-use Rattle.lz_machine.proofs.Alone.Halt.{replies}
-use Rattle.lz_machine.proofs.Frames.OneActor.{caller_range}
-use Rattle.lz_machine.proofs.Runs.CallerTable.{fault_no_reply}
-use Rattle.lz_machine.proofs.Runs.FlowChart.{Edge, fails, again, back, on, past, next_edge}
-use Rattle.lz_machine.proofs.Runs.Course.{each_course}
-use Rattle.lz_machine.proofs.Runs.Outcomes.{no_fault}
-use Rattle.lz_machine.proofs.Theorem.Marks.{Tells, run_tells}
+use Rattle.lz_machine.specs.declared.{course.Course.{Course, TheVariants.{Dies}}, event.{Event.{Event}, Outcome.{Outcome, TheVariants.{Fault}}, Reply.{Reply}}}
+use Rattle.lz_machine.specs.declared.{event.Reply.TheVariants.{Yes, OldFile as SaysOldFile, Device}, caller.Sequence.{Sequence, TheVariants.{Resting, Halting}}}
+use Rattle.lz_machine.specs.{declared.caller.Progress.{Progress, TheVariants.{Playing, Answering}}, Yards.{Shape, Yard, actor_at}}
+use Rattle.lz_machine.specs.{Table.{course, is_old, line, line_call, line_failed, line_on}, Calls.{goes_on, first_progress, begun, progress_after}}
+use Rattle.lz_machine.specs.Runs.{Caller, Service, State, Up, Down, Start, Point, Transition, Calls, Turn, Fails, Looks, Trips, Stops, Crashes, Opens}
+use Rattle.lz_machine.specs.Runs.{OpenFails, caller_at, next_event, reply_at, moved_on, state_after, HasTurn, HasFault, MayStep, mark_of, mark_of_turn}
+use Rattle.lz_machine.specs.Runs.{marks_of_turn, marks_of, after_turn, after_fault, run, IsRun, first_point}
+use Rattle.lz_machine.{specs.Halts.{FailsOnce, calls_due, device_due, device_reply, due_in, failed_in, reply_due, told_device}, proofs.Alone.Halt.{replies}}
+use Rattle.lz_machine.proofs.{Frames.OneActor.{caller_range}, Runs.{CallerTable.{fault_no_reply}, FlowChart.{Edge, fails, again, back, on, past, next_edge}}}
+use Rattle.lz_machine.proofs.{Runs.{Course.{each_course}, Outcomes.{no_fault}}, Theorem.Marks.{Tells, run_tells}}
 
 -- a dead vault makes no device call
 dead_calls : (y : Yard) (a : ℕ) (e : Event) → y.vault.dead ≡ true → line_call y a e ≡ NoCall

@@ -1,50 +1,25 @@
 -- What an event of a call needs it has, and its caller may take what it gives.
-use Rattle.std.proofs.Common.{◌≡◌, ◌≢◌, ℕ, zero, suc, ◌<◌, ◌≤◌, ◌%◌, ◌==◌, not, ◌&&◌, ◌||◌, Bool, true, false, List, Option, Some, is_some, refl, sym, ap, ◌∙◌, subst, arith}
+use Rattle.std.proofs.Common.{◌≡◌, ◌≢◌, ℕ, zero, suc, ◌<◌, ◌≤◌, ◌%◌, ◌==◌, not, ◌&&◌, ◌||◌, Bool, true, false, List, Option, Some, is_some, refl, sym, ap, ◌∙◌}
+use Rattle.std.{proofs.Common.{subst, arith}, specs.Prelude.{unwrap_or}}
 use mathlib.Core.Bool.{false≢true}
-use Rattle.std.specs.Prelude.{unwrap_or}
-use Rattle.lz_slot.specs.declared.command.Command.{Command}
-use Rattle.lz_slot.specs.declared.command.Command.TheVariants.{Add, Remove, Has}
-use Rattle.lz_slot.specs.Limits.{most_slots}
-use Rattle.lz_slot.specs.Sets.{key_of}
-use Rattle.lz_slot.specs.Histories.{History}
+use Rattle.lz_slot.specs.{declared.command.Command.{Command, TheVariants.{Add, Remove, Has}}, Limits.{most_slots}, Sets.{key_of}, Histories.{History}}
 use Rattle.lz_disk.specs.Images.{Medium}
 use Rattle.lz_vault.specs.declared.vault.Stage.TheVariants.{Keyed}
 use Rattle.lz_allot.specs.Uses.{is_outside}
-use Rattle.lz_list.specs.declared.place.Place.TheVariants.{Node}
-use Rattle.lz_list.specs.declared.walk.Look.{Look}
-use Rattle.lz_list.specs.declared.walk.Look.TheVariants.{AtHead, AtBelow}
-use Rattle.lz_list.specs.Words.{get, is_marked_at}
-use Rattle.lz_list.specs.Walks.{wants}
-use Rattle.lz_list.specs.Hops.{LeadsOn}
-use Rattle.lz_list.specs.Traces.{Trace, bucket_of, key_word, on, chain_of, is_marked, is_removed, linking}
-use Rattle.lz_machine.specs.declared.actor.Actor.{Actor}
-use Rattle.lz_machine.specs.declared.actor.Hold.{Hold}
-use Rattle.lz_machine.specs.declared.actor.Hold.TheVariants.{Checked, Marked}
-use Rattle.lz_machine.specs.declared.event.Event.{Event}
-use Rattle.lz_machine.specs.declared.event.Event.TheVariants.{Hop, WriteOpen, WriteClose, Unlink, Answer}
-use Rattle.lz_machine.specs.declared.event.Outcome.TheVariants.{NotNow, Fault}
-use Rattle.lz_machine.specs.declared.event.Reply.{Reply}
-use Rattle.lz_machine.specs.declared.event.Reply.TheVariants.{Worn as SaysWorn, OldFile as SaysOldFile}
-use Rattle.lz_machine.specs.declared.caller.Sequence.{Sequence}
-use Rattle.lz_machine.specs.declared.caller.Sequence.TheVariants.{Pinning, Resting, Writing, Adding, Removing, Releasing, Halting}
-use Rattle.lz_machine.specs.declared.caller.Progress.{Progress}
+use Rattle.lz_list.specs.{declared.{place.Place.TheVariants.{Node}, walk.Look.{Look, TheVariants.{AtHead, AtBelow}}}, Words.{get, is_marked_at}, Walks.{wants}}
+use Rattle.lz_list.specs.{Hops.{LeadsOn}, Traces.{Trace, bucket_of, key_word, on, chain_of, is_marked, is_removed, linking}}
+use Rattle.lz_machine.specs.declared.{actor.{Actor.{Actor}, Hold.{Hold, TheVariants.{Checked, Marked}}}, event.Event.{Event}}
+use Rattle.lz_machine.specs.declared.event.{Event.TheVariants.{Hop, WriteOpen, WriteClose, Unlink, Answer}, Outcome.TheVariants.{NotNow, Fault}, Reply.{Reply}}
+use Rattle.lz_machine.specs.declared.{event.Reply.TheVariants.{Worn as SaysWorn, OldFile as SaysOldFile}, caller.Sequence.{Sequence}}
+use Rattle.lz_machine.specs.declared.caller.{Sequence.TheVariants.{Pinning, Resting, Writing, Adding, Removing, Releasing, Halting}, Progress.{Progress}}
 use Rattle.lz_machine.specs.declared.caller.Progress.TheVariants.{Playing, Walking, Reserving, SeeingPins, Claiming, Checking, Answering}
-use Rattle.lz_machine.specs.Yards.{Yard, actor_at, actor_in, stage_in}
-use Rattle.lz_machine.specs.Table.{last_pin, pin_of, needs, may_claim, may_check, has_checked, has_opened, has_closed, may_release, may_retire, line_on, line, stays_out}
-use Rattle.lz_machine.specs.Calls.{event_at, loaded}
-use Rattle.lz_machine.specs.Orders.{MayTake}
-use Rattle.lz_machine.specs.Runs.{Caller}
-use Rattle.lz_machine.specs.Notes.{Notes}
-use Rattle.lz_machine.specs.CallersSound.{View, view_of, Relies, IsSide, is_before_pin, side_of, IsLooking}
-use Rattle.lz_machine.specs.LocksSound.{RestsOn, IsChecked}
-use Rattle.lz_machine.specs.Sound.{Sound}
-use Rattle.lz_machine.proofs.Frames.Ranges.{on_range, stood_range, head_range, few_slots}
-use Rattle.lz_machine.proofs.Frames.LoadedWord.{bucket_range, head_next, link_next}
-use Rattle.lz_machine.proofs.Frames.OtherCallers.{held_node}
-use Rattle.lz_machine.proofs.Theorem.ShownChains.{mark_is}
-use Rattle.lz_machine.proofs.Runs.Course.{course_by, each_course}
-use Rattle.lz_machine.proofs.Runs.Outcomes.{not_done}
-use Rattle.lz_machine.proofs.Frames.Outside.{outside_even, worn_out, refused_out, out_needs}
+use Rattle.lz_machine.specs.{Yards.{Yard, actor_at, actor_in, stage_in}, Table.{last_pin, pin_of, needs, may_claim, may_check, has_checked, has_opened}}
+use Rattle.lz_machine.specs.{Table.{has_closed, may_release, may_retire, line_on, line, stays_out}, Calls.{event_at, loaded}, Orders.{MayTake}, Runs.{Caller}}
+use Rattle.lz_machine.specs.{Notes.{Notes}, CallersSound.{View, view_of, Relies, IsSide, is_before_pin, side_of, IsLooking}, LocksSound.{RestsOn, IsChecked}}
+use Rattle.lz_machine.{specs.Sound.{Sound}, proofs.Frames.Ranges.{on_range, stood_range, head_range, few_slots}}
+use Rattle.lz_machine.proofs.Frames.{LoadedWord.{bucket_range, head_next, link_next}, OtherCallers.{held_node}}
+use Rattle.lz_machine.proofs.{Frames.Outside.{outside_even, worn_out, refused_out, out_needs}, Theorem.ShownChains.{mark_is}}
+use Rattle.lz_machine.proofs.Runs.{Course.{course_by, each_course}, Outcomes.{not_done}}
 
 -- what has what it needs comes in time
 pub timely : (y : Yard) (a : ℕ) (e : Event) → needs y a e ≡ true → (line y a e).1 ≢ NotNow

@@ -1,15 +1,10 @@
 -- A file keeps its format.
 use Rattle.std.proofs.Common.{◌≡◌, ℕ, List, [], ◌∷◌, sym, ◌∙◌, subst}
-use Rattle.lz_slot.specs.declared.format.Format.{Format}
-use Rattle.lz_slot.specs.Bytes.{format_of}
-use Rattle.lz_slot.specs.Histories.{History, Life, lives}
+use Rattle.lz_slot.specs.{declared.format.Format.{Format}, Bytes.{format_of}, Histories.{History, Life, lives}}
 use Rattle.lz_vault.specs.Stages.{Suits}
 use Rattle.lz_list.specs.Traces.{Trace}
 use Rattle.lz_machine.specs.Runs.{Start, IsStart, State, Up, Down, Transition, MayLeave, Point, IsRun, disk_of, run, first_point, start_keys}
-use Rattle.lz_machine.specs.Sound.{PointSound}
-use Rattle.lz_machine.specs.Formats.{HasFormat, FormatsStay}
-use Rattle.lz_machine.proofs.Runs.PointParts.{point}
-use Rattle.lz_machine.proofs.Crash.Leftovers.{IsLeft, may_leave_has}
+use Rattle.lz_machine.{specs.{Sound.{PointSound}, Formats.{HasFormat, FormatsStay}}, proofs.{Runs.PointParts.{point}, Crash.Leftovers.{IsLeft, may_leave_has}}}
 use Rattle.lz_machine.proofs.Theorem.Reached.{reached_sound}
 
 point_format : (start : Start) (p : Point) (L : List Life) → PointSound start p L → HasFormat (format_of start.text) p.state

@@ -1,24 +1,16 @@
 -- A slot that becomes free was left by each pass: since it was unlinked, each was outside in some state.
-use Rattle.std.proofs.Common.{◌≡◌, ◌⊎◌, ⊎_elim, inl, inr, ℕ, if◌then◌else◌, true, false, List, [], ◌∷◌, ◌++◌, Option, Some, None, refl, sym, ap, ◌∙◌, subst, arith, suc}
-use Rattle.std.proofs.lemmas.Bool.{cases_Bool}
-use Rattle.std.proofs.lemmas.Bool.Decides.{eqb_tells, nat_tests}
+use Rattle.std.proofs.Common.{◌≡◌, ◌⊎◌, ⊎_elim, inl, inr, ℕ, if◌then◌else◌, true, false, List, [], ◌∷◌, ◌++◌, Option, Some, None, refl, sym, ap, ◌∙◌, subst}
+use Rattle.std.proofs.{Common.{arith, suc}, lemmas.Bool.{cases_Bool, Decides.{eqb_tells, nat_tests}}}
 use Rattle.lz_disk.specs.Images.{Medium}
-use Rattle.lz_allot.specs.declared.sight.Sight.{Sight}
-use Rattle.lz_allot.specs.Uses.{Moment, use_of, collect_at, is_outside, was_outside}
-use Rattle.lz_list.specs.declared.publishing.Publishing.TheVariants.{Unlinked as unlinked}
-use Rattle.lz_list.specs.Pinned.{Stood}
-use Rattle.lz_list.specs.Traces.{Trace, Begins, Lawful, bucket_of, on, chain}
-use Rattle.lz_list.proofs.Traces.Absence.{begins_itself}
-use Rattle.lz_list.proofs.Traces.Hindsight.{once_from}
-use Rattle.lz_machine.specs.Yards.{IsInside, pin_in, first_trace}
-use Rattle.lz_machine.specs.CallsStand.{is_out, trace_outside}
-use Rattle.lz_machine.specs.Runs.{Start, Caller, Service, State, Up, Down, Transition, Calls, Turn, Fails, Looks, Trips, Opens, OpenFails, Point, MayStep, IsRun, run, first_point, caller_at, state_after, trace_after, after_turn, after_fault, turn_publishes, opened_service, pins_of, unlinkings, moments_of_step, moments, played, next_event, invoked, looked}
-use Rattle.lz_machine.specs.FreedSlots.{FreedIsAllFree}
-use Rattle.lz_machine.specs.Limbo.{IsAway, IsRightSight}
-use Rattle.lz_machine.proofs.Frames.Uses.{collected_free, free_limbo, left_of, use_map}
-use Rattle.lz_machine.proofs.Open.FoundSlots.{pass_of}
+use Rattle.lz_allot.specs.{declared.sight.Sight.{Sight}, Uses.{Moment, use_of, collect_at, is_outside, was_outside}}
+use Rattle.lz_list.specs.{declared.publishing.Publishing.TheVariants.{Unlinked as unlinked}, Pinned.{Stood}}
+use Rattle.lz_list.{specs.Traces.{Trace, Begins, Lawful, bucket_of, on, chain}, proofs.Traces.{Absence.{begins_itself}, Hindsight.{once_from}}}
+use Rattle.lz_machine.specs.{Yards.{IsInside, pin_in, first_trace}, CallsStand.{is_out, trace_outside}, Runs.{Start, Caller, Service, State, Up, Down}}
+use Rattle.lz_machine.specs.Runs.{Transition, Calls, Turn, Fails, Looks, Trips, Opens, OpenFails, Point, MayStep, IsRun, run, first_point, caller_at}
+use Rattle.lz_machine.specs.Runs.{state_after, trace_after, after_turn, after_fault, turn_publishes, opened_service, pins_of, unlinkings, moments_of_step}
+use Rattle.lz_machine.specs.{Runs.{moments, played, next_event, invoked, looked}, FreedSlots.{FreedIsAllFree}, Limbo.{IsAway, IsRightSight}}
+use Rattle.lz_machine.{specs.Table.{line, line_failed}, proofs.{Frames.Uses.{collected_free, free_limbo, left_of, use_map}, Open.FoundSlots.{pass_of}}}
 use Rattle.lz_machine.proofs.Theorem.TraceOutside.{IsTied, tied}
-use Rattle.lz_machine.specs.Table.{line, line_failed}
 
 -- a slot was unlinked since the trace P0
 abbrev IsUnlinkedSince : ℕ → Trace → Trace → Type 0

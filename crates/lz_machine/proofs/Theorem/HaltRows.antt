@@ -1,17 +1,11 @@
 -- Worked rows: what may be told after a halt, and how many calls are told of a device that failed. Marks stand newest first.
 use Rattle.std.proofs.Common.{◌≡◌, inl, inr, ℕ, true, [], ◌∷◌, Option, Some, None, refl, arith}
 use mathlib.Core.Bool.{false≢true}
-use Rattle.lz_slot.specs.declared.command.Command.TheVariants.{Add, Has}
-use Rattle.lz_slot.specs.declared.history.Cut.TheVariants.{Halted as cut_halted, Device as cut_device}
-use Rattle.lz_slot.specs.declared.history.Mark.TheVariants.{Call, Answer, Refused, Cut, Crash, Opened}
-use Rattle.lz_slot.specs.declared.history.Refusal.TheVariants.{Full, Worn, OldFile}
+use Rattle.lz_slot.specs.declared.{command.Command.TheVariants.{Add, Has}, history.Cut.TheVariants.{Halted as cut_halted, Device as cut_device}}
+use Rattle.lz_slot.specs.declared.history.{Mark.TheVariants.{Call, Answer, Refused, Cut, Crash, Opened}, Refusal.TheVariants.{Full, Worn, OldFile}}
 use Rattle.lz_slot.specs.Histories.{History}
-use Rattle.lz_machine.specs.declared.caller.Progress.{Progress}
-use Rattle.lz_machine.specs.declared.caller.Progress.TheVariants.{Playing, Answering}
-use Rattle.lz_machine.specs.declared.caller.Sequence.TheVariants.{Adding, Halting}
-use Rattle.lz_machine.specs.declared.event.Reply.TheVariants.{Halted, Device}
-use Rattle.lz_machine.specs.Runs.{Caller}
-use Rattle.lz_machine.specs.Halts.{HaltLasts, IsMadeLate, calls_due, told_device}
+use Rattle.lz_machine.specs.declared.caller.{Progress.{Progress, TheVariants.{Playing, Answering}}, Sequence.TheVariants.{Adding, Halting}}
+use Rattle.lz_machine.specs.{declared.event.Reply.TheVariants.{Halted, Device}, Runs.{Caller}, Halts.{HaltLasts, IsMadeLate, calls_due, told_device}}
 
 -- call 1 was cut off, and call 2 is made then
 abbrev halted : History

@@ -1,17 +1,10 @@
 -- Runs that follow on one another.
 use Rattle.std.proofs.Common.{◌≡◌, inl, inr, ℕ, List, [], ◌∷◌, ◌++◌, refl, sym, subst, arith}
-use Rattle.lz_slot.specs.declared.history.Mark.{Mark}
-use Rattle.lz_slot.specs.declared.history.Mark.TheVariants.{Call, Answer, Refused, Cut, Stop, Crash, Opened, OpenFailed}
-use Rattle.lz_slot.specs.Bytes.{Holds}
-use Rattle.lz_slot.specs.Histories.{History, Life, ChainTo, lives, with_mark}
-use Rattle.lz_slot.specs.Sets.{Keys, Same, members}
+use Rattle.lz_slot.specs.{declared.history.Mark.{Mark, TheVariants.{Call, Answer, Refused, Cut, Stop, Crash, Opened, OpenFailed}}, Bytes.{Holds}}
+use Rattle.lz_slot.specs.{Histories.{History, Life, ChainTo, lives, with_mark}, Sets.{Keys, Same, members}}
 use Rattle.lz_disk.specs.Images.{AreBytes}
-use Rattle.lz_machine.specs.JoinedRuns.{LeftIsStart, RunsJoin, all_lives, first_start}
-use Rattle.lz_machine.specs.Runs.{State, Up, Down, MayLeave, caller_at, start_keys}
-use Rattle.lz_machine.proofs.Crash.Leftovers.{inside_bytes}
-use Rattle.lz_machine.proofs.Open.FirstPoint.{one_set, fits_same}
-use Rattle.lz_machine.proofs.Open.ListedKeys.{listed}
-use Rattle.lz_machine.proofs.Theorem.Reached.{every_history}
+use Rattle.lz_machine.specs.{JoinedRuns.{LeftIsStart, RunsJoin, all_lives, first_start}, Runs.{State, Up, Down, MayLeave, caller_at, start_keys}}
+use Rattle.lz_machine.proofs.{Crash.Leftovers.{inside_bytes}, Open.{FirstPoint.{one_set, fits_same}, ListedKeys.{listed}}, Theorem.Reached.{every_history}}
 
 -- what a crash may leave are bytes
 left_bytes : (w : State) (t : List ℕ) → MayLeave w t → AreBytes t

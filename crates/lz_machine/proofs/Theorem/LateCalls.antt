@@ -1,42 +1,24 @@
 -- A call that is made after another was cut off finds the halt word set, and comes no further than its load.
-use Rattle.std.proofs.Common.{◌≡◌, ◌≢◌, inl, inr, ℕ, zero, suc, ◌≤◌, Bool, true, false, List, [], ◌∷◌, ◌++◌, length, Option, Some, None, refl, sym, ap, ◌∙◌, subst, arith}
-use Rattle.std.specs.Prelude.{if◌then◌else◌}
+use Rattle.std.proofs.Common.{◌≡◌, ◌≢◌, inl, inr, ℕ, zero, suc, ◌≤◌, Bool, true, false, List, [], ◌∷◌, ◌++◌, length, Option, Some, None, refl, sym, ap, ◌∙◌}
+use Rattle.std.{proofs.{Common.{subst, arith}, lemmas.{Bool.{cases_eq}, Option.{same_Some, none-some}}}, specs.Prelude.{if◌then◌else◌}}
 use mathlib.Core.Bool.{false≢true}
-use Rattle.std.proofs.lemmas.Bool.{cases_eq}
-use Rattle.std.proofs.lemmas.Option.{same_Some, none-some}
-use Rattle.lz_slot.specs.declared.command.Command.{Command}
-use Rattle.lz_slot.specs.declared.history.Mark.TheVariants.{Call}
-use Rattle.lz_slot.specs.Counted.{set_of_pass}
-use Rattle.lz_slot.specs.Histories.{History, IsCalled}
+use Rattle.lz_slot.specs.{declared.{command.Command.{Command}, history.Mark.TheVariants.{Call}}, Counted.{set_of_pass}, Histories.{History, IsCalled}}
 use Rattle.lz_slot.proofs.Counted.{of_pass_same, of_pass_other}
 use Rattle.lz_disk.specs.Images.{Medium, at_rest, synced}
 use Rattle.lz_vault.specs.Vaults.{MayFail}
-use Rattle.lz_list.specs.declared.word.Word.TheVariants.{Halt as halt_word_at}
-use Rattle.lz_list.specs.Traces.{Trace, halt_word}
-use Rattle.lz_machine.specs.declared.course.Course.{Course}
-use Rattle.lz_machine.specs.declared.course.Course.TheVariants.{Plays}
-use Rattle.lz_machine.specs.declared.event.Event.{Event}
-use Rattle.lz_machine.specs.declared.event.Event.TheVariants.{Pin, Hop}
-use Rattle.lz_machine.specs.declared.event.Outcome.TheVariants.{NotNow, Fault}
-use Rattle.lz_machine.specs.declared.event.Reply.{Reply}
-use Rattle.lz_machine.specs.declared.event.Reply.TheVariants.{Yes, OldFile as SaysOldFile, Halted, Device}
-use Rattle.lz_machine.specs.declared.caller.Progress.{Progress}
-use Rattle.lz_machine.specs.declared.caller.Progress.TheVariants.{Playing, LoadsHalt, Answering}
-use Rattle.lz_machine.specs.declared.caller.Sequence.TheVariants.{Pinning}
-use Rattle.lz_machine.specs.Yards.{Shape, Yard, actor_at, first_trace}
-use Rattle.lz_machine.specs.Table.{call_on, course, is_old, line, line_on, line_call, line_failed, pin_of}
-use Rattle.lz_machine.specs.Calls.{begun, first_progress, progress_after}
-use Rattle.lz_machine.specs.Runs.{Caller, Service, State, Up, Down, Start, IsStart, Point, Transition, Calls, Turn, Fails, Looks, Trips, Stops, Crashes, Opens, OpenFails, caller_at, next_event, reply_at, moved_on, opened_service, state_after, trace_after, HasTurn, HasFault, MayStep, mark_of, mark_of_turn, marks_of_turn, marks_of, after_turn, after_fault, turn_publishes, run, IsRun, first_point}
-use Rattle.lz_machine.specs.CallersSound.{IsCaller, Relies, View, view_of}
+use Rattle.lz_list.specs.{declared.word.Word.TheVariants.{Halt as halt_word_at}, Traces.{Trace, halt_word}}
+use Rattle.lz_machine.specs.declared.{course.Course.{Course, TheVariants.{Plays}}, event.Event.{Event, TheVariants.{Pin, Hop}}}
+use Rattle.lz_machine.specs.declared.event.{Outcome.TheVariants.{NotNow, Fault}, Reply.{Reply, TheVariants.{Yes, OldFile as SaysOldFile, Halted, Device}}}
+use Rattle.lz_machine.specs.declared.caller.{Progress.{Progress, TheVariants.{Playing, LoadsHalt, Answering}}, Sequence.TheVariants.{Pinning}}
+use Rattle.lz_machine.specs.{Yards.{Shape, Yard, actor_at, first_trace}, Table.{call_on, course, is_old, line, line_on, line_call, line_failed, pin_of}}
+use Rattle.lz_machine.specs.{Calls.{begun, first_progress, progress_after}, Runs.{Caller, Service, State, Up, Down, Start, IsStart, Point, Transition, Calls}}
+use Rattle.lz_machine.specs.Runs.{Turn, Fails, Looks, Trips, Stops, Crashes, Opens, OpenFails, caller_at, next_event, reply_at, moved_on, opened_service}
+use Rattle.lz_machine.specs.Runs.{state_after, trace_after, HasTurn, HasFault, MayStep, mark_of, mark_of_turn, marks_of_turn, marks_of, after_turn, after_fault}
+use Rattle.lz_machine.specs.{Runs.{turn_publishes, run, IsRun, first_point}, CallersSound.{IsCaller, Relies, View, view_of}}
 use Rattle.lz_machine.specs.Halts.{HaltLasts, HaltsLast, IsLate, IsLateReply, IsMadeLate, MayTellLate, was_cut}
-use Rattle.lz_machine.proofs.Alone.Halt.{device_word, halted_word, replies}
-use Rattle.lz_machine.proofs.Frames.OneActor.{caller_range, mine}
-use Rattle.lz_machine.proofs.Frames.Publishing.{halt_stays}
-use Rattle.lz_machine.proofs.Open.FoundSlots.{pass_of}
-use Rattle.lz_machine.proofs.Runs.CallerTable.{fault_no_reply}
-use Rattle.lz_machine.proofs.Runs.Course.{course_by, each_course}
-use Rattle.lz_machine.proofs.Theorem.Marks.{Tells, open_called, run_tells}
-use Rattle.lz_machine.proofs.Theorem.Reached.{reached_sound, IsUpAt, up_at}
+use Rattle.lz_machine.proofs.{Alone.Halt.{device_word, halted_word, replies}, Frames.{OneActor.{caller_range, mine}, Publishing.{halt_stays}}}
+use Rattle.lz_machine.proofs.{Open.FoundSlots.{pass_of}, Runs.{CallerTable.{fault_no_reply}, Course.{course_by, each_course}}}
+use Rattle.lz_machine.proofs.Theorem.{Marks.{Tells, open_called, run_tells}, Reached.{reached_sound, IsUpAt, up_at}}
 
 halt_after : (new P : Trace) → halt_word P ≡ 1 → halt_word (new ++ P) ≡ 1
 halt_after [] P is = is

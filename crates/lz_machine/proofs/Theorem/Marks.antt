@@ -1,28 +1,16 @@
 -- The marks of a run: the open calls of the history are those of the callers.
-use Rattle.std.proofs.Common.{◌≡◌, ◌≢◌, ⊎_elim, inl, inr, ℕ, suc, ◌≤◌, true, false, List, [], ◌∷◌, ◌++◌, length, Option, Some, None, refl, sym, ap, ◌∙◌, subst, arith}
+use Rattle.std.proofs.Common.{◌≡◌, ◌≢◌, ⊎_elim, inl, inr, ℕ, suc, ◌≤◌, true, false, List, [], ◌∷◌, ◌++◌, length, Option, Some, None, refl, sym, ap, ◌∙◌, subst}
+use Rattle.std.proofs.{Common.{arith}, lemmas.{Bool.{cases_eq}, List.{length-replicate}, Option.{same_Some, none-some}}}
 use mathlib.Core.Bool.{false≢true}
-use Rattle.std.proofs.lemmas.Bool.{cases_eq}
-use Rattle.std.proofs.lemmas.List.{length-replicate}
-use Rattle.std.proofs.lemmas.Option.{same_Some, none-some}
-use Rattle.lz_slot.specs.declared.command.Command.{Command}
-use Rattle.lz_slot.specs.declared.history.Mark.{Mark}
-use Rattle.lz_slot.specs.declared.history.Mark.TheVariants.{Call, Answer, Refused, Cut, Stop, Crash, OpenFailed}
-use Rattle.lz_slot.specs.Counted.{set_of_pass}
-use Rattle.lz_slot.specs.Histories.{History, IsCalled}
-use Rattle.lz_slot.proofs.Counted.{of_pass_same, of_pass_other, length-set_of_pass}
+use Rattle.lz_slot.specs.declared.{command.Command.{Command}, history.Mark.{Mark, TheVariants.{Call, Answer, Refused, Cut, Stop, Crash, OpenFailed}}}
+use Rattle.lz_slot.{specs.{Counted.{set_of_pass}, Histories.{History, IsCalled}}, proofs.Counted.{of_pass_same, of_pass_other, length-set_of_pass}}
 use Rattle.lz_disk.specs.Images.{Medium}
-use Rattle.lz_machine.specs.declared.event.Outcome.{Outcome}
-use Rattle.lz_machine.specs.declared.event.Reply.{Reply}
-use Rattle.lz_machine.specs.declared.event.Reply.TheVariants.{Yes}
-use Rattle.lz_machine.specs.Yards.{Yard, Shape, actor_at}
-use Rattle.lz_machine.specs.Table.{course, line, line_failed}
-use Rattle.lz_machine.specs.Calls.{progress_after}
-use Rattle.lz_machine.specs.Runs.{Caller, Service, State, Up, Down, Start, Transition, Calls, Turn, Fails, Looks, Trips, Stops, Crashes, CrashesIn, Opens, OpenFails, caller_at, next_event, reply_at, moved_on, after_turn, after_fault, opened_service, state_after, HasTurn, HasFault, MayStep, IsActor, mark_of, mark_of_turn, marks_of_turn, marks_of, calls_made_after, run, IsRun, first_point}
-use Rattle.lz_machine.specs.Marks.{IsOpenCall, MayFollow, IsTold, MarksTell}
-use Rattle.lz_machine.proofs.Frames.OneActor.{caller_range}
-use Rattle.lz_machine.proofs.Runs.Shape.{line_keeps_shape}
-use Rattle.lz_machine.proofs.Open.FoundSlots.{pass_of}
-use Rattle.lz_machine.proofs.Runs.CallerTable.{none_of, fault_no_reply}
+use Rattle.lz_machine.specs.{declared.event.{Outcome.{Outcome}, Reply.{Reply, TheVariants.{Yes}}}, Yards.{Yard, Shape, actor_at}}
+use Rattle.lz_machine.specs.{Table.{course, line, line_failed}, Calls.{progress_after}, Runs.{Caller, Service, State, Up, Down, Start, Transition, Calls, Turn}}
+use Rattle.lz_machine.specs.Runs.{Fails, Looks, Trips, Stops, Crashes, CrashesIn, Opens, OpenFails, caller_at, next_event, reply_at, moved_on, after_turn}
+use Rattle.lz_machine.specs.Runs.{after_fault, opened_service, state_after, HasTurn, HasFault, MayStep, IsActor, mark_of, mark_of_turn, marks_of_turn, marks_of}
+use Rattle.lz_machine.specs.{Runs.{calls_made_after, run, IsRun, first_point}, Marks.{IsOpenCall, MayFollow, IsTold, MarksTell}}
+use Rattle.lz_machine.proofs.{Frames.OneActor.{caller_range}, Runs.{Shape.{line_keeps_shape}, CallerTable.{none_of, fault_no_reply}}, Open.FoundSlots.{pass_of}}
 use Rattle.lz_machine.proofs.Ledger.CallMark.{number_of, is_call}
 
 called_before : (m : Mark) (M : History) (i : ℕ) (c : Command) → is_call m ≡ false → IsCalled (m ∷ M) i c → IsCalled M i c

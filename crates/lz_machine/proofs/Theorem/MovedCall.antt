@@ -1,12 +1,10 @@
 -- What becomes of the call of an actor by steps that aren't its own.
-use Rattle.std.proofs.Common.{◌≡◌, ◌≢◌, ℕ, true, false, Option, Some, None, refl, sym, arith}
+use Rattle.std.proofs.{Common.{◌≡◌, ◌≢◌, ℕ, true, false, Option, Some, None, refl, sym, arith}, lemmas.Bool.Decides.{nat_tests}}
 use mathlib.Core.Bool.{false≢true}
-use Rattle.std.proofs.lemmas.Bool.Decides.{nat_tests}
 use Rattle.lz_slot.proofs.Counted.{of_pass_other}
 use Rattle.lz_disk.specs.Images.{Medium}
-use Rattle.lz_machine.specs.Runs.{Caller, Service, State, Up, Down, Transition, Calls, Turn, Fails, Stops, Crashes, CrashesIn, Opens, OpenFails, caller_at, after_turn, after_fault, state_after}
-use Rattle.lz_machine.specs.Laws.{is_of, SameBut, call_in, ends_life}
-use Rattle.lz_machine.proofs.Open.FoundSlots.{pass_of}
+use Rattle.lz_machine.specs.Runs.{Caller, Service, State, Up, Down, Transition, Calls, Turn, Fails, Stops, Crashes, CrashesIn, Opens, OpenFails, caller_at}
+use Rattle.lz_machine.{specs.{Runs.{after_turn, after_fault, state_after}, Laws.{is_of, SameBut, call_in, ends_life}}, proofs.Open.FoundSlots.{pass_of}}
 
 module _ (a : ℕ) where
   other_turn : (service : Service) (disk : Medium) (b : ℕ) (who : Option Caller) → a ≢ b → call_in (after_turn service disk b who) a ≡ caller_at service.callers a

@@ -1,36 +1,21 @@
 -- A load may be put into a run after its actor's last step: the later steps don't look at it.
 use Rattle.std.proofs.Common.{◌≡◌, ◌≢◌, inl, inr, ℕ, suc, ◌%◌, Bool, true, false, List, [], ◌∷◌, ◌++◌, Option, Some, None, refl, sym, ap, ◌∙◌, subst, arith}
+use Rattle.std.{proofs.lemmas.Bool.{cases_Bool, or_parts}, specs.{Prelude.{◌||◌, IsSome}, List.{list_any}}}
 use mathlib.Core.Bool.{false≢true}
-use Rattle.std.specs.Prelude.{◌||◌, IsSome}
-use Rattle.std.specs.List.{list_any}
-use Rattle.std.proofs.lemmas.Bool.{cases_Bool, or_parts}
-use Rattle.lz_slot.specs.declared.command.Command.{Command}
-use Rattle.lz_slot.specs.Counted.{set_of_pass}
-use Rattle.lz_slot.specs.Histories.{Life, lives}
+use Rattle.lz_slot.specs.{declared.command.Command.{Command}, Counted.{set_of_pass}, Histories.{Life, lives}}
 use Rattle.lz_slot.proofs.Counted.{of_pass_other, length-set_of_pass}
 use Rattle.lz_disk.specs.Images.{Medium}
 use Rattle.lz_vault.specs.Vaults.{NoCall, medium_after}
-use Rattle.lz_list.specs.declared.word.Word.{Word}
-use Rattle.lz_list.specs.declared.publishing.Publishing.{Publishing}
-use Rattle.lz_list.specs.Words.{Words, get}
-use Rattle.lz_list.specs.Traces.{Trace}
-use Rattle.lz_machine.specs.declared.course.Course.TheVariants.{Plays}
-use Rattle.lz_machine.specs.declared.event.Event.{Event}
-use Rattle.lz_machine.specs.declared.event.Event.TheVariants.{Hop}
-use Rattle.lz_machine.specs.declared.event.Outcome.{Outcome}
-use Rattle.lz_machine.specs.declared.event.Outcome.TheVariants.{Value, NotNow}
-use Rattle.lz_machine.specs.declared.event.Reply.{Reply}
-use Rattle.lz_machine.specs.declared.caller.Progress.{Progress}
-use Rattle.lz_machine.specs.Yards.{Yard, Shape, actor_at}
-use Rattle.lz_machine.specs.Table.{pin_of, course, line, line_on, line_call, call_on, published_on, line_publishes}
-use Rattle.lz_machine.specs.Calls.{event_at, loaded, progress_after}
-use Rattle.lz_machine.specs.Runs.{Caller, Service, State, Up, Down, Start, IsStart, start_keys, Transition, Turn, Point, point_after, run, IsRun, first_point, played, caller_at, next_event, reply_at, moved_on, after_turn, state_after, HasTurn, MayStep, mark_of_turn, marks_of_turn, marks_of, turn_publishes, trace_after, calls_made_after}
+use Rattle.lz_list.specs.{declared.{word.Word.{Word}, publishing.Publishing.{Publishing}}, Words.{Words, get}, Traces.{Trace}}
+use Rattle.lz_machine.specs.declared.{course.Course.TheVariants.{Plays}, event.{Event.{Event, TheVariants.{Hop}}, Outcome.{Outcome}}}
+use Rattle.lz_machine.specs.{declared.{event.{Outcome.TheVariants.{Value, NotNow}, Reply.{Reply}}, caller.Progress.{Progress}}, Yards.{Yard, Shape, actor_at}}
+use Rattle.lz_machine.specs.{Table.{pin_of, course, line, line_on, line_call, call_on, published_on, line_publishes}, Calls.{event_at, loaded, progress_after}}
+use Rattle.lz_machine.specs.Runs.{Caller, Service, State, Up, Down, Start, IsStart, start_keys, Transition, Turn, Point, point_after, run, IsRun, first_point}
+use Rattle.lz_machine.specs.Runs.{played, caller_at, next_event, reply_at, moved_on, after_turn, state_after, HasTurn, MayStep, mark_of_turn, marks_of_turn}
+use Rattle.lz_machine.specs.Runs.{marks_of, turn_publishes, trace_after, calls_made_after}
 use Rattle.lz_machine.specs.Laws.{is_of, outcome_at, outcomes, hop_of, hop_of_caller, next_hop, SameBut, call_in, ends_life, WalksMove}
-use Rattle.lz_machine.specs.CallersSound.{is_before_pin}
-use Rattle.lz_machine.specs.Sound.{PointSound, IsSound}
-use Rattle.lz_machine.proofs.Theorem.MovedCall.{call_stays, ends_same}
-use Rattle.lz_machine.proofs.Runs.Twins.{Twin, apart, same, left, right, follows}
-use Rattle.lz_machine.proofs.Runs.Composition.{run_append}
+use Rattle.lz_machine.{specs.{CallersSound.{is_before_pin}, Sound.{PointSound, IsSound}}, proofs.Theorem.MovedCall.{call_stays, ends_same}}
+use Rattle.lz_machine.proofs.Runs.{Twins.{Twin, apart, same, left, right, follows}, Composition.{run_append}}
 
 -- a call whose next event is a load: it is inside, and gives no reply yet
 record Loads (words : Words) (e : Event) (at : Progress) : Type 0 where

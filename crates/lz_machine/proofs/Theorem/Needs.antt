@@ -2,18 +2,12 @@
 use Rattle.std.proofs.Common.{◌≡◌, ℕ, ◌≤◌, true, false, Option, Some, None, is_some, refl}
 use mathlib.Core.Bool.{false≢true}
 use Rattle.lz_slot.specs.Rooms.{largest_of}
-use Rattle.lz_vault.specs.declared.vault.Stage.{Stage}
-use Rattle.lz_vault.specs.declared.vault.Stage.TheVariants.{Keyed}
+use Rattle.lz_vault.specs.declared.vault.Stage.{Stage, TheVariants.{Keyed}}
 use Rattle.lz_list.specs.Traces.{Trace, key_word}
-use Rattle.lz_machine.specs.declared.actor.Hold.{Hold}
-use Rattle.lz_machine.specs.declared.actor.Hold.TheVariants.{Nothing, Checked, GateOpened, GateClosed, Marked, Released}
-use Rattle.lz_machine.specs.declared.event.Event.{Event}
+use Rattle.lz_machine.specs.declared.{actor.Hold.{Hold, TheVariants.{Nothing, Checked, GateOpened, GateClosed, Marked, Released}}, event.Event.{Event}}
 use Rattle.lz_machine.specs.declared.event.Event.TheVariants.{WriteKey, WriteOpen, Retire}
-use Rattle.lz_machine.specs.Table.{has_stage, may_check, has_checked, has_opened, has_closed, has_marked, may_release, may_retire}
-use Rattle.lz_machine.specs.Yards.{cell_in}
-use Rattle.lz_machine.specs.CallersSound.{View}
-use Rattle.lz_machine.specs.SlotsSound.{opens}
-use Rattle.lz_machine.specs.LocksSound.{has_locks}
+use Rattle.lz_machine.specs.{Table.{has_stage, may_check, has_checked, has_opened, has_closed, has_marked, may_release, may_retire}, Yards.{cell_in}}
+use Rattle.lz_machine.specs.{CallersSound.{View}, SlotsSound.{opens}, LocksSound.{has_locks}}
 
 -- what a call knows of its next event: the node that it retires, that the file can hold the key that it writes, and that the slot that it
 -- opens has the key of its word

@@ -1,18 +1,10 @@
 -- The counts of a call that finds no slot.
-use Rattle.std.proofs.Common.{◌≡◌, ℕ, ◌+◌, List, [], ◌∷◌, length, Option, Some, None, refl, sym, ap, ◌∙◌, subst, arith}
-use Rattle.std.proofs.lemmas.Bool.Decides.{nat_tests}
+use Rattle.std.proofs.{Common.{◌≡◌, ℕ, ◌+◌, List, [], ◌∷◌, length, Option, Some, None, refl, sym, ap, ◌∙◌, subst, arith}, lemmas.Bool.Decides.{nat_tests}}
 use Rattle.std.proofs.lemmas.List.{length-map}
-use Rattle.lz_allot.specs.declared.counts.Counts.{Counts}
-use Rattle.lz_allot.specs.Uses.{Use, Free, Taken, Limbo, collect, collect_at, counts, lowest_free}
+use Rattle.lz_allot.specs.{declared.counts.Counts.{Counts}, Uses.{Use, Free, Taken, Limbo, collect, collect_at, counts, lowest_free}}
 use Rattle.lz_allot.proofs.UseCounts.{counts_sum}
-use Rattle.lz_machine.specs.declared.event.Event.TheVariants.{Reserve}
-use Rattle.lz_machine.specs.declared.event.Outcome.TheVariants.{NoSlot}
-use Rattle.lz_machine.specs.NoSlotCounts.{CountsAreRight}
-use Rattle.lz_machine.specs.Runs.{run, first_point}
-use Rattle.lz_machine.specs.Table.{line, slot_found}
-use Rattle.lz_machine.specs.Yards.{Yard}
-use Rattle.lz_machine.proofs.Runs.Course.{course_by}
-use Rattle.lz_machine.proofs.Theorem.Reached.{reached_sound, up_at}
+use Rattle.lz_machine.specs.{declared.event.{Event.TheVariants.{Reserve}, Outcome.TheVariants.{NoSlot}}, NoSlotCounts.{CountsAreRight}, Runs.{run, first_point}}
+use Rattle.lz_machine.{specs.{Table.{line, slot_found}, Yards.{Yard}}, proofs.{Runs.Course.{course_by}, Theorem.Reached.{reached_sound, up_at}}}
 
 none_counted : (uses : List Use) → lowest_free uses ≡ None → (counts uses).free ≡ 0
 none_counted [] none = refl

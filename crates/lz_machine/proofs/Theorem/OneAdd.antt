@@ -1,25 +1,17 @@
 -- One adding to a freshly made set of one slot, in any format, is a run; and each state that is reached may leave a text.
-use Rattle.std.proofs.Common.{◌≡◌, ◌≢◌, inl, ℕ, zero, suc, ◌<◌, ◌≤◌, false, List, [], ◌∷◌, slice_get, take, Option, Some, is_some, refl, sym, ap, ◌∙◌, subst, arith}
-use Rattle.std.specs.Prelude.{unwrap_or}
+use Rattle.std.proofs.Common.{◌≡◌, ◌≢◌, inl, ℕ, zero, suc, ◌<◌, ◌≤◌, false, List, [], ◌∷◌, slice_get, take, Option, Some, is_some, refl, sym, ap, ◌∙◌, subst}
+use Rattle.std.{proofs.Common.{arith}, specs.Prelude.{unwrap_or}}
 use mathlib.Core.Bool.{false≢true}
-use Rattle.lz_slot.specs.declared.format.Format.{Format}
-use Rattle.lz_slot.specs.declared.format.Format.TheVariants.{One, Two, Three, Four}
-use Rattle.lz_slot.specs.declared.slot.SlotRead.TheVariants.{Closed, Member, BadKey}
-use Rattle.lz_slot.specs.Limits.{most_slots_of}
-use Rattle.lz_slot.specs.Bytes.{open_byte, header_body, format_of, slot_at}
-use Rattle.lz_slot.specs.Rooms.{largest_of}
+use Rattle.lz_slot.specs.declared.{format.Format.{Format, TheVariants.{One, Two, Three, Four}}, slot.SlotRead.TheVariants.{Closed, Member, BadKey}}
+use Rattle.lz_slot.specs.{Limits.{most_slots_of}, Bytes.{open_byte, header_body, format_of, slot_at}, Rooms.{largest_of}, Histories.{Life, lives}}
 use Rattle.lz_slot.proofs.Files.ExactBytes.{zero_fits}
-use Rattle.lz_vault.specs.Stages.{Cell, Suits}
+use Rattle.lz_vault.specs.{Stages.{Cell, Suits}, Members.{no_cell}}
 use Rattle.lz_list.specs.Traces.{bucket_of}
-use Rattle.lz_slot.specs.Histories.{Life, lives}
 use Rattle.lz_disk.specs.Images.{IsImage, IsSound, at_rest}
 use Rattle.lz_machine.specs.declared.event.Outcome.TheVariants.{Done, Value, Slot, Taken, True, NotNow}
 use Rattle.lz_machine.specs.OneAdd.{is_bytewise, one_slot, one_add, OneAddRuns, LeavesText}
 use Rattle.lz_machine.specs.Runs.{Start, IsStart, State, Up, Down, Transition, Point, IsRun, MayLeave, disk_of, run, first_point, made_text, start_keys}
-use Rattle.lz_machine.specs.Sound.{PointSound}
-use Rattle.lz_vault.specs.Members.{no_cell}
-use Rattle.lz_machine.proofs.Open.Texts.{text_bytes}
-use Rattle.lz_machine.proofs.Theorem.Reached.{reached_sound}
+use Rattle.lz_machine.{specs.Sound.{PointSound}, proofs.{Open.Texts.{text_bytes}, Theorem.Reached.{reached_sound}}}
 
 -- what was just made
 closed_slot : (F : Format) → slot_at (made_text F 1) 0 ≡ Closed

@@ -1,18 +1,15 @@
 -- Every point that a run reaches is sound, and what that says of an open service.
+use Rattle.lz_machine.proofs.Crash.Leftovers as leaving
+use Rattle.lz_machine.proofs.Theorem.MovedLoad as walks
 use Rattle.std.proofs.Common.{◌≡◌, ℕ, List, [], ◌∷◌, subst}
 use Rattle.lz_slot.specs.Histories.{History, Life, lives}
 use Rattle.lz_disk.specs.Images.{Medium}
 use Rattle.lz_list.specs.Traces.{Trace}
-use Rattle.lz_machine.specs.Runs.{Start, IsStart, Point, Service, start_keys, State, Up, Down, Transition, Calls, Turn, Fails, Looks, Trips, Stops, Crashes, CrashesIn, Opens, OpenFails, MayStep, point_after, first_point, run, IsRun}
-use Rattle.lz_machine.specs.Laws.{EveryHistory, WhatLasts, WalksMove}
-use Rattle.lz_machine.specs.Notes.{Notes}
-use Rattle.lz_machine.specs.Sound.{IsSound, UpSound, StateSound, PointSound}
-use Rattle.lz_machine.proofs.Runs.PointParts.{point}
-use Rattle.lz_machine.proofs.Steps.Point.{call_keeps, turn_keeps, fails_keeps, looks_keeps}
-use Rattle.lz_machine.proofs.Crash.Down.{stops_keeps, crashes_keeps, open_fails_keeps}
-use Rattle.lz_machine.proofs.Crash.Leftovers as leaving
+use Rattle.lz_machine.specs.Runs.{Start, IsStart, Point, Service, start_keys, State, Up, Down, Transition, Calls, Turn, Fails, Looks, Trips, Stops, Crashes}
+use Rattle.lz_machine.specs.{Runs.{CrashesIn, Opens, OpenFails, MayStep, point_after, first_point, run, IsRun}, Laws.{EveryHistory, WhatLasts, WalksMove}}
+use Rattle.lz_machine.{specs.{Notes.{Notes}, Sound.{IsSound, UpSound, StateSound, PointSound}}, proofs.Runs.PointParts.{point}}
+use Rattle.lz_machine.proofs.{Steps.Point.{call_keeps, turn_keeps, fails_keeps, looks_keeps}, Crash.Down.{stops_keeps, crashes_keeps, open_fails_keeps}}
 use Rattle.lz_machine.proofs.Open.FirstPoint.{first_sound, opens_keeps, down_seen}
-use Rattle.lz_machine.proofs.Theorem.MovedLoad as walks
 
 -- each step keeps the invariant
 step_keeps : (start : Start) → IsStart start → (w : State) (M : History) (P : Trace) (calls : ℕ) (step : Transition) → IsSound start (point w M P calls) → MayStep w step → IsSound start (point_after (point w M P calls) step)

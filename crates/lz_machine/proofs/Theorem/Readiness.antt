@@ -1,58 +1,29 @@
 -- What an event rests on where it is played follows from the invariant.
-use Rattle.std.proofs.Common.{◌≡◌, inl, inr, ℕ, suc, ◌<◌, ◌≤◌, not, ◌&&◌, Bool, true, false, List, length, Option, Some, None, is_some, refl, sym, ap, ◌∙◌, subst, arith}
-use mathlib.Core.Bool.{false≢true}
+use Rattle.std.proofs.Common.{◌≡◌, inl, inr, ℕ, suc, ◌<◌, ◌≤◌, not, ◌&&◌, Bool, true, false, List, length, Option, Some, None, is_some, refl, sym, ap, ◌∙◌}
+use Rattle.std.proofs.{Common.{subst, arith}, lemmas.{Bool.{cases_Bool, not-true, and_parts}, Option.{slice_get-get_or, same_Some}}}
 use Rattle.std.specs.Prelude.{unwrap_or, IsSomeAnd, IfSome}
-use Rattle.std.proofs.lemmas.Bool.{cases_Bool, not-true, and_parts}
-use Rattle.lz_slot.specs.Rooms.{largest_of}
-use Rattle.std.proofs.lemmas.Option.{slice_get-get_or, same_Some}
-use Rattle.lz_slot.specs.Limits.{largest_key}
-use Rattle.lz_slot.specs.declared.command.Command.{Command}
-use Rattle.lz_slot.specs.Histories.{History}
-use Rattle.lz_disk.specs.Images.{Medium}
-use Rattle.lz_vault.specs.declared.vault.Stage.TheVariants.{Keyed}
-use Rattle.lz_allot.specs.Allots.{IsTakenAt}
-use Rattle.lz_list.specs.declared.place.Place.{Place}
-use Rattle.lz_list.specs.declared.place.Place.TheVariants.{Node}
-use Rattle.lz_list.specs.declared.word.Word.TheVariants.{Key as key_at, Pin as pin_at}
-use Rattle.lz_list.specs.Words.{Words, get}
-use Rattle.lz_list.specs.Locks.{claimed_places}
-use Rattle.lz_list.specs.Lists.{IsPlace, IsCurr}
-use Rattle.lz_list.specs.Traces.{Trace, on, chain_of, key_word}
-use Rattle.lz_machine.specs.declared.actor.Actor.{Actor}
-use Rattle.lz_machine.specs.declared.actor.Hold.{Hold}
-use Rattle.lz_machine.specs.declared.actor.Hold.TheVariants.{GateOpened, GateClosed, Marked}
-use Rattle.lz_machine.specs.declared.caller.Sequence.{Sequence}
-use Rattle.lz_machine.specs.declared.caller.Progress.{Progress}
-use Rattle.lz_machine.specs.declared.caller.Progress.TheVariants.{Playing}
-use Rattle.lz_machine.specs.declared.course.Course.TheVariants.{Plays}
-use Rattle.lz_machine.specs.declared.event.Event.{Event}
-use Rattle.lz_machine.specs.declared.event.Event.TheVariants.{Invoke, Pin, WriteKey, Check, WriteOpen, Link, WriteClose, Mark, Release, Unlink, Retire, Answer}
+use mathlib.Core.Bool.{false≢true}
+use Rattle.lz_slot.specs.{Rooms.{largest_of}, Limits.{largest_key}, declared.command.Command.{Command}, Histories.{History}}
 use Rattle.lz_slot.proofs.Files.ExactBytes.{key_of_format}
-use Rattle.lz_vault.specs.Members.{no_cell}
+use Rattle.lz_disk.specs.Images.{Medium}
+use Rattle.lz_vault.specs.{declared.vault.Stage.TheVariants.{Keyed}, Members.{no_cell}}
+use Rattle.lz_allot.specs.Allots.{IsTakenAt}
+use Rattle.lz_list.specs.{declared.{place.Place.{Place, TheVariants.{Node}}, word.Word.TheVariants.{Key as key_at, Pin as pin_at}}, Words.{Words, get}}
+use Rattle.lz_list.specs.{Locks.{claimed_places}, Lists.{IsPlace, IsCurr}, Traces.{Trace, on, chain_of, key_word}}
+use Rattle.lz_machine.specs.declared.{actor.{Actor.{Actor}, Hold.{Hold, TheVariants.{GateOpened, GateClosed, Marked}}}, caller.Sequence.{Sequence}}
+use Rattle.lz_machine.specs.declared.{caller.Progress.{Progress, TheVariants.{Playing}}, course.Course.TheVariants.{Plays}, event.Event.{Event}}
+use Rattle.lz_machine.specs.declared.event.Event.TheVariants.{Invoke, Pin, WriteKey, Check, WriteOpen, Link, WriteClose, Mark, Release, Unlink, Retire, Answer}
 use Rattle.lz_machine.specs.Yards.{Shape, Yard, actor_at, cell_at, actor_in, stage_in, cell_in, pin_in}
-use Rattle.lz_machine.specs.Table.{needs, course, is_unused, has_stage, has_checked, has_opened, has_marked, is_old}
-use Rattle.lz_machine.specs.Calls.{event_at, loaded}
-use Rattle.lz_machine.specs.Runs.{Point, Service, Caller, caller_at, next_event, with_words, first_point, run, IsNext, MayPlay}
-use Rattle.lz_machine.specs.Notes.{Notes}
-use Rattle.lz_machine.specs.CallersSound.{View, view_of, Relies, is_before_pin, side_of}
-use Rattle.lz_machine.specs.SlotsSound.{opens, has_removed_node, IsHandStage, unlocks}
-use Rattle.lz_machine.specs.LocksSound.{has_locks, HasPlace, RestsOn, HasOpened, HasClosed}
-use Rattle.lz_machine.specs.Sound.{Sound}
-use Rattle.lz_machine.specs.Ready.{IsEventOf, IsReadyFor, IsReady}
-use Rattle.lz_machine.proofs.Frames.OneActor.{caller_range, mine}
-use Rattle.lz_machine.proofs.Frames.FittingKeys.{key_written, writes_fitting}
-use Rattle.lz_machine.proofs.Frames.OtherCallers.{held_node}
-use Rattle.lz_machine.proofs.Frames.BesideKey.{opened_shut}
-use Rattle.lz_machine.proofs.Steps.Unlink.{first_place, node_place}
-use Rattle.lz_machine.proofs.Runs.Course.{fresh_pin, plays_alive, plays_needs}
+use Rattle.lz_machine.specs.{Table.{needs, course, is_unused, has_stage, has_checked, has_opened, has_marked, is_old}, Calls.{event_at, loaded}}
+use Rattle.lz_machine.specs.{Runs.{Point, Service, Caller, caller_at, next_event, with_words, first_point, run, IsNext, MayPlay}, Notes.{Notes}}
+use Rattle.lz_machine.specs.{CallersSound.{View, view_of, Relies, is_before_pin, side_of}, SlotsSound.{opens, has_removed_node, IsHandStage, unlocks}}
+use Rattle.lz_machine.specs.{LocksSound.{has_locks, HasPlace, RestsOn, HasOpened, HasClosed}, Sound.{Sound}, Ready.{IsEventOf, IsReadyFor, IsReady}}
+use Rattle.lz_machine.proofs.Frames.{OneActor.{caller_range, mine}, FittingKeys.{key_written, writes_fitting}, OtherCallers.{held_node}}
+use Rattle.lz_machine.proofs.{Frames.{BesideKey.{opened_shut}, Ranges.{few_slots}, Outside.{side_even}}, Steps.Unlink.{first_place, node_place}}
+use Rattle.lz_machine.proofs.{Steps.{ReturnedSlot.{closed_unused}, WriteClose.{checked_node}}, Runs.Course.{fresh_pin, plays_alive, plays_needs}}
 use Rattle.lz_machine.proofs.Theorem.ShownChains.{links_are, key_is, keeps_key, keeps_link, may_link_at, may_unlink_at, owned_place, is_curr}
-use Rattle.lz_machine.proofs.Theorem.Reached.{reached_sound, IsUpAt, up_at}
-use Rattle.lz_machine.proofs.Steps.ReturnedSlot.{closed_unused}
-use Rattle.lz_machine.proofs.Crash.ImageSlots.{node_stands}
-use Rattle.lz_machine.proofs.Steps.WriteClose.{checked_node}
-use Rattle.lz_machine.proofs.Theorem.Needs.{Knows, check_locks, is_checked, is_closed, is_keyed, is_marking, is_opened, is_released, opens_alive, release_locks, some_of}
-use Rattle.lz_machine.proofs.Frames.Ranges.{few_slots}
-use Rattle.lz_machine.proofs.Frames.Outside.{side_even}
+use Rattle.lz_machine.proofs.Theorem.{Reached.{reached_sound, IsUpAt, up_at}, Needs.{Knows, check_locks, is_checked, is_closed, is_keyed, is_marking}}
+use Rattle.lz_machine.proofs.{Theorem.Needs.{is_opened, is_released, opens_alive, release_locks, some_of}, Crash.ImageSlots.{node_stands}}
 
 -- the yard of a sound service, with words of which only pins differ, and not the actor's own
 module _ (n calls : ℕ) (y : Yard) (callers : List (Option Caller)) (disk : Medium) (M : History) (P : Trace) (notes : Notes) (sound : Sound n calls y callers disk M P notes)

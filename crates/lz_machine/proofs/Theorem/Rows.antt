@@ -1,31 +1,18 @@
 -- Worked rows that the machine computes: what a crash leaves and an open finds.
 use Rattle.std.proofs.lemmas.Bool.Decides.{nat_tests}
 use Rattle.std.proofs.Common.{◌≡◌, arith, lit<, ℕ, ◌+◌, ◌^◌, true, false, List, [], ◌∷◌, ◌++◌, replicate, refl, Option, Some, None, drop}
-use Rattle.lz_slot.specs.declared.format.Format.TheVariants.{One}
-use Rattle.lz_slot.specs.Bytes.{slot_body}
-use Rattle.lz_slot.specs.declared.command.Command.TheVariants.{Add, Remove, Has}
-use Rattle.lz_slot.specs.declared.history.Mark.{Mark}
-use Rattle.lz_slot.specs.declared.history.Mark.TheVariants.{Call, Answer, Refused, Cut, Stop, Crash, Opened}
-use Rattle.lz_slot.specs.declared.history.Refusal.TheVariants.{OldFile}
-use Rattle.lz_slot.specs.declared.history.Cut.TheVariants.{Halted, Device}
+use Rattle.lz_slot.specs.declared.{format.Format.TheVariants.{One}, command.Command.TheVariants.{Add, Remove, Has}, history.Mark.{Mark}}
+use Rattle.lz_slot.specs.declared.history.{Mark.TheVariants.{Call, Answer, Refused, Cut, Stop, Crash, Opened}, Refusal.TheVariants.{OldFile}}
+use Rattle.lz_slot.specs.{declared.history.Cut.TheVariants.{Halted, Device}, Bytes.{slot_body}}
 use Rattle.lz_list.specs.Traces.{Lawful, MayLink, bucket_of, keys_shown}
-use Rattle.lz_vault.specs.declared.vault.Stage.TheVariants.{Closed, Keyed}
-use Rattle.lz_vault.specs.Stages.{Cell}
-use Rattle.lz_disk.specs.Picks.{left_by}
-use Rattle.lz_disk.specs.declared.memory.Pick.{Pick}
-use Rattle.lz_disk.specs.declared.memory.Pick.TheVariants.{Old, Byte}
-use Rattle.lz_allot.specs.declared.sight.Sight.TheVariants.{Unseen, Inside, Left}
-use Rattle.lz_allot.specs.Uses.{Use, Free, Taken, Limbo}
-use Rattle.lz_machine.specs.declared.event.Event.TheVariants.{Answer as AnswerIt}
-use Rattle.lz_machine.specs.declared.event.Outcome.{Outcome}
-use Rattle.lz_machine.specs.declared.event.Outcome.TheVariants.{Busy, Slot, NoSlot}
-use Rattle.lz_machine.specs.declared.event.Reply.{Reply}
-use Rattle.lz_machine.specs.declared.event.Reply.TheVariants.{Full as SaysFull}
-use Rattle.lz_machine.specs.Yards.{Yard, opened_yard}
-use Rattle.lz_machine.specs.Table.{line}
-use Rattle.lz_machine.specs.Laws.{outcome_at}
+use Rattle.lz_vault.specs.{declared.vault.Stage.TheVariants.{Closed, Keyed}, Stages.{Cell}}
+use Rattle.lz_disk.specs.{Picks.{left_by}, declared.memory.Pick.{Pick, TheVariants.{Old, Byte}}}
+use Rattle.lz_allot.specs.{declared.sight.Sight.TheVariants.{Unseen, Inside, Left}, Uses.{Use, Free, Taken, Limbo}}
+use Rattle.lz_machine.specs.declared.event.{Event.TheVariants.{Answer as AnswerIt}, Outcome.{Outcome, TheVariants.{Busy, Slot, NoSlot}}, Reply.{Reply}}
+use Rattle.lz_machine.specs.{declared.event.Reply.TheVariants.{Full as SaysFull}, Yards.{Yard, opened_yard}, Table.{line}, Laws.{outcome_at}}
 use Rattle.lz_machine.specs.Runs.{Start, State, Up, Down, Transition, Calls, Turn, Fails, Trips, Stops, Crashes, Opens, made_text, caller_at, reply_at, disk_of}
-use Rattle.lz_machine.proofs.Theorem.TraceRows.{fresh, head_2, marks_after, play, reader_steps, reader_trace, removal_steps, turns, until_release, words_of_state}
+use Rattle.lz_machine.proofs.Theorem.TraceRows.{fresh, head_2, marks_after, play, reader_steps, reader_trace, removal_steps, turns, until_release}
+use Rattle.lz_machine.proofs.Theorem.TraceRows.{words_of_state}
 
 -- Another caller's sync covers a closing before its node is marked: the stage is Closed, the node is linked and unmarked,
 -- and `has` still answers yes.

@@ -1,20 +1,15 @@
 -- Worked rows that are runs, of which each step may be taken: crashes inside a device call, and runs that follow on one another.
-use Rattle.std.proofs.Common.{◌≡◌, ◌⊎◌, inl, inr, ℕ, suc, ◌≤◌, lit<, Bool, true, false, List, [], ◌∷◌, ◌++◌, replicate, Option, Some, None, is_some, refl, sym, subst, arith}
+use Rattle.std.proofs.Common.{◌≡◌, ◌⊎◌, inl, inr, ℕ, suc, ◌≤◌, lit<, Bool, true, false, List, [], ◌∷◌, ◌++◌, replicate, Option, Some, None, is_some, refl, sym}
+use Rattle.std.proofs.Common.{subst, arith}
 use mathlib.Core.Bool.{false≢true}
-use Rattle.lz_slot.specs.Limits.{most_buckets, most_passes}
-use Rattle.lz_slot.specs.declared.format.Format.TheVariants.{Two}
-use Rattle.lz_slot.specs.declared.command.Command.TheVariants.{Add}
-use Rattle.lz_slot.specs.declared.history.Mark.TheVariants.{Call, Answer}
-use Rattle.lz_slot.specs.Bytes.{header_body, open_byte, slot_body, format_of}
-use Rattle.lz_slot.specs.Sets.{members}
+use Rattle.lz_slot.specs.{Limits.{most_buckets, most_passes}, declared.{format.Format.TheVariants.{Two}, command.Command.TheVariants.{Add}}}
+use Rattle.lz_slot.specs.{declared.history.Mark.TheVariants.{Call, Answer}, Bytes.{header_body, open_byte, slot_body, format_of}, Sets.{members}}
 use Rattle.lz_disk.specs.Images.{Medium, IsImage, at_rest}
 use Rattle.lz_vault.specs.Stages.{Suits}
 use Rattle.lz_list.specs.Traces.{bucket_of}
-use Rattle.lz_machine.specs.JoinedRuns.{Ran, Follow, all_lives}
-use Rattle.lz_machine.specs.OneAdd.{one_slot, one_add}
-use Rattle.lz_machine.specs.Runs.{Start, IsStart, State, Up, Down, Transition, Calls, Turn, CrashesIn, Caller, IsRun, LeftInside, MayLeave, MayStep, after_turn, caller_at, disk_of, first_point, made_text, run, state_after}
-use Rattle.lz_machine.proofs.Open.FoundSlots.{pass_of}
-use Rattle.lz_machine.proofs.Theorem.JoinedRuns.{left_is_start}
+use Rattle.lz_machine.specs.{JoinedRuns.{Ran, Follow, all_lives}, OneAdd.{one_slot, one_add}, Runs.{Start, IsStart, State, Up, Down, Transition, Calls, Turn}}
+use Rattle.lz_machine.specs.Runs.{CrashesIn, Caller, IsRun, LeftInside, MayLeave, MayStep, after_turn, caller_at, disk_of, first_point, made_text, run}
+use Rattle.lz_machine.{specs.Runs.{state_after}, proofs.{Open.FoundSlots.{pass_of}, Theorem.JoinedRuns.{left_is_start}}}
 use Rattle.lz_machine.proofs.Theorem.OneAdd.{one_add_runs, image_left, run_sound}
 
 abbrev callers_of : State → List (Option Caller)

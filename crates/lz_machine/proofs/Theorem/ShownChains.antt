@@ -1,31 +1,18 @@
 -- The words after a trace show its chains, in the words that the list's contracts speak of. They may be those of another table
 -- with the same heads, links and keys.
 use Rattle.std.proofs.Common.{◌≡◌, ◌⊎◌, inl, inr, ℕ, zero, suc, ◌<◌, ◌≤◌, true, List, length, get_or, Option, Some, None, refl, sym, ap, ◌∙◌, subst, arith}
+use Rattle.std.proofs.lemmas.{Bool.{cases_lt}, List.{get_or_past}}
 use mathlib.Core.Bool.{false≢true}
-use Rattle.std.proofs.lemmas.Bool.{cases_lt}
-use Rattle.std.proofs.lemmas.List.{get_or_past}
 use Rattle.lz_slot.specs.Limits.{most_slots}
-use Rattle.lz_list.specs.declared.place.Place.{Place}
-use Rattle.lz_list.specs.declared.place.Place.TheVariants.{Bucket, Node}
-use Rattle.lz_list.specs.declared.word.Word.TheVariants.{Head, Link, Key}
+use Rattle.lz_list.specs.declared.{place.Place.{Place, TheVariants.{Bucket, Node}}, word.Word.TheVariants.{Head, Link, Key}}
 use Rattle.lz_list.specs.Words.{Words, get, next_of, flags_of, next_at, is_marked_at, place_number, link_to}
 use Rattle.lz_list.specs.Lists.{next_in, home, AreSlots, ShowsChain, IsNodeOf, IsOfBucket, IsPlace, IsCurr, IsPredecessor, MayLinkAt, MayUnlinkAt, KeepsList}
-use Rattle.lz_list.specs.Locks.{NodeLocks, owner}
-use Rattle.lz_list.specs.Traces.{Trace, Adjacent, IsLoose, KeysBelong, on, rank_at, chain, chain_of, bucket_of, key_word, node_next, head_word, next_link, is_marked, word_after}
-use Rattle.lz_list.specs.Laws.{IsLow, IsHigh}
-use Rattle.lz_list.proofs.Chains.PlaceRank.{adjacent_next, shows_frame, shows_keys}
-use Rattle.lz_list.proofs.Traces.Hindsight.{stands}
-use Rattle.lz_list.proofs.Chains.TraceChain.{words_show_chain}
-use Rattle.lz_list.proofs.Chains.SortedChain.{node_on}
-use Rattle.lz_list.proofs.Tables.WordTable.{length-table}
-use Rattle.lz_list.proofs.Traces.TraceWords.{chain_slots}
-use Rattle.lz_machine.specs.Yards.{Shape}
-use Rattle.lz_machine.specs.Stands.{IsLinkable, InBucket}
-use Rattle.lz_machine.specs.LocksSound.{IsBeside, IsRightBefore as StandsBefore}
-use Rattle.lz_machine.specs.Sound.{TraceSound}
-use Rattle.lz_machine.proofs.Frames.Ranges.{on_range}
-use Rattle.lz_machine.proofs.Frames.LoadedWord.{bucket_range, head_next, link_next, link_mark, key_load}
-use Rattle.lz_machine.proofs.Frames.OtherCallers.{faces_on}
+use Rattle.lz_list.specs.{Locks.{NodeLocks, owner}, Traces.{Trace, Adjacent, IsLoose, KeysBelong, on, rank_at, chain, chain_of, bucket_of, key_word, node_next}}
+use Rattle.lz_list.specs.{Traces.{head_word, next_link, is_marked, word_after}, Laws.{IsLow, IsHigh}}
+use Rattle.lz_list.proofs.Chains.{PlaceRank.{adjacent_next, shows_frame, shows_keys}, TraceChain.{words_show_chain}, SortedChain.{node_on}}
+use Rattle.lz_list.proofs.{Traces.{Hindsight.{stands}, TraceWords.{chain_slots}}, Tables.WordTable.{length-table}}
+use Rattle.lz_machine.specs.{Yards.{Shape}, Stands.{IsLinkable, InBucket}, LocksSound.{IsBeside, IsRightBefore as StandsBefore}, Sound.{TraceSound}}
+use Rattle.lz_machine.proofs.Frames.{Ranges.{on_range}, LoadedWord.{bucket_range, head_next, link_next, link_mark, key_load}, OtherCallers.{faces_on}}
 
 module _ (shape : Shape) (words : Words) (P : Trace) (trace : TraceSound shape words P) (few : shape.slots ≤ most_slots) (w : Words) (heads : w.heads ≡ words.heads) (links : w.links ≡ words.links) (keys : w.keys ≡ words.keys) where
   abbrev keys_then : ℕ → ℕ

@@ -1,20 +1,11 @@
 -- A caller's next event comes in time: it is an event of its yard, it has what it needs, and its caller may take what it gives.
 use Rattle.std.proofs.Common.{◌≡◌, ◌≢◌, ℕ, List, Some, refl, subst}
 use Rattle.lz_disk.specs.Images.{Medium}
-use Rattle.lz_machine.specs.declared.event.Outcome.TheVariants.{NotNow}
-use Rattle.lz_machine.specs.declared.event.Reply.TheVariants.{Worn as SaysWorn}
-use Rattle.lz_machine.specs.declared.caller.Progress.TheVariants.{Answering}
-use Rattle.lz_machine.specs.Table.{last_pin, pin_of, line}
-use Rattle.lz_machine.specs.Orders.{MayTake}
-use Rattle.lz_machine.specs.Runs.{Start, Up, Transition, Point, Service, Caller, caller_at, next_event, first_point, run, IsRun, IsStart}
-use Rattle.lz_machine.specs.InTime.{NeverLate}
-use Rattle.lz_machine.specs.CallersSound.{view_of, CallerSound, IsSide}
-use Rattle.lz_machine.specs.Sound.{IsSound}
-use Rattle.lz_machine.specs.Ready.{IsEventOf}
-use Rattle.lz_machine.proofs.Frames.OneActor.{mine}
-use Rattle.lz_machine.proofs.Runs.EventRange.{asks}
-use Rattle.lz_machine.proofs.Theorem.Reached.{reached_sound, IsUpAt, up_at}
-use Rattle.lz_machine.proofs.Theorem.EventNeeds.{has_needs, takes, timely}
+use Rattle.lz_machine.specs.declared.{event.{Outcome.TheVariants.{NotNow}, Reply.TheVariants.{Worn as SaysWorn}}, caller.Progress.TheVariants.{Answering}}
+use Rattle.lz_machine.specs.{Table.{last_pin, pin_of, line}, Orders.{MayTake}}
+use Rattle.lz_machine.specs.{Runs.{Start, Up, Transition, Point, Service, Caller, caller_at, next_event, first_point, run, IsRun, IsStart}, InTime.{NeverLate}}
+use Rattle.lz_machine.{specs.{CallersSound.{view_of, CallerSound, IsSide}, Sound.{IsSound}, Ready.{IsEventOf}}, proofs.Frames.OneActor.{mine}}
+use Rattle.lz_machine.proofs.{Runs.EventRange.{asks}, Theorem.{Reached.{reached_sound, IsUpAt, up_at}, EventNeeds.{has_needs, takes, timely}}}
 
 -- At a sound point: what a caller's next event is, has and gives.
 module _ (start : Start) (p : Point) (service : Service) (disk : Medium) (sound : IsSound start p) (is : p.state ≡ Up service disk) where

@@ -1,15 +1,9 @@
 -- What is known of the next event of an open call, at a point that is reached.
 use Rattle.std.proofs.Common.{◌≡◌, ◌≢◌, ℕ, Some, ap, ◌∙◌, subst}
 use Rattle.lz_disk.specs.Images.{Medium}
-use Rattle.lz_machine.specs.declared.event.Outcome.TheVariants.{NotNow}
-use Rattle.lz_machine.specs.Table.{line}
-use Rattle.lz_machine.specs.Ready.{IsEventOf}
-use Rattle.lz_machine.specs.Orders.{MayTake}
-use Rattle.lz_machine.specs.Runs.{Start, Service, Caller, Up, Point, caller_at, next_event}
-use Rattle.lz_machine.specs.Points.{IsReached}
-use Rattle.lz_machine.specs.Sound.{IsSound}
-use Rattle.lz_machine.proofs.Theorem.Reached.{reached_sound}
-use Rattle.lz_machine.proofs.Theorem.Timeliness.{is_event_there, in_time_reached, may_take_there}
+use Rattle.lz_machine.specs.{declared.event.Outcome.TheVariants.{NotNow}, Table.{line}, Ready.{IsEventOf}, Orders.{MayTake}}
+use Rattle.lz_machine.specs.{Runs.{Start, Service, Caller, Up, Point, caller_at, next_event}, Points.{IsReached}, Sound.{IsSound}}
+use Rattle.lz_machine.proofs.Theorem.{Reached.{reached_sound}, Timeliness.{is_event_there, in_time_reached, may_take_there}}
 
 module _ (start : Start) (p : Point) (reached : IsReached start p) where
   sound_at : IsSound start p

@@ -1,30 +1,18 @@
 -- The notes of a pass that is inside are those of the trace at which it went in.
-use Rattle.std.proofs.Common.{◌≡◌, ◌⊎◌, inl, inr, ℕ, suc, ◌≤◌, ◌%◌, if◌then◌else◌, Bool, true, false, List, [], ◌∷◌, ◌++◌, length, Option, refl, sym, ap, ◌∙◌, subst, arith}
+use Rattle.std.proofs.Common.{◌≡◌, ◌⊎◌, inl, inr, ℕ, suc, ◌≤◌, ◌%◌, if◌then◌else◌, Bool, true, false, List, [], ◌∷◌, ◌++◌, length, Option, refl, sym, ap, ◌∙◌}
+use Rattle.std.proofs.{Common.{subst, arith}, lemmas.Bool.{cases_eq, Decides.{nat_tests}}}
 use mathlib.Core.Bool.{false≢true}
-use Rattle.std.proofs.lemmas.Bool.{cases_eq}
-use Rattle.std.proofs.lemmas.Bool.Decides.{nat_tests}
 use Rattle.lz_slot.specs.Histories.{Life}
 use Rattle.lz_disk.specs.Images.{Medium, at_rest, synced}
-use Rattle.lz_vault.specs.declared.vault.Stage.{Stage}
-use Rattle.lz_vault.specs.declared.vault.Stage.TheVariants.{Closed, Closing}
-use Rattle.lz_vault.specs.Stages.{is_covered}
+use Rattle.lz_vault.specs.{declared.vault.Stage.{Stage, TheVariants.{Closed, Closing}}, Stages.{is_covered}}
 use Rattle.lz_allot.specs.Uses.{is_outside}
-use Rattle.lz_list.specs.Pinned.{Stood}
-use Rattle.lz_list.specs.Traces.{Trace, is_marked}
-use Rattle.lz_machine.specs.Yards.{Shape, IsInside, pin_in, stage_in}
-use Rattle.lz_machine.specs.CallsStand.{is_out, trace_outside, own_change, CallsStand, MarkedIsClosed}
-use Rattle.lz_machine.specs.Runs.{Start, IsStart, Service, State, Up, Down, Transition, Trips, Stops, Crashes, Opens, OpenFails, Point, MayStep, IsRun, run, first_point, point_after, caller_at, state_after, trace_after, calls_made_after, opened_service, marks_of}
-use Rattle.lz_machine.specs.Notes.{Notes}
-use Rattle.lz_machine.specs.CallersSound.{CallerSound, view_of}
-use Rattle.lz_machine.specs.SlotsSound.{SlotStands, is_node, is_held, is_out as is_gone, is_free, is_limbo, IsNodeStage}
-use Rattle.lz_machine.specs.Sound.{UpSound, IsSound}
-use Rattle.lz_machine.specs.Limbo.{IsAway}
-use Rattle.lz_machine.proofs.Runs.PointParts.{point}
-use Rattle.lz_machine.proofs.Steps.Point.{NextAt, marked, up_next}
-use Rattle.lz_machine.proofs.Frames.ChangeNotes.{none_beyond, none_outside}
-use Rattle.lz_machine.proofs.Frames.Limbo.{shorter}
-use Rattle.lz_machine.proofs.Frames.Ranges.{stood_range}
-use Rattle.lz_machine.proofs.Open.FoundSlots.{pass_of}
+use Rattle.lz_list.specs.{Pinned.{Stood}, Traces.{Trace, is_marked}}
+use Rattle.lz_machine.specs.{Yards.{Shape, IsInside, pin_in, stage_in}, CallsStand.{is_out, trace_outside, own_change, CallsStand, MarkedIsClosed}}
+use Rattle.lz_machine.specs.Runs.{Start, IsStart, Service, State, Up, Down, Transition, Trips, Stops, Crashes, Opens, OpenFails, Point, MayStep, IsRun, run}
+use Rattle.lz_machine.specs.{Runs.{first_point, point_after, caller_at, state_after, trace_after, calls_made_after, opened_service, marks_of}, Notes.{Notes}}
+use Rattle.lz_machine.specs.{CallersSound.{CallerSound, view_of}, SlotsSound.{SlotStands, is_node, is_held, is_out as is_gone, is_free, is_limbo, IsNodeStage}}
+use Rattle.lz_machine.{specs.{Sound.{UpSound, IsSound}, Limbo.{IsAway}}, proofs.{Runs.PointParts.{point}, Steps.Point.{NextAt, marked, up_next}}}
+use Rattle.lz_machine.proofs.{Frames.{ChangeNotes.{none_beyond, none_outside}, Limbo.{shorter}, Ranges.{stood_range}}, Open.FoundSlots.{pass_of}}
 use Rattle.lz_machine.proofs.Theorem.Reached.{reached_sound, up_at}
 
 -- an open service is sound, with notes that are tied to these traces

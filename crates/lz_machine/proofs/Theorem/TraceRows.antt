@@ -1,21 +1,16 @@
 -- Worked rows that the machine computes: its marks, what is durable, and its traces.
 use Rattle.std.proofs.Common.{◌≡◌, inl, inr, reverse, ℕ, ◌+◌, ◌^◌, true, false, List, [], ◌∷◌, ◌++◌, replicate, refl, Some, None, drop}
-use Rattle.lz_slot.specs.declared.format.Format.TheVariants.{One, Two}
-use Rattle.lz_slot.specs.Bytes.{slot_body, open_byte, header_body}
-use Rattle.lz_slot.specs.declared.command.Command.TheVariants.{Add, Remove, Has}
-use Rattle.lz_slot.specs.declared.history.Mark.{Mark}
-use Rattle.lz_slot.specs.declared.history.Mark.TheVariants.{Call, Answer, Refused, Cut, Stop, Crash, Opened}
-use Rattle.lz_slot.specs.declared.history.Refusal.TheVariants.{Full}
-use Rattle.lz_slot.specs.declared.history.Cut.TheVariants.{Halted, Device}
-use Rattle.lz_list.specs.declared.place.Place.TheVariants.{Bucket}
-use Rattle.lz_list.specs.declared.word.Word.TheVariants.{Head, Halt as HaltWord}
-use Rattle.lz_machine.specs.declared.event.Event.{Event}
-use Rattle.lz_machine.specs.declared.event.Event.TheVariants.{Pin, Hop, Reserve, WriteKey, Claim, Check, WriteOpen, Link, Release, Sync, Settle, Answer as AnswerIt}
-use Rattle.lz_list.specs.declared.publishing.Publishing.TheVariants.{Linked as linked, Settled as settled, Marked as marked, Unlinked as unlinked, KeyPrepared as key_prepared, LinkPrepared as link_prepared}
-use Rattle.lz_list.specs.declared.publishing.Change.TheVariants.{Added, Removed}
-use Rattle.lz_list.specs.Words.{Words}
+use Rattle.lz_slot.specs.declared.{format.Format.TheVariants.{One, Two}, command.Command.TheVariants.{Add, Remove, Has}, history.Mark.{Mark}}
+use Rattle.lz_slot.specs.declared.history.{Mark.TheVariants.{Call, Answer, Refused, Cut, Stop, Crash, Opened}, Refusal.TheVariants.{Full}}
+use Rattle.lz_slot.specs.{declared.history.Cut.TheVariants.{Halted, Device}, Bytes.{slot_body, open_byte, header_body}}
+use Rattle.lz_list.specs.declared.{place.Place.TheVariants.{Bucket}, word.Word.TheVariants.{Head, Halt as HaltWord}}
+use Rattle.lz_list.specs.declared.publishing.Publishing.TheVariants.{Linked as linked, Settled as settled, Marked as marked, Unlinked as unlinked}
+use Rattle.lz_list.specs.declared.publishing.Publishing.TheVariants.{KeyPrepared as key_prepared, LinkPrepared as link_prepared}
+use Rattle.lz_list.specs.{declared.publishing.Change.TheVariants.{Added, Removed}, Words.{Words}}
 use Rattle.lz_list.specs.Traces.{is_removed, linking, Trace, SettledYes, SettledNo, words_of_trace, bucket_of}
-use Rattle.lz_machine.specs.Runs.{Start, State, Up, Down, Transition, Calls, Turn, Fails, Trips, Stops, Crashes, CrashesIn, Opens, Point, first_point, point_after, run, made_text, caller_at, next_event, disk_of}
+use Rattle.lz_machine.specs.declared.event.Event.{Event, TheVariants.{Pin, Hop, Reserve, WriteKey, Claim, Check, WriteOpen, Link, Release, Sync, Settle}}
+use Rattle.lz_machine.specs.{declared.event.Event.TheVariants.{Answer as AnswerIt}, Runs.{Start, State, Up, Down, Transition, Calls, Turn, Fails, Trips, Stops}}
+use Rattle.lz_machine.specs.Runs.{Crashes, CrashesIn, Opens, Point, first_point, point_after, run, made_text, caller_at, next_event, disk_of}
 
 abbrev pub fresh : ℕ → ℕ → Start
 fresh slots passes = record { bytewise = false; shape = record { slots = slots; buckets = 1; passes = passes }; text = made_text One slots }

@@ -1,28 +1,14 @@
 -- The end of a walk, in each state that is reached, from what its call relies on.
 use Rattle.std.proofs.Common.{◌≡◌, inl, inr, ℕ, suc, ◌≤◌, if◌then◌else◌, Bool, true, false, length, Option, sym, ap, ◌∙◌, subst}
-use Rattle.lz_slot.specs.Limits.{most_slots}
-use Rattle.lz_slot.specs.Sets.{key_of}
-use Rattle.lz_list.specs.declared.flags.Flags.{Flags}
-use Rattle.lz_list.specs.declared.walk.Look.{Look}
-use Rattle.lz_list.specs.declared.walk.Met.TheVariants.{Unmarked, Marked}
-use Rattle.lz_list.specs.Words.{Words, get, link_to, place_number}
-use Rattle.lz_list.specs.Walks.{wants, hopped}
-use Rattle.lz_list.specs.Traces.{Trace, Begins, bucket_of, key_word, is_marked, flags_after}
-use Rattle.lz_list.specs.Pinned.{Stood, IsQuiet}
-use Rattle.lz_list.proofs.Traces.Hindsight.{absent_since}
-use Rattle.lz_list.proofs.Traces.WalkEnd.{marked_was_sure, unsure_node, unmarked_surely}
-use Rattle.lz_machine.specs.declared.caller.Progress.{Progress}
-use Rattle.lz_machine.specs.Yards.{Shape, IsInside, pin_in}
-use Rattle.lz_machine.specs.CallersSound.{IsCaller, IsLooking, Relies, view_of, is_before_pin, side_of}
-use Rattle.lz_machine.specs.CallsStand.{own_change, trace_outside}
-use Rattle.lz_machine.specs.Runs.{Caller, run, first_point}
-use Rattle.lz_machine.specs.Sound.{TraceSound}
-use Rattle.lz_machine.specs.WalkEnds.{MetTells, HopTells, WalkEnds}
-use Rattle.lz_machine.proofs.Frames.OneLoad.{there_since, loaded, wanted}
-use Rattle.lz_machine.proofs.Frames.Ranges.{few_slots}
-use Rattle.lz_machine.proofs.Theorem.Reached.{reached_sound, up_at}
+use Rattle.lz_slot.specs.{Limits.{most_slots}, Sets.{key_of}}
+use Rattle.lz_list.specs.{declared.{flags.Flags.{Flags}, walk.{Look.{Look}, Met.TheVariants.{Unmarked, Marked}}}, Words.{Words, get, link_to, place_number}}
+use Rattle.lz_list.specs.{Walks.{wants, hopped}, Traces.{Trace, Begins, bucket_of, key_word, is_marked, flags_after}, Pinned.{Stood, IsQuiet}}
+use Rattle.lz_list.proofs.Traces.{Hindsight.{absent_since}, WalkEnd.{marked_was_sure, unsure_node, unmarked_surely}}
+use Rattle.lz_machine.specs.{declared.caller.Progress.{Progress}, Yards.{Shape, IsInside, pin_in}}
+use Rattle.lz_machine.specs.{CallersSound.{IsCaller, IsLooking, Relies, view_of, is_before_pin, side_of}, CallsStand.{own_change, trace_outside}}
+use Rattle.lz_machine.specs.{Runs.{Caller, run, first_point}, Sound.{TraceSound}, WalkEnds.{MetTells, HopTells, WalkEnds}}
+use Rattle.lz_machine.proofs.{Frames.{OneLoad.{there_since, loaded, wanted}, Ranges.{few_slots}, Outside.{side_even}}, Theorem.Reached.{reached_sound, up_at}}
 use Rattle.lz_machine.proofs.Theorem.TraceOutside.{calls_stand}
-use Rattle.lz_machine.proofs.Frames.Outside.{side_even}
 
 module _ (shape : Shape) (words : Words) (P : Trace) (trace : TraceSound shape words P) (few : shape.slots ≤ most_slots) (P0 : Trace) (quiet : IsQuiet shape.buckets P0 P) (begins : Begins P0 P) (k : ℕ) where
   abbrev buckets : ℕ

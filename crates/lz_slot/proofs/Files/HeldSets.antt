@@ -1,8 +1,6 @@
 -- A set with the same keys as one that a text holds, and the key that a slot says.
 use Rattle.std.proofs.Common.{◌≡◌, ℕ, List, IsTrue, sym, subst}
-use Rattle.lz_slot.specs.Sets.{Keys, Same}
-use Rattle.lz_slot.specs.Bytes.{Holds}
-use Rattle.lz_slot.specs.declared.slot.SlotRead.TheVariants.{Member}
+use Rattle.lz_slot.specs.{Sets.{Keys, Same}, Bytes.{Holds}, declared.slot.SlotRead.TheVariants.{Member}}
 
 -- a set with the same keys is held too
 pub holds_same_set : (t : List ℕ) (N : ℕ) (S T : Keys) → Same S T → Holds t N S → Holds t N T

@@ -1,7 +1,6 @@
 -- Lines of marks, one after another.
 use Rattle.std.proofs.Common.{◌≡◌, ℕ, List, [], ◌∷◌, ◌++◌, refl, sym, ap, ◌∙◌, append_assoc}
-use Rattle.lz_slot.specs.MarkTexts.{mark_text, marks_text}
-use Rattle.lz_slot.specs.declared.history.Mark.{Mark}
+use Rattle.lz_slot.specs.{MarkTexts.{mark_text, marks_text}, declared.history.Mark.{Mark}}
 
 pub marks_join : (ms ns : List Mark) → marks_text (ms ++ ns) ≡ marks_text ms ++ marks_text ns
 marks_join [] ns = refl

@@ -1,15 +1,9 @@
 -- Numbers and their plain decimals.
-use Rattle.std.proofs.Common.{◌≡◌, ℕ, zero, suc, ◌+◌, ◌-◌, ◌*◌, ◌<◌, ◌≤◌, List, length, take, get_or, slice_index, decimal, All, true, false, nat_le, Option, Some, None, arith, rules, refl, sym, ap, ◌∙◌}
-use Rattle.std.specs.Prelude.{option_and_then, ◌&&◌}
-use Rattle.std.specs.Int.{IsInRange}
-use Rattle.std.specs.List.{list_all}
-use Rattle.std.specs.Str.Parse.{digits_value}
-use Rattle.std.proofs.lemmas.Bool.{cond_both}
-use Rattle.std.proofs.lemmas.Bool.Decides.{nat_tests}
-use Rattle.std.proofs.lemmas.Int.Digits.{digits_value_more}
-use Rattle.std.proofs.lemmas.Str.{digit_value_digit}
-use Rattle.std.proofs.lemmas.Str.Parse.{IsNumeralModel, numerals_by_value, digits_value-take-le}
+use Rattle.std.proofs.Common.{◌≡◌, ℕ, zero, suc, ◌+◌, ◌-◌, ◌*◌, ◌<◌, ◌≤◌, List, length, take, get_or, slice_index, decimal, All, true, false, nat_le, Option}
+use Rattle.std.proofs.{Common.{Some, None, arith, rules, refl, sym, ap, ◌∙◌}, lemmas.{Bool.{cond_both, Decides.{nat_tests}}, Int.Digits.{digits_value_more}}}
+use Rattle.std.proofs.lemmas.Str.{digit_value_digit, Parse.{IsNumeralModel, numerals_by_value, digits_value-take-le}}
 use Rattle.std.proofs.lemmas.Fmt.{decimal-digits_value, digits_decimal, digits_value-decimal, decimal_nonempty, first_decimal, decimal_digit}
+use Rattle.std.specs.{Prelude.{option_and_then, ◌&&◌}, Int.{IsInRange}, List.{list_all}, Str.Parse.{digits_value}}
 use Rattle.lz_slot.specs.Numerals.{is_digit, is_number, largest_read, number_in, within, NumbersReadBack}
 
 pub tested : IsNumeralModel (λ (ds : List ℕ). list_all is_digit ds ≡ true) (digits_value 10)

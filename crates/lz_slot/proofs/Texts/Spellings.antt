@@ -1,16 +1,11 @@
 -- Keys and the texts that spell them.
-use Rattle.std.proofs.Common.{◌≡◌, ℕ, ◌+◌, ◌-◌, ◌≤◌, ◌==◌, length-append, List, [], ◌∷◌, ◌++◌, length, take, drop, decimal, true, false, nat_eq, Option, Some, None, Result, Ok, Err, inl, inr, arith, refl, sym, ap, ◌∙◌}
-use Rattle.std.specs.List.{list_all}
-use Rattle.std.proofs.lemmas.Bool.{cond_both, false_from_ne_true, false≢true}
-use Rattle.std.proofs.lemmas.Bool.Decides.{nat_tests}
-use Rattle.std.proofs.lemmas.List.{take_rest}
-use Rattle.std.proofs.lemmas.Fmt.{length-decimal-le, digits_decimal}
+use Rattle.std.proofs.Common.{◌≡◌, ℕ, ◌+◌, ◌-◌, ◌≤◌, ◌==◌, length-append, List, [], ◌∷◌, ◌++◌, length, take, drop, decimal, true, false, nat_eq, Option, Some}
+use Rattle.std.proofs.{Common.{None, Result, Ok, Err, inl, inr, arith, refl, sym, ap, ◌∙◌}, lemmas.Bool.{cond_both, false_from_ne_true, false≢true}}
+use Rattle.std.{proofs.lemmas.{Bool.Decides.{nat_tests}, List.{take_rest}, Fmt.{length-decimal-le, digits_decimal}}, specs.List.{list_all}}
 use Rattle.memchr.specs.Find.{IsFirstByte, is_byte}
-use Rattle.lz_slot.specs.Limits.{largest_key, largest_number, last_room}
-use Rattle.lz_slot.specs.Rooms.{rank, room_of, number_of}
-use Rattle.lz_slot.specs.Numerals.{is_digit, largest_read, number_in}
-use Rattle.lz_slot.specs.Texts.{fault_behind, fault_in, fault_of_parts, key_behind, key_in, key_of_number, key_of_parts, key_read, key_text, parted, text_with_room, Spells, KeysReadBack, KeysAreRefused, WrittenKeysAreSpelled}
-use Rattle.lz_slot.specs.declared.spelling.KeyFault.{KeyFault}
+use Rattle.lz_slot.specs.{Limits.{largest_key, largest_number, last_room}, Rooms.{rank, room_of, number_of}, Numerals.{is_digit, largest_read, number_in}}
+use Rattle.lz_slot.specs.Texts.{fault_behind, fault_in, fault_of_parts, key_behind, key_in, key_of_number, key_of_parts, key_read, key_text, parted}
+use Rattle.lz_slot.specs.{Texts.{text_with_room, Spells, KeysReadBack, KeysAreRefused, WrittenKeysAreSpelled}, declared.spelling.KeyFault.{KeyFault}}
 use Rattle.lz_slot.specs.declared.spelling.KeyFault.TheVariants.{TooLarge}
 use Rattle.lz_slot.proofs.Texts.Cuts.{AreParts, Lacks, lacks_all, lacks_more, parted_at, parted_clear, parted_none, parted_whole}
 use Rattle.lz_slot.proofs.Texts.Numerals.{decimal_number, decimal_read, number_told_of, tested}

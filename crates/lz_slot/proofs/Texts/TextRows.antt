@@ -1,13 +1,8 @@
 -- Worked texts of keys and marks.
-use Rattle.std.specs.Prelude.{◌≡◌, [], ◌∷◌, refl, codes, Ok, Err, None, Some}
-use Rattle.std.specs.Fmt.{digits}
-use Rattle.lz_slot.specs.Numerals.{number_in}
-use Rattle.lz_slot.specs.Texts.{key_read, key_text}
-use Rattle.lz_slot.specs.MarkTexts.{mark_text}
-use Rattle.lz_slot.specs.declared.spelling.KeyFault.TheVariants.{NoRoom, NoNumber, TooLarge}
-use Rattle.lz_slot.specs.declared.command.Command.TheVariants.{Add}
-use Rattle.lz_slot.specs.declared.history.Refusal.TheVariants.{OldFile}
-use Rattle.lz_slot.specs.declared.history.Mark.TheVariants.{Call, Refused, Opened}
+use Rattle.std.specs.{Prelude.{◌≡◌, [], ◌∷◌, refl, codes, Ok, Err, None, Some}, Fmt.{digits}}
+use Rattle.lz_slot.specs.{Numerals.{number_in}, Texts.{key_read, key_text}, MarkTexts.{mark_text}}
+use Rattle.lz_slot.specs.declared.{spelling.KeyFault.TheVariants.{NoRoom, NoNumber, TooLarge}, command.Command.TheVariants.{Add}}
+use Rattle.lz_slot.specs.declared.history.{Refusal.TheVariants.{OldFile}, Mark.TheVariants.{Call, Refused, Opened}}
 
 -- a key in room 0 is written without its room, and read in both spellings
 room_0 : (key_text 17 ≡ codes "17") × (key_read (codes "17") ≡ Ok 17) × (key_read (codes "0:17") ≡ Ok 17)

@@ -1,26 +1,16 @@
 -- A call that is under way goes on by a load of its pass.
 use Rattle.std.proofs.Common.{◌≡◌, ℕ, Bool, false, ◌++◌, length, refl, sym, ap, ◌∙◌, subst, append_assoc, is_some, Option, Some, None}
+use Rattle.std.{proofs.lemmas.List.Elements.{filter-append}, specs.List.{list_any}}
 use mathlib.Core.Bool.{false≢true}
-use Rattle.std.specs.List.{list_any}
-use Rattle.lz_tie.proofs.Vocabulary.{Command, Format, key_of, Word, hopped, Trace, halt_word, word_after, Event, Reply, Sequence, Progress, Shape}
-use Rattle.lz_tie.proofs.Vocabulary.{event_at, events_of, halt_loaded, progress_after, is_before_pin, side_of, hop_of, IsLoading, reply_at, IsLate}
-use Rattle.lz_tie.proofs.Vocabulary.{Sizes, Load, Part, is_for, IsShared, placed, unless_replied, shape_of_sizes, index, word_at, Changes, loading}
-use Rattle.lz_tie.proofs.Vocabulary.{IsShownTo, BoardId}
-use Rattle.lz_machine.specs.declared.event.Event.TheVariants.{Hop}
-use Rattle.lz_machine.specs.declared.event.Outcome.TheVariants.{Value}
-use Rattle.lz_machine.specs.declared.caller.Sequence.TheVariants.{Pinning}
+use Rattle.lz_tie.proofs.Vocabulary.{Command, Format, key_of, Word, hopped, Trace, halt_word, word_after, Event, Reply, Sequence, Progress, Shape, event_at}
+use Rattle.lz_tie.proofs.Vocabulary.{events_of, halt_loaded, progress_after, is_before_pin, side_of, hop_of, IsLoading, reply_at, IsLate, Sizes, Load, Part}
+use Rattle.lz_tie.proofs.Vocabulary.{is_for, IsShared, placed, unless_replied, shape_of_sizes, index, word_at, Changes, loading, IsShownTo, BoardId}
+use Rattle.lz_tie.proofs.Calls.{OwnChanges.{calm_none}, NextPlace.{Onward, hop_onward, halt_onward}, CallTurn.{not_old, not_full}, InnerEvents.{none_at}}
+use Rattle.lz_tie.specs.{NotedRuns.{IsHopAt}, UnderWay.{OwnAt, UnderWay}}
+use Rattle.lz_machine.specs.declared.{event.{Event.TheVariants.{Hop}, Outcome.TheVariants.{Value}}, caller.Sequence.TheVariants.{Pinning}}
 use Rattle.lz_machine.specs.declared.caller.Progress.TheVariants.{Playing, LoadsHalt, Walking}
-use Rattle.lz_board.specs.declared.view.What.TheVariants.{Played}
+use Rattle.lz_board.{specs.declared.view.What.TheVariants.{Played}, proofs.{Upkeep.SharedWords.{shared_placed}, Walk.GlanceAnswer.{halt_since}}}
 use Rattle.lz_list.proofs.Tables.Address.{decode}
-use Rattle.lz_board.proofs.Upkeep.SharedWords.{shared_placed}
-use Rattle.lz_board.proofs.Walk.GlanceAnswer.{halt_since}
-use Rattle.std.proofs.lemmas.List.Elements.{filter-append}
-use Rattle.lz_tie.specs.NotedRuns.{IsHopAt}
-use Rattle.lz_tie.specs.UnderWay.{OwnAt, UnderWay}
-use Rattle.lz_tie.proofs.Calls.OwnChanges.{calm_none}
-use Rattle.lz_tie.proofs.Calls.NextPlace.{Onward, hop_onward, halt_onward}
-use Rattle.lz_tie.proofs.Calls.CallTurn.{not_old, not_full}
-use Rattle.lz_tie.proofs.Calls.InnerEvents.{none_at}
 
 loading_going : (at : Progress) → IsLoading at → reply_at at ≡ None
 loading_going LoadsHalt is = refl

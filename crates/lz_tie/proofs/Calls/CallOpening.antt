@@ -1,18 +1,12 @@
 -- A call that was just made is under way.
 use Rattle.std.proofs.Common.{◌≡◌, ℕ, ◌%◌, Bool, true, false, List, [], ◌∷◌, ◌++◌, map, refl, sym, ap, ◌∙◌, subst, arith, if◌then◌else◌, None}
 use mathlib.Core.Bool.{false≢true}
-use Rattle.lz_tie.proofs.Vocabulary.{Command, Format, Trace, Progress, Shape, begun, event_at, first_progress, is_before_pin, side_of, HasPass}
-use Rattle.lz_tie.proofs.Vocabulary.{is_old, IsLate, Note, Load, Part, Extends, note_by, load_note, place, shape_of_sizes, Changes, BoardId}
-use Rattle.lz_machine.specs.declared.event.Reply.TheVariants.{OldFile}
-use Rattle.lz_machine.specs.declared.caller.Progress.TheVariants.{Answering}
+use Rattle.lz_tie.proofs.Vocabulary.{Command, Format, Trace, Progress, Shape, begun, event_at, first_progress, is_before_pin, side_of, HasPass, is_old, IsLate}
+use Rattle.lz_tie.proofs.Vocabulary.{Note, Load, Part, Extends, note_by, load_note, place, shape_of_sizes, Changes, BoardId}
+use Rattle.lz_tie.proofs.Calls.{OwnChanges.{calm, old_none}, NextPlace.{is_full}, CallTurn.{says_old, not_full}, PartAfter.{changes_after}}
+use Rattle.lz_tie.specs.{Holds.{IsIdle, HoldNotes}, NotedRuns.{AreNext}, UnderWay.{OwnAt, UnderWay}}
+use Rattle.lz_machine.specs.declared.{event.Reply.TheVariants.{OldFile}, caller.Progress.TheVariants.{Answering}}
 use Rattle.lz_board.specs.declared.view.What.TheVariants.{Called}
-use Rattle.lz_tie.specs.Holds.{IsIdle, HoldNotes}
-use Rattle.lz_tie.specs.NotedRuns.{AreNext}
-use Rattle.lz_tie.specs.UnderWay.{OwnAt, UnderWay}
-use Rattle.lz_tie.proofs.Calls.OwnChanges.{calm, old_none}
-use Rattle.lz_tie.proofs.Calls.NextPlace.{is_full}
-use Rattle.lz_tie.proofs.Calls.CallTurn.{says_old, not_full}
-use Rattle.lz_tie.proofs.Calls.PartAfter.{changes_after}
 
 -- where a call begins, by whether the file can't hold its key
 record Opening (shape : Shape) (p : ℕ) (c : Command) (old : Bool) (at : Progress) : Type 0 where

@@ -1,32 +1,23 @@
 -- A call that is under way goes on by a turn of its pass.
-use Rattle.std.proofs.Common.{◌≡◌, ◌≢◌, ◌⊎◌, inl, inr, ⊎_elim, ℕ, zero, suc, ◌%◌, ◌≤◌, Bool, true, false, List, [], ◌++◌, map, refl, sym, ap, ◌∙◌, subst, arith, eq-eqb, if◌then◌else◌, is_some, Option, Some, None}
+use Rattle.std.proofs.Common.{◌≡◌, ◌≢◌, ◌⊎◌, inl, inr, ⊎_elim, ℕ, zero, suc, ◌%◌, ◌≤◌, Bool, true, false, List, [], ◌++◌, map, refl, sym, ap, ◌∙◌, subst, arith}
+use Rattle.std.proofs.Common.{eq-eqb, if◌then◌else◌, is_some, Option, Some, None}
 use mathlib.Core.Bool.{false≢true}
-use Rattle.lz_tie.proofs.Vocabulary.{Command, Format, HasMembers, Counts, collect, lowest_free, counts, NoCall, Publishing, Trace, halt_word, member}
-use Rattle.lz_tie.proofs.Vocabulary.{Course, Event, Outcome, Progress, Shape, Yard, actor_at, pin_in, course, line, line_on, line_call}
-use Rattle.lz_tie.proofs.Vocabulary.{line_publishes, published_on, publishes, outcome_of, slot_found, event_at, loaded, progress_after, View, view_of}
-use Rattle.lz_tie.proofs.Vocabulary.{Relies, IsCaller, is_before_pin, side_of, hop_of, HasPass, Caller, run, first_point, reply_at, IsLate, Sizes}
-use Rattle.lz_tie.proofs.Vocabulary.{Note, Part, note_by, as_list, own, trace_of, load_note, shape_of_sizes, pin_after_played, BoardId}
-use Rattle.lz_machine.specs.declared.course.Course.TheVariants.{Plays}
-use Rattle.lz_machine.specs.declared.event.Event.TheVariants.{Pin, Reserve}
+use Rattle.lz_tie.proofs.Vocabulary.{Command, Format, HasMembers, Counts, collect, lowest_free, counts, NoCall, Publishing, Trace, halt_word, member, Course}
+use Rattle.lz_tie.proofs.Vocabulary.{Event, Outcome, Progress, Shape, Yard, actor_at, pin_in, course, line, line_on, line_call, line_publishes, published_on}
+use Rattle.lz_tie.proofs.Vocabulary.{publishes, outcome_of, slot_found, event_at, loaded, progress_after, View, view_of, Relies, IsCaller, is_before_pin}
+use Rattle.lz_tie.proofs.Vocabulary.{side_of, hop_of, HasPass, Caller, run, first_point, reply_at, IsLate, Sizes, Note, Part, note_by, as_list, own, trace_of}
+use Rattle.lz_tie.proofs.{Vocabulary.{load_note, shape_of_sizes, pin_after_played, BoardId}, Reading.PinWords.{is_pinning, still_pin}}
+use Rattle.lz_tie.proofs.Calls.{OwnChanges.{calm, calm_none, worn_none, full_none}, TurnResult.{IsRefused, played_or_refused, pin_gives}}
+use Rattle.lz_tie.proofs.Calls.{NextPlace.{Onward, is_full, IsPlain, halting_onward, plays_onward}, PartAfter.{known_after, steps_since, goes}}
+use Rattle.lz_tie.proofs.Calls.InnerEvents.{plain_within, plain_loaded, plain_event, plain_going, plain_inside, plain_unlate}
+use Rattle.lz_tie.specs.{Answers.{IsWithin, last_reserve, reserved_by}, Holds.{HoldNotes, Turned}, UnderWay.{OwnAt, FoundFull, UnderWay}}
+use Rattle.lz_machine.specs.declared.{course.Course.TheVariants.{Plays}, event.Event.TheVariants.{Pin, Reserve}}
 use Rattle.lz_machine.specs.declared.event.Outcome.TheVariants.{Done, Slot, NoSlot, Worn, NotNow, Fault, Dead}
-use Rattle.lz_machine.specs.declared.event.Reply.TheVariants.{Full, Worn as SaysWorn, OldFile, Halted, Device}
-use Rattle.lz_machine.specs.declared.caller.Sequence.TheVariants.{Pinning, Writing}
-use Rattle.lz_machine.specs.declared.caller.Progress.TheVariants.{Playing, LoadsHalt, Walking, Reserving, Answering}
-use Rattle.lz_machine.proofs.Alone.FullSet.{full_of_one_pass}
-use Rattle.lz_machine.proofs.Frames.OneActor.{caller_range}
-use Rattle.lz_machine.proofs.Theorem.NoSlotCounts.{counts_are_right}
-use Rattle.lz_machine.proofs.Theorem.Reached.{reached_sound, IsUpAt, up_at}
+use Rattle.lz_machine.specs.declared.{event.Reply.TheVariants.{Full, Worn as SaysWorn, OldFile, Halted, Device}, caller.Sequence.TheVariants.{Pinning, Writing}}
+use Rattle.lz_machine.{specs.declared.caller.Progress.TheVariants.{Playing, LoadsHalt, Walking, Reserving, Answering}, proofs.Alone.FullSet.{full_of_one_pass}}
+use Rattle.lz_machine.proofs.{Frames.OneActor.{caller_range}, Theorem.{NoSlotCounts.{counts_are_right}, Reached.{reached_sound, IsUpAt, up_at}}}
 use Rattle.lz_machine.proofs.Theorem.Timeliness.{never_late}
 use Rattle.lz_board.specs.declared.view.What.TheVariants.{Played}
-use Rattle.lz_tie.specs.Answers.{IsWithin, last_reserve, reserved_by}
-use Rattle.lz_tie.specs.Holds.{HoldNotes, Turned}
-use Rattle.lz_tie.specs.UnderWay.{OwnAt, FoundFull, UnderWay}
-use Rattle.lz_tie.proofs.Reading.PinWords.{is_pinning, still_pin}
-use Rattle.lz_tie.proofs.Calls.OwnChanges.{calm, calm_none, worn_none, full_none}
-use Rattle.lz_tie.proofs.Calls.TurnResult.{IsRefused, played_or_refused, pin_gives}
-use Rattle.lz_tie.proofs.Calls.NextPlace.{Onward, is_full, IsPlain, halting_onward, plays_onward}
-use Rattle.lz_tie.proofs.Calls.PartAfter.{known_after, steps_since, goes}
-use Rattle.lz_tie.proofs.Calls.InnerEvents.{plain_within, plain_loaded, plain_event, plain_going, plain_inside, plain_unlate}
 use Rattle.lz_yard.proofs.Events.KeptFit.{fault_or_not}
 
 -- which answer a place gives

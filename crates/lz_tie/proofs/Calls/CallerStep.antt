@@ -1,16 +1,10 @@
 -- The steps of a call under way, in the words of the caller that counts them.
 use Rattle.std.proofs.Common.{◌≡◌, ℕ, List, sym, ap, ◌∙◌, subst, Option, Some, None}
-use Rattle.lz_tie.proofs.Vocabulary.{Command, Format, Publishing, Word, Trace, word_after, Event, Outcome, Progress, event_at, progress_after, hop_of}
-use Rattle.lz_tie.proofs.Vocabulary.{Calling, HasPass, shape_with, reply_at, Sizes, Note, Part, note_by, shape_of_sizes, IsShared, index, loading}
-use Rattle.lz_tie.proofs.Vocabulary.{IsShownTo, BoardId}
-use Rattle.lz_machine.specs.declared.event.Event.TheVariants.{Hop}
-use Rattle.lz_machine.specs.declared.event.Outcome.TheVariants.{Value}
-use Rattle.lz_machine.proofs.Runs.EventOrder.{shaped, same_event, same_follows}
+use Rattle.lz_tie.proofs.Vocabulary.{Command, Format, Publishing, Word, Trace, word_after, Event, Outcome, Progress, event_at, progress_after, hop_of, Calling}
+use Rattle.lz_tie.proofs.Vocabulary.{HasPass, shape_with, reply_at, Sizes, Note, Part, note_by, shape_of_sizes, IsShared, index, loading, IsShownTo, BoardId}
+use Rattle.lz_tie.{proofs.Calls.{CallLoad.{loaded}, CallTurn.{turned}}, specs.{Holds.{HasCall, HoldNotes, Turned}, UnderWay.{UnderWay}}}
+use Rattle.lz_machine.{specs.declared.event.{Event.TheVariants.{Hop}, Outcome.TheVariants.{Value}}, proofs.Runs.EventOrder.{shaped, same_event, same_follows}}
 use Rattle.lz_board.specs.declared.view.What.TheVariants.{Played}
-use Rattle.lz_tie.specs.Holds.{HasCall, HoldNotes, Turned}
-use Rattle.lz_tie.specs.UnderWay.{UnderWay}
-use Rattle.lz_tie.proofs.Calls.CallLoad.{loaded}
-use Rattle.lz_tie.proofs.Calls.CallTurn.{turned}
 
 -- the caller of a call of command c on this board
 abbrev pub IsCallerOn : BoardId → Command → Calling → Type 0

@@ -1,41 +1,25 @@
 -- A call that a caller counts goes on by each of its moves.
 use Rattle.std.proofs.Common.{◌≡◌, ◌≢◌, ℕ, ◌==◌, Bool, true, false, List, [], ◌∷◌, refl, sym, ap, ◌∙◌, subst, if◌then◌else◌, is_some, Option, Some, None}
+use Rattle.std.{proofs.lemmas.Bool.{cond_both}, specs.List.{list_any}}
 use mathlib.Core.Bool.{false≢true}
-use Rattle.std.specs.List.{list_any}
-use Rattle.std.proofs.lemmas.Bool.{cond_both}
-use Rattle.lz_tie.proofs.Vocabulary.{Command, Format, key_of, Place, Met, Word, LeadsOn, Trace, word_after, Hopped, More, End, wants, hopped, Need}
-use Rattle.lz_tie.proofs.Vocabulary.{may_answer, Event, Outcome, Reply, Sequence, Progress, Shape, IsInside, begun, event_at, events_of}
-use Rattle.lz_tie.proofs.Vocabulary.{first_progress, goes_on, hops_on, walked, rests, halt_loaded, progress_after, is_before_pin, side_of, hop_of}
-use Rattle.lz_tie.proofs.Vocabulary.{Calling, MayTake, shape_with, mark_of, mark_of_turn, reply_at, is_old, begun_after, Sizes, Note, Part, index}
-use Rattle.lz_tie.proofs.Vocabulary.{IsWalkable, Extends, note_by, pin_after, shape_of_sizes, IsShared, loading, IsShownTo, BoardId, Walked}
+use Rattle.lz_tie.proofs.Vocabulary.{Command, Format, key_of, Place, Met, Word, LeadsOn, Trace, word_after, Hopped, More, End, wants, hopped, Need, may_answer}
+use Rattle.lz_tie.proofs.Vocabulary.{Event, Outcome, Reply, Sequence, Progress, Shape, IsInside, begun, event_at, events_of, first_progress, goes_on, hops_on}
+use Rattle.lz_tie.proofs.Vocabulary.{walked, rests, halt_loaded, progress_after, is_before_pin, side_of, hop_of, Calling, MayTake, shape_with, mark_of}
+use Rattle.lz_tie.proofs.Vocabulary.{mark_of_turn, reply_at, is_old, begun_after, Sizes, Note, Part, index, IsWalkable, Extends, note_by, pin_after}
+use Rattle.lz_tie.proofs.{Vocabulary.{shape_of_sizes, IsShared, loading, IsShownTo, BoardId, Walked}, Calls.{CallOpening.{called}, InnerEvents.{none_at}}}
+use Rattle.lz_tie.proofs.Calls.{CallLoad.{load_place, value_in}, CallerStep.{IsCallerOn, has_call, event_is, caller_turned, caller_loaded}}
+use Rattle.lz_tie.{proofs.Replies.{AnsweredCall.{answered, idle_again}, OneCaller.{one_caller}}, specs.{declared.playing.Turn.{Turn}, Answers.{Answers}}}
+use Rattle.lz_tie.specs.{OneCaller.{keys_in, IsPlainAnswer}, NotedRuns.{seen_event}, Holds.{HoldNotes, Turned, IsIdle, begins_with}}
+use Rattle.lz_tie.specs.{Held.{IsNextOf, Advanced, WentOn}, Marks.{Shows, last_call_number}, UnderWay.{UnderWay}, Counting.{OnWalk, Counts}}
 use Rattle.lz_slot.specs.declared.command.Command.TheVariants.{Add, Remove, Has}
 use Rattle.lz_list.specs.declared.walk.Met.TheVariants.{Absent, Unmarked, Marked as met_marked}
 use Rattle.lz_flush.specs.declared.need.Need.TheVariants.{Now, Sync as asks_sync}
-use Rattle.lz_machine.specs.declared.event.Event.TheVariants.{Hop, Invoke, Answer}
-use Rattle.lz_machine.specs.declared.event.Outcome.TheVariants.{Value}
-use Rattle.lz_machine.specs.declared.event.Reply.TheVariants.{Yes, No, OldFile as SaysOldFile}
-use Rattle.lz_machine.specs.declared.caller.Sequence.TheVariants.{Pinning, Writing, Releasing}
+use Rattle.lz_machine.specs.declared.event.{Event.TheVariants.{Hop, Invoke, Answer}, Outcome.TheVariants.{Value}}
+use Rattle.lz_machine.specs.declared.{event.Reply.TheVariants.{Yes, No, OldFile as SaysOldFile}, caller.Sequence.TheVariants.{Pinning, Writing, Releasing}}
 use Rattle.lz_machine.specs.declared.caller.Progress.TheVariants.{Playing, LoadsHalt, Walking, Answering}
-use Rattle.lz_machine.proofs.Runs.FlowChart.{Edge, again, past, begins as starts, hops, next_edge}
-use Rattle.lz_machine.proofs.Theorem.Readiness.{is_invoke}
+use Rattle.lz_machine.proofs.{Runs.FlowChart.{Edge, again, past, begins as starts, hops, next_edge}, Theorem.Readiness.{is_invoke}}
 use Rattle.lz_caller.proofs.BegunCall.{begins}
-use Rattle.lz_board.specs.declared.view.What.TheVariants.{Called, Played}
-use Rattle.lz_board.proofs.Walk.WalkerLemma.{first_look, hop_shown}
-use Rattle.lz_tie.specs.declared.playing.Turn.{Turn}
-use Rattle.lz_tie.specs.Answers.{Answers}
-use Rattle.lz_tie.specs.OneCaller.{keys_in, IsPlainAnswer}
-use Rattle.lz_tie.specs.NotedRuns.{seen_event}
-use Rattle.lz_tie.specs.Holds.{HoldNotes, Turned, IsIdle, begins_with}
-use Rattle.lz_tie.specs.Held.{IsNextOf, Advanced, WentOn}
-use Rattle.lz_tie.specs.Marks.{Shows, last_call_number}
-use Rattle.lz_tie.specs.UnderWay.{UnderWay}
-use Rattle.lz_tie.specs.Counting.{OnWalk, Counts}
-use Rattle.lz_tie.proofs.Calls.CallOpening.{called}
-use Rattle.lz_tie.proofs.Calls.InnerEvents.{none_at}
-use Rattle.lz_tie.proofs.Calls.CallLoad.{load_place, value_in}
-use Rattle.lz_tie.proofs.Calls.CallerStep.{IsCallerOn, has_call, event_is, caller_turned, caller_loaded}
-use Rattle.lz_tie.proofs.Replies.AnsweredCall.{answered, idle_again}
-use Rattle.lz_tie.proofs.Replies.OneCaller.{one_caller}
+use Rattle.lz_board.{specs.declared.view.What.TheVariants.{Called, Played}, proofs.Walk.WalkerLemma.{first_look, hop_shown}}
 
 -- a call that was just made stands on no walk
 begun_walk : (z : Sizes) (c : Command) (P0 Q : Trace) (old : Bool) → OnWalk z c (if old then Answering SaysOldFile else first_progress) P0 Q

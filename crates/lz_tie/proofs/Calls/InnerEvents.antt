@@ -1,17 +1,11 @@
 -- The events of a call inside, its loads, its Pin and its Answer aside: none moves a pin word.
-use Rattle.std.proofs.Common.{◌≡◌, ℕ, zero, suc, Bool, false, List, [], ◌∷◌, refl, sym, slice_index_or, None}
+use Rattle.std.{proofs.{Common.{◌≡◌, ℕ, zero, suc, Bool, false, List, [], ◌∷◌, refl, sym, slice_index_or, None}, lemmas.Bool.{or_parts}}, specs.List.{list_any}}
 use mathlib.Core.Bool.{false≢true}
-use Rattle.std.specs.List.{list_any}
-use Rattle.std.proofs.lemmas.Bool.{or_parts}
-use Rattle.lz_tie.proofs.Vocabulary.{Command, Words, Event, Outcome, Sequence, Progress, Shape, event_at, events_of, loaded, is_before_pin, reply_at}
-use Rattle.lz_tie.proofs.Vocabulary.{IsLate}
-use Rattle.lz_machine.specs.declared.event.Event.TheVariants.{Check, Answer, SeePin}
-use Rattle.lz_machine.specs.declared.caller.Sequence.TheVariants.{Pinning}
+use Rattle.lz_tie.proofs.Vocabulary.{Command, Words, Event, Outcome, Sequence, Progress, Shape, event_at, events_of, loaded, is_before_pin, reply_at, IsLate}
+use Rattle.lz_tie.{proofs.{Reading.PinWords.{is_pinning}, Calls.NextPlace.{IsPlain}}, specs.Answers.{IsWithin}}
+use Rattle.lz_machine.specs.declared.{event.Event.TheVariants.{Check, Answer, SeePin}, caller.Sequence.TheVariants.{Pinning}}
 use Rattle.lz_machine.specs.declared.caller.Progress.TheVariants.{Playing, LoadsHalt, Reserving, SeeingPins, Claiming, Checking, Answering}
 use Rattle.lz_board.specs.declared.view.What.TheVariants.{Played}
-use Rattle.lz_tie.specs.Answers.{IsWithin}
-use Rattle.lz_tie.proofs.Reading.PinWords.{is_pinning}
-use Rattle.lz_tie.proofs.Calls.NextPlace.{IsPlain}
 
 pub plain_within : (e : Event) (o : Outcome) → is_pinning e ≡ false → IsWithin (Played e o)
 plain_within Answer o plain = absurd (false≢true (sym plain))

@@ -1,28 +1,21 @@
 -- Where a call comes to by its next event, with what is published for its pass then.
-use Rattle.std.proofs.Common.{◌≡◌, ℕ, zero, suc, ◌+◌, ◌≤◌, nat_lt, Bool, true, false, List, [], ◌∷◌, ◌++◌, refl, sym, ◌∙◌, subst, arith, if◌then◌else◌, ◌==◌, unwrap_or, Option, Some, None}
-use Rattle.std.proofs.lemmas.Bool.Decides.{nat_tests}
-use Rattle.lz_tie.proofs.Vocabulary.{Command, History, Medium, collect, lowest_free, counts, Place, Met, get, is_pair_free, check, Hopped, More, End}
-use Rattle.lz_tie.proofs.Vocabulary.{Trace, on, chain_of, bucket_of, key_word, Need, may_answer, Actor, Hold, Outcome, Reply, Progress, Shape, Yard}
-use Rattle.lz_tie.proofs.Vocabulary.{actor_at, cell_at, slot_of, node_of, is_sure, outcome_of, publishes, settling, slot_found, event_at, loaded}
-use Rattle.lz_tie.proofs.Vocabulary.{progress_after, changes, hops_on, walked, rests, halt_loaded, after_see_pin, View, view_of, Relies, MayRest}
-use Rattle.lz_tie.proofs.Vocabulary.{is_before_pin, RestsOn, Notes, HasPass, Caller, Sound, own}
+use Rattle.std.proofs.Common.{◌≡◌, ℕ, zero, suc, ◌+◌, ◌≤◌, nat_lt, Bool, true, false, List, [], ◌∷◌, ◌++◌, refl, sym, ◌∙◌, subst, arith, if◌then◌else◌, ◌==◌}
+use Rattle.std.proofs.{Common.{unwrap_or, Option, Some, None}, lemmas.Bool.Decides.{nat_tests}}
+use Rattle.lz_tie.proofs.Vocabulary.{Command, History, Medium, collect, lowest_free, counts, Place, Met, get, is_pair_free, check, Hopped, More, End, Trace, on}
+use Rattle.lz_tie.proofs.Vocabulary.{chain_of, bucket_of, key_word, Need, may_answer, Actor, Hold, Outcome, Reply, Progress, Shape, Yard, actor_at, cell_at}
+use Rattle.lz_tie.proofs.Vocabulary.{slot_of, node_of, is_sure, outcome_of, publishes, settling, slot_found, event_at, loaded, progress_after, changes, hops_on}
+use Rattle.lz_tie.proofs.Vocabulary.{walked, rests, halt_loaded, after_see_pin, View, view_of, Relies, MayRest, is_before_pin, RestsOn, Notes, HasPass, Caller}
+use Rattle.lz_tie.proofs.{Vocabulary.{Sound, own}, Hold.OneWord.{settling_own}, Calls.OwnChanges.{is_calm, calm, calm_none, none_cut, own_cut, cut_halting}}
+use Rattle.lz_tie.{proofs.Calls.OwnChanges.{cut_halted, cut_device, own_linked, own_marked, own_unlinked}, specs.UnderWay.{OwnAt}}
 use Rattle.lz_slot.specs.declared.command.Command.TheVariants.{Add, Remove, Has}
-use Rattle.lz_list.specs.declared.publishing.Publishing.TheVariants.{Linked as linked, Marked as marked, Unlinked as unlinked}
-use Rattle.lz_list.specs.declared.walk.Look.TheVariants.{AtHead}
-use Rattle.lz_list.specs.declared.walk.Met.TheVariants.{Absent, Unmarked, Marked as met_marked}
-use Rattle.lz_list.specs.declared.word.Word.TheVariants.{Key as key_at}
+use Rattle.lz_list.specs.declared.{publishing.Publishing.TheVariants.{Linked as linked, Marked as marked, Unlinked as unlinked}, walk.Look.TheVariants.{AtHead}}
+use Rattle.lz_list.specs.declared.{walk.Met.TheVariants.{Absent, Unmarked, Marked as met_marked}, word.Word.TheVariants.{Key as key_at}}
 use Rattle.lz_flush.specs.declared.need.Need.TheVariants.{Now, Sync as asks_sync}
-use Rattle.lz_machine.specs.declared.actor.Hold.TheVariants.{GateClosed, Marked}
-use Rattle.lz_machine.specs.declared.event.Outcome.TheVariants.{Done, Taken, Busy, True, False, Early}
+use Rattle.lz_machine.specs.declared.{actor.Hold.TheVariants.{GateClosed, Marked}, event.Outcome.TheVariants.{Done, Taken, Busy, True, False, Early}}
 use Rattle.lz_machine.specs.declared.event.Reply.TheVariants.{Yes, No, Full, Halted, Device}
 use Rattle.lz_machine.specs.declared.caller.Sequence.TheVariants.{Pinning, Resting, Writing, Adding, Removing, Releasing, Halting}
 use Rattle.lz_machine.specs.declared.caller.Progress.TheVariants.{Playing, LoadsHalt, Walking, Reserving, SeeingPins, Claiming, Checking, Answering}
-use Rattle.lz_machine.proofs.Frames.LoadedWord.{key_load}
-use Rattle.lz_machine.proofs.Frames.Ranges.{on_range, few_slots}
-use Rattle.lz_machine.proofs.Frames.OtherCallers.{held_node}
-use Rattle.lz_tie.specs.UnderWay.{OwnAt}
-use Rattle.lz_tie.proofs.Hold.OneWord.{settling_own}
-use Rattle.lz_tie.proofs.Calls.OwnChanges.{is_calm, calm, calm_none, none_cut, own_cut, cut_halting, cut_halted, cut_device, own_linked, own_marked, own_unlinked}
+use Rattle.lz_machine.proofs.Frames.{LoadedWord.{key_load}, Ranges.{on_range, few_slots}, OtherCallers.{held_node}}
 
 abbrev pub is_full : Progress → Bool
 is_full (Answering (Full counts)) = true

@@ -1,14 +1,11 @@
 -- What was published for a pass since its call was made, by how far the call has come.
 use Rattle.std.proofs.Common.{◌≡◌, inl, inr, ℕ, zero, suc, Bool, true, false, [], ◌∷◌, refl, eq-eqb}
 use mathlib.Core.Bool.{false≢true}
-use Rattle.lz_tie.proofs.Vocabulary.{Command, Counts, Trace, Reply, Progress, own}
+use Rattle.lz_tie.{proofs.Vocabulary.{Command, Counts, Trace, Reply, Progress, own}, specs.{Answers.{MayHaveChanged}, UnderWay.{OwnAt}}}
 use Rattle.lz_slot.specs.declared.command.Command.TheVariants.{Add, Remove, Has}
 use Rattle.lz_list.specs.declared.publishing.Publishing.TheVariants.{Linked as linked, Marked as marked, Unlinked as unlinked}
 use Rattle.lz_machine.specs.declared.event.Reply.TheVariants.{Yes, Full, Worn, OldFile, Halted, Device}
-use Rattle.lz_machine.specs.declared.caller.Sequence.TheVariants.{Adding, Removing, Halting}
-use Rattle.lz_machine.specs.declared.caller.Progress.TheVariants.{Playing, Answering}
-use Rattle.lz_tie.specs.Answers.{MayHaveChanged}
-use Rattle.lz_tie.specs.UnderWay.{OwnAt}
+use Rattle.lz_machine.specs.declared.caller.{Sequence.TheVariants.{Adding, Removing, Halting}, Progress.TheVariants.{Playing, Answering}}
 
 -- places of a call that has changed nothing yet
 abbrev pub is_calm : Progress → Bool

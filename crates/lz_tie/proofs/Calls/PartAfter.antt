@@ -1,20 +1,12 @@
 -- What a hold leaves of a pass's part, in the words of the part before its call.
-use Rattle.std.proofs.Common.{◌≡◌, ◌≢◌, ⊎_elim, ℕ, ◌%◌, Bool, true, List, [], ◌∷◌, ◌++◌, map, sym, ap, ◌∙◌, subst, append_assoc, eq-eqb, ne_eqb, if◌then◌else◌, Option, None}
-use Rattle.std.proofs.lemmas.Bool.{cases_eq}
-use Rattle.std.proofs.lemmas.List.Elements.{filter-append}
-use Rattle.lz_tie.proofs.Vocabulary.{Command, Format, Counts, Publishing, Trace, Begins, halt_word, Event, Outcome, Reply, Progress, event_at}
-use Rattle.lz_tie.proofs.Vocabulary.{progress_after, is_before_pin, side_of, HasPass, reply_at, is_old, IsInside, IsLate, Sizes, Note, Load, Part}
-use Rattle.lz_tie.proofs.Vocabulary.{note_by, stamped, as_list, own, is_for, trace_of, load_note, place, placed, unless_replied, shape_of_sizes}
-use Rattle.lz_tie.proofs.Vocabulary.{Changes, BoardId}
-use Rattle.lz_machine.specs.declared.event.Reply.TheVariants.{Full, OldFile}
-use Rattle.lz_machine.specs.declared.caller.Progress.TheVariants.{Answering}
-use Rattle.lz_board.specs.declared.view.What.TheVariants.{Called, Played}
-use Rattle.lz_board.proofs.Upkeep.Growth.{begins_of}
-use Rattle.lz_board.proofs.Upkeep.Splice.{trace_splice}
-use Rattle.lz_tie.specs.Answers.{IsWithin, AreWithin}
-use Rattle.lz_tie.specs.Holds.{HasCall, HoldNotes}
-use Rattle.lz_tie.specs.NotedRuns.{AreNext}
-use Rattle.lz_tie.specs.UnderWay.{OwnAt, FoundFull, UnderWay}
+use Rattle.std.proofs.Common.{◌≡◌, ◌≢◌, ⊎_elim, ℕ, ◌%◌, Bool, true, List, [], ◌∷◌, ◌++◌, map, sym, ap, ◌∙◌, subst, append_assoc, eq-eqb, ne_eqb, if◌then◌else◌}
+use Rattle.std.proofs.{Common.{Option, None}, lemmas.{Bool.{cases_eq}, List.Elements.{filter-append}}}
+use Rattle.lz_tie.proofs.Vocabulary.{Command, Format, Counts, Publishing, Trace, Begins, halt_word, Event, Outcome, Reply, Progress, event_at, progress_after}
+use Rattle.lz_tie.proofs.Vocabulary.{is_before_pin, side_of, HasPass, reply_at, is_old, IsInside, IsLate, Sizes, Note, Load, Part, note_by, stamped, as_list}
+use Rattle.lz_tie.proofs.Vocabulary.{own, is_for, trace_of, load_note, place, placed, unless_replied, shape_of_sizes, Changes, BoardId}
+use Rattle.lz_tie.specs.{Answers.{IsWithin, AreWithin}, Holds.{HasCall, HoldNotes}, NotedRuns.{AreNext}, UnderWay.{OwnAt, FoundFull, UnderWay}}
+use Rattle.lz_machine.specs.declared.{event.Reply.TheVariants.{Full, OldFile}, caller.Progress.TheVariants.{Answering}}
+use Rattle.lz_board.{specs.declared.view.What.TheVariants.{Called, Played}, proofs.Upkeep.{Growth.{begins_of}, Splice.{trace_splice}}}
 
 -- it has seen all that was published, and last what the hold published
 pub known_after : (opened : Trace) (was is : List Note) (n : Note) (h h' : Part) → HoldNotes opened was is n h h' → h'.known ≡ as_list n.published ++ trace_of opened was

@@ -1,13 +1,10 @@
 -- What a turn gives that moves no pin word: it is played, or it is cut off and publishes nothing.
 use Rattle.std.proofs.Common.{◌≡◌, ◌≢◌, ◌⊎◌, inl, inr, ⊎_elim, ℕ, Bool, true, false, not, ◌&&◌, [], refl, sym, ap, ◌∙◌, if◌then◌else◌, ◌==◌}
 use mathlib.Core.Bool.{false≢true}
-use Rattle.lz_tie.proofs.Vocabulary.{NoCall, Event, Course, Yard, actor_at, needs, is_played_dead, is_sure, is_spent, course, course_alive, line}
-use Rattle.lz_tie.proofs.Vocabulary.{line_on, line_publishes, published_on, line_call, call_on, pin_of, last_pin}
-use Rattle.lz_machine.specs.declared.event.Event.TheVariants.{Pin, Answer, Sync}
-use Rattle.lz_machine.specs.declared.event.Outcome.TheVariants.{Done, Worn, NotNow, Dead}
-use Rattle.lz_machine.specs.declared.course.Course.TheVariants.{Refused, Dies, Plays}
-use Rattle.lz_machine.proofs.Runs.Course.{dead_course, early_course, alive_course}
-use Rattle.lz_tie.proofs.Reading.PinWords.{is_pinning}
+use Rattle.lz_tie.proofs.Vocabulary.{NoCall, Event, Course, Yard, actor_at, needs, is_played_dead, is_sure, is_spent, course, course_alive, line, line_on}
+use Rattle.lz_tie.proofs.{Vocabulary.{line_publishes, published_on, line_call, call_on, pin_of, last_pin}, Reading.PinWords.{is_pinning}}
+use Rattle.lz_machine.specs.declared.event.{Event.TheVariants.{Pin, Answer, Sync}, Outcome.TheVariants.{Done, Worn, NotNow, Dead}}
+use Rattle.lz_machine.{specs.declared.course.Course.TheVariants.{Refused, Dies, Plays}, proofs.Runs.Course.{dead_course, early_course, alive_course}}
 
 -- the turn was refused by a vault that is dead, or the vault died with it
 abbrev pub IsRefused : Yard → ℕ → Event → Type 0

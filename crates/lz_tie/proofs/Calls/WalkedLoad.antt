@@ -1,11 +1,8 @@
 -- A call that walks, apart from its caller: the word that it loads, and where the value leads.
-use Rattle.std.proofs.Common.{◌≡◌, ℕ, sym, ap, ◌∙◌, subst, Some}
-use Rattle.std.proofs.lemmas.Option.{none-some, same_Some}
-use Rattle.lz_tie.proofs.Vocabulary.{Look, Walk, LeadsOn, More, hopped, wants, Progress, event_at, hops_on, progress_after, Calling, IsLoading}
-use Rattle.lz_tie.proofs.Vocabulary.{MayTake, shape_with, look_at, looking, walk_at, walk_of, with_look}
-use Rattle.lz_machine.specs.declared.caller.Progress.TheVariants.{Walking}
-use Rattle.lz_machine.specs.declared.event.Event.TheVariants.{Hop}
-use Rattle.lz_machine.specs.declared.event.Outcome.TheVariants.{Value}
+use Rattle.std.proofs.{Common.{◌≡◌, ℕ, sym, ap, ◌∙◌, subst, Some}, lemmas.Option.{none-some, same_Some}}
+use Rattle.lz_tie.proofs.Vocabulary.{Look, Walk, LeadsOn, More, hopped, wants, Progress, event_at, hops_on, progress_after, Calling, IsLoading, MayTake}
+use Rattle.lz_tie.proofs.Vocabulary.{shape_with, look_at, looking, walk_at, walk_of, with_look}
+use Rattle.lz_machine.specs.declared.{caller.Progress.TheVariants.{Walking}, event.{Event.TheVariants.{Hop}, Outcome.TheVariants.{Value}}}
 
 module _ (k : Calling) (look : Look) (w : Walk) (walks : walk_of (with_look k look) ≡ Some w) where
   abbrev at : Progress → Calling

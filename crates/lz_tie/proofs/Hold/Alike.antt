@@ -1,7 +1,6 @@
 -- Yards that are the same but for pin words.
 use Rattle.std.proofs.Common.{◌≡◌, ℕ, refl, ◌∙◌, subst}
-use Rattle.lz_tie.proofs.Vocabulary.{Yard, pin_of, SameButPins}
-use Rattle.lz_tie.specs.NotedRuns.{SameButAllPins}
+use Rattle.lz_tie.{proofs.Vocabulary.{Yard, pin_of, SameButPins}, specs.NotedRuns.{SameButAllPins}}
 
 pub alike_is : {x y : Yard} → x ≡ y → SameButAllPins x y
 alike_is {x} is = subst (SameButAllPins x) is record { shape = refl; heads = refl; links = refl; keys = refl; halt = refl; locks = refl; vault = refl; uses = refl; actors = refl }

@@ -1,19 +1,14 @@
 -- Two notes of the pen that no event gives: a pin word that was found, and a call that was made.
-use Rattle.std.proofs.Common.{◌≡◌, ◌≢◌, ◌⊎◌, inl, inr, ⊎_elim, ℕ, zero, suc, ◌+◌, ◌-◌, ◌≤◌, Bool, true, false, List, [], ◌∷◌, ◌++◌, refl, sym, ap, ◌∙◌, subst, arith, replicate, Option, Some, None, IsNone, IsTrue, is_some}
+use Rattle.std.proofs.Common.{◌≡◌, ◌≢◌, ◌⊎◌, inl, inr, ⊎_elim, ℕ, zero, suc, ◌+◌, ◌-◌, ◌≤◌, Bool, true, false, List, [], ◌∷◌, ◌++◌, refl, sym, ap, ◌∙◌, subst}
+use Rattle.std.proofs.Common.{arith, replicate, Option, Some, None, IsNone, IsTrue, is_some}
 use mathlib.Core.Bool.{false≢true}
-use Rattle.lz_tie.proofs.Vocabulary.{Command, of_pass, set_of_pass, largest_key, Vaulted, key_of, Medium, is_outside, Trace, Progress, Shape, Yard}
-use Rattle.lz_tie.proofs.Vocabulary.{idle_actor, pin_of, last_pin, is_old, MayPlay, State, Up, Down, Service, Caller, Calls, Looks, Point, run, IsRun}
-use Rattle.lz_tie.proofs.Vocabulary.{MayStep, first_point, caller_at, state_after, looked, invoked, Note, note_by, steps_of, place, pin_after}
-use Rattle.lz_tie.proofs.Vocabulary.{is_calling, PinTold, found_note}
-use Rattle.lz_machine.specs.declared.event.Event.TheVariants.{Invoke}
-use Rattle.lz_machine.specs.Runs.{shape_of as shape_in}
-use Rattle.lz_machine.proofs.Runs.Shape.{run_keeps_shape}
+use Rattle.lz_tie.proofs.Vocabulary.{Command, of_pass, set_of_pass, largest_key, Vaulted, key_of, Medium, is_outside, Trace, Progress, Shape, Yard, idle_actor}
+use Rattle.lz_tie.proofs.Vocabulary.{pin_of, last_pin, is_old, MayPlay, State, Up, Down, Service, Caller, Calls, Looks, Point, run, IsRun, MayStep, first_point}
+use Rattle.lz_tie.proofs.Vocabulary.{caller_at, state_after, looked, invoked, Note, note_by, steps_of, place, pin_after, is_calling, PinTold, found_note}
+use Rattle.lz_tie.proofs.Reading.{CallPlaces.{Placed, place_reads}, PinWords.{count_pins, pin_in_state, pin_reads}}
+use Rattle.lz_tie.{proofs.Hold.Alike.{alike_is, alike_then, with_own_pin}, specs.{NotedRuns.{TellsStep, viewed, SameButAllPins, IsTied}, Holds.{sizes_of}}}
+use Rattle.lz_machine.{specs.{declared.event.Event.TheVariants.{Invoke}, Runs.{shape_of as shape_in}}, proofs.Runs.Shape.{run_keeps_shape}}
 use Rattle.lz_board.specs.declared.view.What.TheVariants.{Called}
-use Rattle.lz_tie.specs.NotedRuns.{TellsStep, viewed, SameButAllPins, IsTied}
-use Rattle.lz_tie.specs.Holds.{sizes_of}
-use Rattle.lz_tie.proofs.Reading.CallPlaces.{Placed, place_reads}
-use Rattle.lz_tie.proofs.Reading.PinWords.{count_pins, pin_in_state, pin_reads}
-use Rattle.lz_tie.proofs.Hold.Alike.{alike_is, alike_then, with_own_pin}
 use Rattle.lz_slot.proofs.Counted.{of_pass_same}
 
 none_from : (x : Option Caller) → viewed x ≡ None → IsNone x

@@ -1,12 +1,9 @@
 -- A Sync whose slot is covered calls no device.
 use Rattle.std.proofs.Common.{◌≡◌, ◌≢◌, ℕ, Bool, true, if◌then◌else◌, refl, sym, ap, subst}
-use Rattle.lz_tie.proofs.Vocabulary.{Device, DeviceCall, NoCall, SyncAll, Succeeds, set, Course, Event, Outcome, Yard, actor_at, call_on, course}
-use Rattle.lz_tie.proofs.Vocabulary.{is_sure, line_call, with_words, Told, Played}
+use Rattle.lz_tie.proofs.Vocabulary.{Device, DeviceCall, NoCall, SyncAll, Succeeds, set, Course, Event, Outcome, Yard, actor_at, call_on, course, is_sure}
+use Rattle.lz_tie.{proofs.Vocabulary.{line_call, with_words, Told, Played}, specs.Held.{SparesDevice}}
 use Rattle.lz_list.specs.declared.word.Word.TheVariants.{Pin as pin_at}
-use Rattle.lz_machine.specs.declared.course.Course.TheVariants.{Plays}
-use Rattle.lz_machine.specs.declared.event.Event.TheVariants.{Sync}
-use Rattle.lz_machine.specs.declared.event.Outcome.TheVariants.{Fault}
-use Rattle.lz_tie.specs.Held.{SparesDevice}
+use Rattle.lz_machine.specs.declared.{course.Course.TheVariants.{Plays}, event.{Event.TheVariants.{Sync}, Outcome.TheVariants.{Fault}}}
 
 -- whatever becomes of it
 calls_none : (y : Yard) (a s : ℕ) → is_sure y s ≡ true → line_call y a (Sync s) ≡ NoCall

@@ -1,20 +1,12 @@
 -- The next event of a call in a hold, once the pin word that it looks at was found.
 use Rattle.std.proofs.Common.{◌≡◌, ◌≢◌, ◌≤◌, ◌<◌, ℕ, List, ◌∷◌, refl, ap, ◌∙◌, subst}
 use mathlib.Core.Bool.{false≢true}
-use Rattle.lz_tie.proofs.Vocabulary.{Command, Device, Event, Calling, Yard, Note, Part, Sizes, Knows, PinTold, note_by, trace_of, found_note, knowing}
-use Rattle.lz_tie.proofs.Vocabulary.{BoardId}
-use Rattle.lz_machine.specs.declared.event.Event.TheVariants.{Invoke, SeePin}
-use Rattle.lz_machine.specs.declared.event.Outcome.TheVariants.{Fault}
-use Rattle.lz_machine.proofs.Theorem.Readiness.{is_invoke}
-use Rattle.lz_tie.specs.declared.playing.Turn.{Turn}
-use Rattle.lz_tie.specs.Held.{IsNextOf, WentOn, found_for}
-use Rattle.lz_tie.specs.Holds.{HoldNotes, InHold, IsLocked, IsTurn, MayTurn, Turned, what_of}
-use Rattle.lz_tie.specs.Lives.{KeepsLife}
+use Rattle.lz_tie.proofs.Vocabulary.{Command, Device, Event, Calling, Yard, Note, Part, Sizes, Knows, PinTold, note_by, trace_of, found_note, knowing, BoardId}
+use Rattle.lz_tie.proofs.Hold.{Joining.{joined, joined_turn}, OneHold.{Stepped, found_other, other_may, other_turn, stepped_turn}}
+use Rattle.lz_tie.{proofs.{Hold.PinSight.{found, found_turn, seen_range}, Moments.HeldMoments.{ComesTo, comes, finds}}, specs.declared.playing.Turn.{Turn}}
+use Rattle.lz_tie.specs.{Held.{IsNextOf, WentOn, found_for}, Holds.{HoldNotes, InHold, IsLocked, IsTurn, MayTurn, Turned, what_of}, Lives.{KeepsLife}}
 use Rattle.lz_tie.specs.Moments.{MomentsGoOn}
-use Rattle.lz_tie.proofs.Hold.Joining.{joined, joined_turn}
-use Rattle.lz_tie.proofs.Hold.OneHold.{Stepped, found_other, other_may, other_turn, stepped_turn}
-use Rattle.lz_tie.proofs.Hold.PinSight.{found, found_turn, seen_range}
-use Rattle.lz_tie.proofs.Moments.HeldMoments.{ComesTo, comes, finds}
+use Rattle.lz_machine.{specs.declared.event.{Event.TheVariants.{Invoke, SeePin}, Outcome.TheVariants.{Fault}}, proofs.Theorem.Readiness.{is_invoke}}
 
 -- A pass with part h has joined the pen as hj, and the next event of its call k was found to be e.
 pub record Finds (b : BoardId) (ns was : List Note) (y : Yard) (dev : Device) (h hj : Part) (k : Calling) (e : Event) : Type 0 where

@@ -1,16 +1,14 @@
 -- The step of a pass that has joined the pen, in the words of the code that plays it: its number and its pin word are read at run time.
-use Rattle.std.proofs.Common.{◌≡◌, ℕ, List, refl, sym, ap, ◌∙◌, subst, None}
-use Rattle.lz_tie.proofs.Vocabulary.{Command, Format, Device, set, Event, Outcome, Yard, Calling, IsEventOf, MayPlay, with_words, Told, Note, Part}
-use Rattle.lz_tie.proofs.Vocabulary.{What, Moment, moment_at, note_by, stamp_of, stamped, KeepsPin, MovesPin, noted, noted_part, moved_part, BoardId}
-use Rattle.lz_list.specs.declared.word.Word.TheVariants.{Pin as pin_at}
-use Rattle.lz_machine.specs.declared.event.Event.TheVariants.{Invoke}
-use Rattle.lz_machine.proofs.Runs.EventRange.{is_event}
-use Rattle.lz_yard.specs.Steps.{Played as PlayedOver}
-use Rattle.lz_tie.specs.Holds.{InHold, IsTurn, MayTurn, Turned, HoldNotes, begins_with, what_of}
 use Rattle.lz_tie.proofs.Hold.NotedStep as step
-use Rattle.lz_tie.proofs.Hold.NotedStep.{NotedStep}
 use Rattle.lz_tie.proofs.Hold.PlayedCall as call
 use Rattle.lz_tie.proofs.Hold.PlayedTurn as turn_of
+use Rattle.std.proofs.Common.{◌≡◌, ℕ, List, refl, sym, ap, ◌∙◌, subst, None}
+use Rattle.lz_tie.proofs.Vocabulary.{Command, Format, Device, set, Event, Outcome, Yard, Calling, IsEventOf, MayPlay, with_words, Told, Note, Part, What}
+use Rattle.lz_tie.proofs.Vocabulary.{Moment, moment_at, note_by, stamp_of, stamped, KeepsPin, MovesPin, noted, noted_part, moved_part, BoardId}
+use Rattle.lz_tie.{proofs.Hold.NotedStep.{NotedStep}, specs.Holds.{InHold, IsTurn, MayTurn, Turned, HoldNotes, begins_with, what_of}}
+use Rattle.lz_list.specs.declared.word.Word.TheVariants.{Pin as pin_at}
+use Rattle.lz_machine.{specs.declared.event.Event.TheVariants.{Invoke}, proofs.Runs.EventRange.{is_event}}
+use Rattle.lz_yard.specs.Steps.{Played as PlayedOver}
 
 module _ (b : BoardId) (ns : List Note) (y : Yard) (dev : Device) (h : Part) (hold : InHold b ns y dev h) (e : Event) (may : MayTurn b.sizes ns h e)
     (p pin : ℕ) (number : p ≡ h.number) (pin_is : pin ≡ h.pin) (y1 : Yard) (told_of : y1 ≡ with_words y (set y.words (pin_at p) pin)) (dev1 : Device) (same : dev1 ≡ dev) where

@@ -1,9 +1,8 @@
 -- What a pass that joins the pen brings into a hold.
 use Rattle.std.proofs.Common.{◌≡◌, ◌+◌, ◌<◌, List, sym, subst, arith, Option}
-use Rattle.lz_tie.proofs.Vocabulary.{Device, Command, Publishing, Trace, Event, Outcome, Progress, Calling, Yard, last_pin, Note, Part, trace_of}
-use Rattle.lz_tie.proofs.Vocabulary.{Knows, PinTold, knowing, noted_part, moved_part, Pass, BoardId, IsAtHand}
+use Rattle.lz_tie.proofs.Vocabulary.{Device, Command, Publishing, Trace, Event, Outcome, Progress, Calling, Yard, last_pin, Note, Part, trace_of, Knows}
+use Rattle.lz_tie.{proofs.Vocabulary.{PinTold, knowing, noted_part, moved_part, Pass, BoardId, IsAtHand}, specs.Holds.{IsLocked, InHold, IsTurn, Turned}}
 use Rattle.lz_board.proofs.Upkeep.PartUpkeep.{knows_knowing}
-use Rattle.lz_tie.specs.Holds.{IsLocked, InHold, IsTurn, Turned}
 
 pub joined : (b board : BoardId) → board ≡ b → (ns ns' : List Note) (y : Yard) (dev : Device) (h h' : Part)
     → IsLocked b ns y dev → Knows board.sizes board.opened ns h → PinTold board.sizes ns h.number h.pin → ns' ≡ ns → h' ≡ knowing (trace_of board.opened ns) h → InHold board ns' y dev h'

@@ -1,32 +1,20 @@
 -- One hold: what it plays may be played, and its notes are read as a run whose last state is the yard's again.
-use Rattle.std.proofs.Common.{◌≡◌, ◌≢◌, inl, ⊎_elim, ℕ, suc, ◌≤◌, ◌%◌, Bool, true, false, List, [], ◌∷◌, ◌++◌, map, length, refl, sym, ap, ◌∙◌, subst, arith, Option, Some, None, IsTrue, is_some}
+use Rattle.std.proofs.Common.{◌≡◌, ◌≢◌, inl, ⊎_elim, ℕ, suc, ◌≤◌, ◌%◌, Bool, true, false, List, [], ◌∷◌, ◌++◌, map, length, refl, sym, ap, ◌∙◌, subst, arith}
+use Rattle.std.proofs.Common.{Option, Some, None, IsTrue, is_some}
 use mathlib.Core.Bool.{false≢true}
-use Rattle.lz_tie.proofs.Vocabulary.{Command, of_pass, Medium, Device, DeviceCall, NoCall, WriteAt, SyncAll, MayFail, medium_after, Words, Trace}
-use Rattle.lz_tie.proofs.Vocabulary.{Event, Outcome, Progress, Yard, IsInside, line, line_failed, line_call, line_publishes, pin_of, event_at}
-use Rattle.lz_tie.proofs.Vocabulary.{loaded, HasPass, State, Up, Caller, Turn, Point, run, MayStep, HasTurn, HasFault, Reached, first_point}
-use Rattle.lz_tie.proofs.Vocabulary.{caller_at, next_event, state_after, after_turn, after_fault, SameButPins, MayPlay, SameBut, hop_of, CallerSound}
-use Rattle.lz_tie.proofs.Vocabulary.{view_of, own_change, Told, Note, Load, Part, as_list, trace_of, steps_of, load_note, splice, Quiet, InOrder}
-use Rattle.lz_tie.proofs.Vocabulary.{AllShown, place, pin_after, shape_of_sizes, turned_at}
-use Rattle.lz_machine.specs.declared.event.Event.TheVariants.{SeePin}
-use Rattle.lz_machine.specs.declared.event.Outcome.TheVariants.{Fault}
-use Rattle.lz_machine.specs.Runs.{Fails as FailsStep, shape_of as shape_in}
-use Rattle.lz_yard.specs.Steps.{Played as PlayedOver}
-use Rattle.lz_machine.proofs.Runs.Shape.{run_keeps_shape}
-use Rattle.lz_machine.proofs.Frames.OneActor.{caller_range}
-use Rattle.lz_machine.proofs.Theorem.Timeliness.{never_late}
-use Rattle.lz_machine.proofs.Runs.CallerEvent.{is_next}
-use Rattle.lz_yard.proofs.Events.KeptFit.{fault_or_not}
-use Rattle.lz_board.specs.declared.view.What.TheVariants.{Played}
-use Rattle.lz_board.proofs.Upkeep.Splice.{steps_splice, pin_splice, trace_splice, turned_splice}
-use Rattle.lz_tie.specs.NotedRuns.{TellsTurn, TellsFault, TellsStep, TellsOf, ReadsAs, viewed, AreNext, SameButAllPins, IsTied, seen_event}
-use Rattle.lz_tie.specs.Holds.{Turned}
-use Rattle.lz_tie.proofs.Reading.TraceNotes.{trace_reads}
-use Rattle.lz_tie.proofs.Reading.CallPlaces.{Placed, place_reads}
-use Rattle.lz_tie.proofs.Reading.PinWords.{pin_in_state, pin_reads}
-use Rattle.lz_tie.proofs.Reading.StandingCall.{call_relies}
-use Rattle.lz_tie.proofs.Hold.OtherPins.{with_pins, SameLine, line_same}
+use Rattle.lz_tie.proofs.Vocabulary.{Command, of_pass, Medium, Device, DeviceCall, NoCall, WriteAt, SyncAll, MayFail, medium_after, Words, Trace, Event}
+use Rattle.lz_tie.proofs.Vocabulary.{Outcome, Progress, Yard, IsInside, line, line_failed, line_call, line_publishes, pin_of, event_at, loaded, HasPass, State}
+use Rattle.lz_tie.proofs.Vocabulary.{Up, Caller, Turn, Point, run, MayStep, HasTurn, HasFault, Reached, first_point, caller_at, next_event, state_after}
+use Rattle.lz_tie.proofs.Vocabulary.{after_turn, after_fault, SameButPins, MayPlay, SameBut, hop_of, CallerSound, view_of, own_change, Told, Note, Load, Part}
+use Rattle.lz_tie.proofs.Vocabulary.{as_list, trace_of, steps_of, load_note, splice, Quiet, InOrder, AllShown, place, pin_after, shape_of_sizes, turned_at}
+use Rattle.lz_tie.proofs.Reading.{TraceNotes.{trace_reads}, CallPlaces.{Placed, place_reads}, PinWords.{pin_in_state, pin_reads}, StandingCall.{call_relies}}
+use Rattle.lz_tie.proofs.Hold.{OtherPins.{with_pins, SameLine, line_same}, Alike.{alike_is, alike_then, with_own_pin}}
 use Rattle.lz_tie.proofs.Splicing.LoadSplice.{Spliced, splice_reads}
-use Rattle.lz_tie.proofs.Hold.Alike.{alike_is, alike_then, with_own_pin}
+use Rattle.lz_tie.specs.{NotedRuns.{TellsTurn, TellsFault, TellsStep, TellsOf, ReadsAs, viewed, AreNext, SameButAllPins, IsTied, seen_event}, Holds.{Turned}}
+use Rattle.lz_machine.specs.{declared.event.{Event.TheVariants.{SeePin}, Outcome.TheVariants.{Fault}}, Runs.{Fails as FailsStep, shape_of as shape_in}}
+use Rattle.lz_machine.proofs.{Runs.{Shape.{run_keeps_shape}, CallerEvent.{is_next}}, Frames.OneActor.{caller_range}, Theorem.Timeliness.{never_late}}
+use Rattle.lz_yard.{specs.Steps.{Played as PlayedOver}, proofs.Events.KeptFit.{fault_or_not}}
+use Rattle.lz_board.{specs.declared.view.What.TheVariants.{Played}, proofs.Upkeep.Splice.{steps_splice, pin_splice, trace_splice, turned_splice}}
 
 -- a caller's next event, by what its pass has seen of pin words
 seen_is : (words : Words) (pins : ℕ → ℕ) (passes : ℕ) (e : Event) → HasPass passes e → ((q : ℕ) → 1 ≤ q → q ≤ passes → of_pass words.pins q 0 ≡ pins q) → loaded words e ≡ seen_event pins e

@@ -1,23 +1,16 @@
 -- What the tie before a hold and after it say of the board: the words, and that the store of a hold publishes what its note
 -- says.
-use Rattle.std.proofs.Common.{◌≡◌, ◌≢◌, ⊎_elim, ℕ, List, ◌∷◌, ◌++◌, refl, sym, ap, ◌∙◌, subst, arith, ne_eqb, Bool, true, false, ◌==◌, length, if◌then◌else◌, [], Option, Some, None, option_to_list}
+use Rattle.std.proofs.Common.{◌≡◌, ◌≢◌, ⊎_elim, ℕ, List, ◌∷◌, ◌++◌, refl, sym, ap, ◌∙◌, subst, arith, ne_eqb, Bool, true, false, ◌==◌, length, if◌then◌else◌}
+use Rattle.std.proofs.{Common.{[], Option, Some, None, option_to_list}, lemmas.{Bool.{eq-eqb, cases_eq, cases_lt}, List.{get_or_past}}}
 use mathlib.Core.Bool.{false≢true}
-use Rattle.std.proofs.lemmas.Bool.{eq-eqb, cases_eq, cases_lt}
-use Rattle.std.proofs.lemmas.List.{get_or_past}
-use Rattle.lz_tie.proofs.Vocabulary.{of_pass, Device, Medium, Vaulted, Use, Taken, use_of, Publishing, Word, get, IsWord, Trace, Lawful, IsLoose}
-use Rattle.lz_tie.proofs.Vocabulary.{word_after, Actor, Shape, Yard, idle_actor, run, first_point, TraceSound, SlotStands, is_node, is_held, is_limbo}
-use Rattle.lz_tie.proofs.Vocabulary.{SlotsSound, Sizes, Note, Load, as_list, trace_of, splice, IsShared, Writes}
-use Rattle.lz_list.specs.declared.word.Word.TheVariants.{Head, Link, Key, Pin as PinOf, Halt}
-use Rattle.lz_list.proofs.Tables.WordTable.{length-table}
-use Rattle.lz_machine.specs.SlotsSound.{is_free, is_out}
-use Rattle.lz_machine.proofs.Theorem.Reached.{reached_sound, up_at}
-use Rattle.lz_board.proofs.Upkeep.Splice.{trace_splice}
-use Rattle.lz_tie.specs.NotedRuns.{SameButAllPins, IsTied}
+use Rattle.lz_tie.proofs.Vocabulary.{of_pass, Device, Medium, Vaulted, Use, Taken, use_of, Publishing, Word, get, IsWord, Trace, Lawful, IsLoose, word_after}
+use Rattle.lz_tie.proofs.Vocabulary.{Actor, Shape, Yard, idle_actor, run, first_point, TraceSound, SlotStands, is_node, is_held, is_limbo, SlotsSound, Sizes}
+use Rattle.lz_tie.proofs.{Vocabulary.{Note, Load, as_list, trace_of, splice, IsShared, Writes}, Reading.TraceNotes.{trace_reads}}
+use Rattle.lz_tie.{proofs.{Splicing.LoadInsertion.{words_shown}, Hold.{OneWord.{IsWalked}, Alike.{alike_then}}}, specs.NotedRuns.{SameButAllPins, IsTied}}
 use Rattle.lz_tie.specs.Holds.{sizes_of}
-use Rattle.lz_tie.proofs.Reading.TraceNotes.{trace_reads}
-use Rattle.lz_tie.proofs.Splicing.LoadInsertion.{words_shown}
-use Rattle.lz_tie.proofs.Hold.OneWord.{IsWalked}
-use Rattle.lz_tie.proofs.Hold.Alike.{alike_then}
+use Rattle.lz_list.{specs.declared.word.Word.TheVariants.{Head, Link, Key, Pin as PinOf, Halt}, proofs.Tables.WordTable.{length-table}}
+use Rattle.lz_machine.{specs.SlotsSound.{is_free, is_out}, proofs.Theorem.Reached.{reached_sound, up_at}}
+use Rattle.lz_board.proofs.Upkeep.Splice.{trace_splice}
 
 -- what was told of a publishing, as a list
 pub listed_is : (x : Option Publishing) → as_list x ≡ option_to_list x

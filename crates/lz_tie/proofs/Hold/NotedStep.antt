@@ -1,10 +1,8 @@
 -- What a hold has once the step of its pass is noted, whichever event that plays.
 use Rattle.std.proofs.Common.{◌≡◌, ℕ, suc, List, sym, subst, arith, eq-eqb, ne_eqb, Some, None}
-use Rattle.lz_tie.proofs.Vocabulary.{Device, Trace, Lawful, Yard, Told, Sizes, Note, Part, stamped, trace_of}
-use Rattle.lz_tie.proofs.Vocabulary.{MayNote, KeepsPin, MovesPin, Writes, noted, noted_part, moved_part, BoardId}
+use Rattle.lz_tie.proofs.Vocabulary.{Device, Trace, Lawful, Yard, Told, Sizes, Note, Part, stamped, trace_of, MayNote, KeepsPin, MovesPin, Writes, noted}
+use Rattle.lz_tie.{proofs.{Vocabulary.{noted_part, moved_part, BoardId}, Hold.Exchanges.{Exchange, IsExchange}}, specs.Holds.{IsLocked, InHold, HoldNotes}}
 use Rattle.lz_board.proofs.Upkeep.PartUpkeep.{trace_noted, knows_noted, knows_moved, told_own}
-use Rattle.lz_tie.specs.Holds.{IsLocked, InHold, HoldNotes}
-use Rattle.lz_tie.proofs.Hold.Exchanges.{Exchange, IsExchange}
 
 -- The step may be noted with its exchange, and the lock keeps its invariant with the note.
 pub record NotedStep (b : BoardId) (ns : List Note) (h : Part) (z' : Yard) (told : Told) (dev' : Device) (n : Note) : Type 0 where

@@ -1,26 +1,17 @@
 -- One hold, from the step of the pass that has joined the pen to what the lock keeps and the pass has.
-use Rattle.std.proofs.Common.{◌≡◌, ◌≢◌, ◌<◌, ◌≤◌, ℕ, suc, Bool, true, false, List, [], ◌∷◌, ◌++◌, refl, sym, ap, ◌∙◌, subst, arith, ◌+◌, if◌then◌else◌, IsTrue, Option, None}
-use Rattle.lz_tie.proofs.Vocabulary.{Command, Format, Device, IsTimely, Publishing, Trace, Event, Outcome, Calling, mark_of_turn, reply_at, is_old}
-use Rattle.lz_tie.proofs.Vocabulary.{Yard, Pen, Sizes, What, Note, Part, Knows, Since, note_by, pin_after, shape_of_sizes, trace_of, found_note}
-use Rattle.lz_tie.proofs.Vocabulary.{knowing, BoardId, IsPenOf, notes}
+use Rattle.std.proofs.Common.{◌≡◌, ◌≢◌, ◌<◌, ◌≤◌, ℕ, suc, Bool, true, false, List, [], ◌∷◌, ◌++◌, refl, sym, ap, ◌∙◌, subst, arith, ◌+◌, if◌then◌else◌, IsTrue}
+use Rattle.std.proofs.Common.{Option, None}
+use Rattle.lz_tie.proofs.Vocabulary.{Command, Format, Device, IsTimely, Publishing, Trace, Event, Outcome, Calling, mark_of_turn, reply_at, is_old, Yard, Pen}
+use Rattle.lz_tie.proofs.Vocabulary.{Sizes, What, Note, Part, Knows, Since, note_by, pin_after, shape_of_sizes, trace_of, found_note, knowing, BoardId, IsPenOf}
+use Rattle.lz_tie.proofs.{Vocabulary.{notes}, Hold.Joining.{joined_turn, seen_turned}, Lives.{HeldLives.{life_on}, ToldFailures.{fault_counted, faults_held}}}
+use Rattle.lz_tie.proofs.{Marks.GrownMarks.{call_shows, turn_shows}, Moments.HeldMoments.{ComesTo, held_again, hold_explains, replies_stay}}
+use Rattle.lz_tie.{proofs.Reading.OnePass.{alone_trace, opened_known, own_trace}, specs.declared.playing.Turn.{Turn}}
+use Rattle.lz_tie.specs.{Held.{Began, IsNextOf, WentOn, found_for}, Holds.{HoldNotes, InHold, IsLocked, IsTurn, MayTurn, Turned, begins_with, what_of}}
+use Rattle.lz_tie.specs.{Lives.{KeepsLife, LivesOn, faults_in, faults_with}, Marks.{last_call_number}}
+use Rattle.lz_tie.specs.{Moments.{HoldExplains, MomentsGoOn, LeftSince, RepliesStay}, NotedRuns.{seen_event}, OnePass.{OnlyOwn}}
 use Rattle.lz_slot.specs.declared.history.Mark.TheVariants.{Call}
-use Rattle.lz_machine.specs.declared.event.Event.TheVariants.{Invoke, SeePin}
-use Rattle.lz_machine.specs.declared.event.Outcome.TheVariants.{Fault, OldFile, Done}
+use Rattle.lz_machine.specs.declared.event.{Event.TheVariants.{Invoke, SeePin}, Outcome.TheVariants.{Fault, OldFile, Done}}
 use Rattle.lz_board.specs.declared.view.What.TheVariants.{Called, Played}
-use Rattle.lz_tie.specs.declared.playing.Turn.{Turn}
-use Rattle.lz_tie.specs.Held.{Began, IsNextOf, WentOn, found_for}
-use Rattle.lz_tie.specs.Holds.{HoldNotes, InHold, IsLocked, IsTurn, MayTurn, Turned, begins_with, what_of}
-use Rattle.lz_tie.specs.Lives.{KeepsLife, LivesOn, faults_in, faults_with}
-use Rattle.lz_tie.specs.Marks.{last_call_number}
-use Rattle.lz_tie.specs.Moments.{HoldExplains, MomentsGoOn, LeftSince, RepliesStay}
-use Rattle.lz_tie.specs.NotedRuns.{seen_event}
-use Rattle.lz_tie.specs.OnePass.{OnlyOwn}
-use Rattle.lz_tie.proofs.Hold.Joining.{joined_turn, seen_turned}
-use Rattle.lz_tie.proofs.Lives.HeldLives.{life_on}
-use Rattle.lz_tie.proofs.Lives.ToldFailures.{fault_counted, faults_held}
-use Rattle.lz_tie.proofs.Marks.GrownMarks.{call_shows, turn_shows}
-use Rattle.lz_tie.proofs.Moments.HeldMoments.{ComesTo, held_again, hold_explains, replies_stay}
-use Rattle.lz_tie.proofs.Reading.OnePass.{alone_trace, opened_known, own_trace}
 
 -- The step that a hold has played.
 pub record Stepped (b : BoardId) (ns is : List Note) (y y' : Yard) (dev dev' : Device) (t : Turn) : Type 0 where

@@ -1,17 +1,17 @@
 -- What a hold stores on the board is what its event publishes.
-use Rattle.std.proofs.Common.{◌≡◌, ◌≢◌, ℕ, Bool, true, false, [], ◌∷◌, refl, sym, ap, subst, get_or-set_other, ne_eqb, ◌+◌, if◌then◌else◌, Some, None, IfSome, is_some, not}
+use Rattle.std.proofs.Common.{◌≡◌, ◌≢◌, ℕ, Bool, true, false, [], ◌∷◌, refl, sym, ap, subst, get_or-set_other, ne_eqb, ◌+◌, if◌then◌else◌, Some, None, IfSome}
+use Rattle.std.proofs.Common.{is_some, not}
 use mathlib.Core.Bool.{false≢true}
 use Rattle.lz_slot.proofs.Counted.{of_pass_other}
-use Rattle.lz_tie.proofs.Vocabulary.{Stage, Place, Word, Publishing, Words, get, set, redirect, word_of, change_flags, settle, Course, Actor, Event}
-use Rattle.lz_tie.proofs.Vocabulary.{Yard, actor_at, cell_at, course, line, line_on, line_publishes, published_on, publishes, settling, line_changes}
-use Rattle.lz_tie.proofs.Vocabulary.{changed_on, word_changed, words_after, is_sure, slot_of, node_of, pin_of, stays_out, own, is_for}
+use Rattle.lz_tie.proofs.Vocabulary.{Stage, Place, Word, Publishing, Words, get, set, redirect, word_of, change_flags, settle, Course, Actor, Event, Yard}
+use Rattle.lz_tie.proofs.Vocabulary.{actor_at, cell_at, course, line, line_on, line_publishes, published_on, publishes, settling, line_changes, changed_on}
+use Rattle.lz_tie.proofs.{Vocabulary.{word_changed, words_after, is_sure, slot_of, node_of, pin_of, stays_out, own, is_for}, Reading.PinWords.{is_counting}}
 use Rattle.lz_vault.specs.declared.vault.Stage.TheVariants.{Closed}
 use Rattle.lz_list.specs.declared.place.Place.TheVariants.{Bucket, Node}
 use Rattle.lz_list.specs.declared.word.Word.TheVariants.{Head, Link as link_at, Key as key_at, Pin as pin_at, Halt as halt_word}
 use Rattle.lz_list.specs.declared.publishing.Publishing.TheVariants.{Linked as linked, Marked as marked, Unlinked as unlinked}
 use Rattle.lz_machine.specs.declared.course.Course.TheVariants.{Plays}
 use Rattle.lz_machine.specs.declared.event.Event.TheVariants.{Pin, WriteKey, WriteOpen, Link, Mark, Settle, Unlink, Answer, Halt}
-use Rattle.lz_tie.proofs.Reading.PinWords.{is_counting}
 
 -- a word that is no pin word
 abbrev pub IsWalked : Word → Type 0

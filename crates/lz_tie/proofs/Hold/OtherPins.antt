@@ -1,16 +1,13 @@
 -- Of a yard's copies of pin words an event reads its own actor's alone, but for a load.
 use Rattle.std.proofs.Common.{◌≡◌, ℕ, ◌+◌, Bool, true, false, List, refl, sym, ap, ◌∙◌, subst, not, ◌&&◌, if◌then◌else◌, Option, Some, None}
-use Rattle.lz_tie.proofs.Vocabulary.{of_pass, see_pin, Place, Words, redirect, set, check, Course, Actor, Event, Yard, actor_at, course, course_alive}
-use Rattle.lz_tie.proofs.Vocabulary.{needs_of, is_played_dead, line, line_on, line_failed, line_call, call_on, call_of, line_publishes, published_on}
-use Rattle.lz_tie.proofs.Vocabulary.{publishes, yard_done, outcome_of, words_after, given_back, kept_slot, vault_failed, is_sure, set_actor}
-use Rattle.lz_tie.proofs.Vocabulary.{with_hold, with_slot, pin_of, stays_out, pin_answered, hop_of}
-use Rattle.lz_list.specs.declared.place.Place.TheVariants.{Bucket, Node}
-use Rattle.lz_list.specs.declared.word.Word.TheVariants.{Pin as pin_at}
-use Rattle.lz_machine.specs.declared.course.Course.TheVariants.{Refused, Dies, Plays}
-use Rattle.lz_machine.specs.declared.actor.Hold.TheVariants.{Checked, Locks}
+use Rattle.lz_tie.proofs.Vocabulary.{of_pass, see_pin, Place, Words, redirect, set, check, Course, Actor, Event, Yard, actor_at, course, course_alive, needs_of}
+use Rattle.lz_tie.proofs.Vocabulary.{is_played_dead, line, line_on, line_failed, line_call, call_on, call_of, line_publishes, published_on, publishes}
+use Rattle.lz_tie.proofs.Vocabulary.{yard_done, outcome_of, words_after, given_back, kept_slot, vault_failed, is_sure, set_actor, with_hold, with_slot, pin_of}
+use Rattle.lz_tie.{proofs.Vocabulary.{stays_out, pin_answered, hop_of}, specs.NotedRuns.{SameButAllPins}}
+use Rattle.lz_list.specs.declared.{place.Place.TheVariants.{Bucket, Node}, word.Word.TheVariants.{Pin as pin_at}}
+use Rattle.lz_machine.specs.declared.{course.Course.TheVariants.{Refused, Dies, Plays}, actor.Hold.TheVariants.{Checked, Locks}}
 use Rattle.lz_machine.specs.declared.event.Event.TheVariants.{Invoke, Hop, Check, Link, Settle, Unlink, Answer}
 use Rattle.lz_machine.specs.declared.event.Outcome.TheVariants.{Dead, NotNow, True, False}
-use Rattle.lz_tie.specs.NotedRuns.{SameButAllPins}
 
 abbrev pub with_pins : Yard → List ℕ → Yard
 with_pins y ps = record {

@@ -2,13 +2,9 @@
 use Rattle.std.proofs.Common.{◌≡◌, ℕ, true, List, [], ◌∷◌, refl, sym, ap, ◌∙◌, subst, arith, eq-eqb, ne_eqb, le_refl, ◌≤◌, if◌then◌else◌}
 use Rattle.std.proofs.lemmas.Bool.{cases_eq}
 use Rattle.lz_tie.proofs.Vocabulary.{Device, Yard, Calling, HasPass, Sizes, Note, Part, pin_after, is_calling, PinTold, found_note, BoardId}
+use Rattle.lz_tie.{proofs.{Reuse.EventUpkeep.{silent_told}, Hold.CallStart.{found_tied}}, specs.{Held.{IsNextOf}, Holds.{IsLocked, InHold, IsTurn}}}
 use Rattle.lz_machine.specs.declared.event.Event.TheVariants.{SeePin}
-use Rattle.lz_board.proofs.Upkeep.Splice.{other_step}
-use Rattle.lz_board.proofs.Upkeep.PartUpkeep.{knows_found}
-use Rattle.lz_tie.specs.Held.{IsNextOf}
-use Rattle.lz_tie.specs.Holds.{IsLocked, InHold, IsTurn}
-use Rattle.lz_tie.proofs.Reuse.EventUpkeep.{silent_told}
-use Rattle.lz_tie.proofs.Hold.CallStart.{found_tied}
+use Rattle.lz_board.proofs.Upkeep.{Splice.{other_step}, PartUpkeep.{knows_found}}
 
 found_locked : (b : BoardId) (ns : List Note) (y : Yard) (dev : Device) → IsLocked b ns y dev → (q v : ℕ) → 1 ≤ q → q ≤ b.sizes.passes → PinTold b.sizes ns q v → IsLocked b (found_note q v ∷ ns) y dev
 found_locked b ns y dev l q v low high told =

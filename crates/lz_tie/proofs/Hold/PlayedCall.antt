@@ -1,24 +1,17 @@
 -- The Invoke of a pass that has joined the pen, and the call that its note tells.
+use Rattle.lz_tie.proofs.Hold.CallStart as starting
 use Rattle.std.proofs.Common.{◌≡◌, ◌≢◌, ℕ, ◌%◌, ◌≤◌, ◌==◌, false, List, [], ◌∷◌, refl, sym, ap, ◌∙◌, subst, arith, eq-eqb, Some, None, IsTrue}
-use Rattle.lz_tie.proofs.Vocabulary.{Command, Device, medium_after, set, Lawful, Course, Outcome, Yard, actor_at, changed_on}
-use Rattle.lz_tie.proofs.Vocabulary.{course, line_on, call_on, pin_of, published_on, MayPlay, with_words, invoked, Told, Sizes, Note, Part, note_by}
-use Rattle.lz_tie.proofs.Vocabulary.{trace_of, steps_of, splice, pin_after, is_calling, MayNote, Writes, noted, BoardId}
+use Rattle.lz_tie.proofs.Vocabulary.{Command, Device, medium_after, set, Lawful, Course, Outcome, Yard, actor_at, changed_on, course, line_on, call_on, pin_of}
+use Rattle.lz_tie.proofs.Vocabulary.{published_on, MayPlay, with_words, invoked, Told, Sizes, Note, Part, note_by, trace_of, steps_of, splice, pin_after}
+use Rattle.lz_tie.proofs.{Vocabulary.{is_calling, MayNote, Writes, noted, BoardId}, Hold.{Exchanges.{Exchange, IsExchange}, NotedStep.{NotedStep}}}
+use Rattle.lz_tie.proofs.{Hold.NoteCondition.{listed_is, listed_none, alike_tied, tied_lawful, noting_nothing}, Reuse.EventUpkeep.{silent_told, hands_after}}
+use Rattle.lz_tie.specs.{NotedRuns.{SameButAllPins, IsTied}, Holds.{sizes_of, IsLocked, InHold, MayTurn, begins_with}, Reuse.{ReuseTold}}
 use Rattle.lz_slot.proofs.Counted.{of_pass_same, length-set_of_pass}
 use Rattle.lz_list.specs.declared.word.Word.TheVariants.{Pin as pin_at, Halt as halt_word}
-use Rattle.lz_machine.specs.declared.course.Course.TheVariants.{Plays}
-use Rattle.lz_machine.specs.declared.event.Event.TheVariants.{Invoke}
-use Rattle.lz_machine.specs.declared.event.Outcome.TheVariants.{Fault}
+use Rattle.lz_machine.specs.declared.{course.Course.TheVariants.{Plays}, event.{Event.TheVariants.{Invoke}, Outcome.TheVariants.{Fault}}}
 use Rattle.lz_machine.proofs.Runs.Course.{invoke_plays}
 use Rattle.lz_yard.specs.Steps.{Played as PlayedOver}
 use Rattle.lz_board.specs.declared.view.What.TheVariants.{Called}
-use Rattle.lz_tie.specs.NotedRuns.{SameButAllPins, IsTied}
-use Rattle.lz_tie.specs.Holds.{sizes_of, IsLocked, InHold, MayTurn, begins_with}
-use Rattle.lz_tie.proofs.Hold.Exchanges.{Exchange, IsExchange}
-use Rattle.lz_tie.specs.Reuse.{ReuseTold}
-use Rattle.lz_tie.proofs.Reuse.EventUpkeep.{silent_told, hands_after}
-use Rattle.lz_tie.proofs.Hold.NotedStep.{NotedStep}
-use Rattle.lz_tie.proofs.Hold.NoteCondition.{listed_is, listed_none, alike_tied, tied_lawful, noting_nothing}
-use Rattle.lz_tie.proofs.Hold.CallStart as starting
 
 module _ (b : BoardId) (ns : List Note) (y : Yard) (dev : Device) (h : Part) (hold : InHold b ns y dev h) (c : Command) (may : MayTurn b.sizes ns h (Invoke c)) where
   abbrev a : ℕ

@@ -1,39 +1,28 @@
 -- One turn of a pass that has joined the pen: what it asks of the yard, what its note tells, and what it leaves.
-use Rattle.std.proofs.Common.{◌≡◌, ◌≢◌, ⊎_elim, ℕ, suc, ◌≤◌, ◌<◌, Bool, true, false, List, [], ◌++◌, map, length, refl, sym, ap, ◌∙◌, subst, arith, eq-eqb, is_some, if◌then◌else◌, Option, Some, None, IfSome}
-use mathlib.Core.Bool.{false≢true}
-use Rattle.std.proofs.lemmas.Bool.{not-true}
-use Rattle.lz_slot.proofs.Counted.{of_pass_same, length-set_of_pass}
-use Rattle.lz_tie.proofs.Vocabulary.{Device, Taken, use_of, Word, get, set, IsWord, Trace, Lawful, IsLoose, Event, Outcome, Course, Shape, Yard}
-use Rattle.lz_tie.proofs.Vocabulary.{actor_at, course, line, line_on, line_failed, line_publishes, published_on, outcome_of, yard_done, uses_after}
-use Rattle.lz_tie.proofs.Vocabulary.{actors_after, pin_of, last_pin, stays_out, pin_answered, event_at, Calling, HasPass, IsEventOf, IsReadyFor}
-use Rattle.lz_tie.proofs.Vocabulary.{MayPlay, with_words, Told, value_of, Sizes, Note, Part, note_by, stamped, as_list, own, trace_of, steps_of}
-use Rattle.lz_tie.proofs.Vocabulary.{load_note, splice, AllShown, place, pin_after, pin_after_what, pin_after_played, shape_of_sizes, is_calling}
-use Rattle.lz_tie.proofs.Vocabulary.{shows_played, Sighting, MayNote, MayPrepare, KeepsPin, MovesPin, Writes, noted, found_note, BoardId}
-use Rattle.lz_list.specs.declared.word.Word.TheVariants.{Head as head_at, Link as link_at, Key as key_at, Pin as pin_at, Halt as halt_word}
-use Rattle.lz_machine.specs.declared.event.Event.TheVariants.{Pin, Answer, Reserve, Retire, SeePin}
-use Rattle.lz_machine.specs.declared.event.Outcome.TheVariants.{Done, Fault}
-use Rattle.lz_machine.specs.declared.course.Course.TheVariants.{Plays}
-use Rattle.lz_machine.proofs.Frames.Outside.{answered_pin, worn_out}
-use Rattle.lz_machine.proofs.Runs.EventRange.{is_event}
-use Rattle.lz_machine.proofs.Runs.Course.{plays_needs}
-use Rattle.lz_machine.proofs.Theorem.Readiness.{is_invoke, ready}
-use Rattle.lz_yard.specs.Steps.{Played as PlayedOver}
-use Rattle.lz_yard.proofs.Events.KeptFit.{fault_or_not}
-use Rattle.lz_board.specs.declared.view.What.TheVariants.{Played}
-use Rattle.lz_board.proofs.Upkeep.Splice.{trace_splice, pin_splice}
-use Rattle.lz_tie.specs.NotedRuns.{AreNext, SameButAllPins, IsTied, seen_event}
-use Rattle.lz_tie.specs.Holds.{sizes_of, IsLocked, InHold, IsTurn, SeesPin, Turned}
-use Rattle.lz_tie.proofs.Hold.Exchanges.{Exchange, IsExchange}
-use Rattle.lz_tie.specs.Reuse.{ReuseTold}
-use Rattle.lz_tie.proofs.Reuse.SightUpkeep.{noted_same}
-use Rattle.lz_tie.proofs.Reuse.EventUpkeep.{is_reusing, reusing_silent, leaves, slot_in, silent_told, plain_told, reserve_told, retired_told, seen_told, answered_told}
-use Rattle.lz_tie.proofs.Reading.PinWords.{is_counting, line_count, own_pin, moved_pin, fault_pin}
-use Rattle.lz_tie.proofs.Reading.StandingCall.{still_calling}
-use Rattle.lz_tie.proofs.Hold.OneWord.{IsWalked, line_others, line_own, pin_changed, counting_silent}
-use Rattle.lz_tie.proofs.Hold.NoteCondition.{listed_is, listed_none, alike_tied, tied_loose, tied_held, tied_shared, noting_writes, noting_nothing, noting_lawful}
 use Rattle.lz_tie.proofs.Hold.NextStep as holding
-use Rattle.lz_tie.proofs.Hold.NotedStep.{NotedStep}
-use Rattle.lz_tie.proofs.Hold.PreparedSlot.{prepared, prepared_hand, prepares_left}
+use Rattle.std.proofs.Common.{◌≡◌, ◌≢◌, ⊎_elim, ℕ, suc, ◌≤◌, ◌<◌, Bool, true, false, List, [], ◌++◌, map, length, refl, sym, ap, ◌∙◌, subst, arith, eq-eqb}
+use Rattle.std.proofs.{Common.{is_some, if◌then◌else◌, Option, Some, None, IfSome}, lemmas.Bool.{not-true}}
+use mathlib.Core.Bool.{false≢true}
+use Rattle.lz_slot.proofs.Counted.{of_pass_same, length-set_of_pass}
+use Rattle.lz_tie.proofs.Vocabulary.{Device, Taken, use_of, Word, get, set, IsWord, Trace, Lawful, IsLoose, Event, Outcome, Course, Shape, Yard, actor_at}
+use Rattle.lz_tie.proofs.Vocabulary.{course, line, line_on, line_failed, line_publishes, published_on, outcome_of, yard_done, uses_after, actors_after, pin_of}
+use Rattle.lz_tie.proofs.Vocabulary.{last_pin, stays_out, pin_answered, event_at, Calling, HasPass, IsEventOf, IsReadyFor, MayPlay, with_words, Told, value_of}
+use Rattle.lz_tie.proofs.Vocabulary.{Sizes, Note, Part, note_by, stamped, as_list, own, trace_of, steps_of, load_note, splice, AllShown, place, pin_after}
+use Rattle.lz_tie.proofs.Vocabulary.{pin_after_what, pin_after_played, shape_of_sizes, is_calling, shows_played, Sighting, MayNote, MayPrepare, KeepsPin}
+use Rattle.lz_tie.proofs.{Vocabulary.{MovesPin, Writes, noted, found_note, BoardId}, Hold.Exchanges.{Exchange, IsExchange}}
+use Rattle.lz_tie.proofs.Hold.{OneWord.{IsWalked, line_others, line_own, pin_changed, counting_silent}, NoteCondition.{listed_is, listed_none, alike_tied}}
+use Rattle.lz_tie.proofs.Hold.{NoteCondition.{tied_loose, tied_held, tied_shared, noting_writes, noting_nothing, noting_lawful}, NotedStep.{NotedStep}}
+use Rattle.lz_tie.proofs.{Hold.PreparedSlot.{prepared, prepared_hand, prepares_left}, Reuse.{SightUpkeep.{noted_same}, EventUpkeep.{is_reusing}}}
+use Rattle.lz_tie.proofs.Reuse.EventUpkeep.{reusing_silent, leaves, slot_in, silent_told, plain_told, reserve_told, retired_told, seen_told, answered_told}
+use Rattle.lz_tie.proofs.Reading.{PinWords.{is_counting, line_count, own_pin, moved_pin, fault_pin}, StandingCall.{still_calling}}
+use Rattle.lz_tie.specs.{NotedRuns.{AreNext, SameButAllPins, IsTied, seen_event}, Holds.{sizes_of, IsLocked, InHold, IsTurn, SeesPin, Turned}}
+use Rattle.lz_tie.specs.Reuse.{ReuseTold}
+use Rattle.lz_list.specs.declared.word.Word.TheVariants.{Head as head_at, Link as link_at, Key as key_at, Pin as pin_at, Halt as halt_word}
+use Rattle.lz_machine.specs.declared.event.{Event.TheVariants.{Pin, Answer, Reserve, Retire, SeePin}, Outcome.TheVariants.{Done, Fault}}
+use Rattle.lz_machine.{specs.declared.course.Course.TheVariants.{Plays}, proofs.{Frames.Outside.{answered_pin, worn_out}, Runs.EventRange.{is_event}}}
+use Rattle.lz_machine.proofs.{Runs.Course.{plays_needs}, Theorem.Readiness.{is_invoke, ready}}
+use Rattle.lz_yard.{specs.Steps.{Played as PlayedOver}, proofs.Events.KeptFit.{fault_or_not}}
+use Rattle.lz_board.{specs.declared.view.What.TheVariants.{Played}, proofs.Upkeep.Splice.{trace_splice, pin_splice}}
 
 module _ (b : BoardId) (ns : List Note) (y : Yard) (dev : Device) (h : Part) (hold : InHold b ns y dev h) (c : Calling) (e : Event) (turn : IsTurn ns h c e) where
   abbrev a : ℕ

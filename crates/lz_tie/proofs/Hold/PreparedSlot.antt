@@ -1,12 +1,11 @@
 -- The slot that an event prepares is the one in its actor's hand.
 use Rattle.std.proofs.Common.{◌≡◌, ℕ, Bool, true, false, List, ◌∷◌, refl, ap, ◌&&◌, Option, Some, None, is_some, unwrap_or}
 use mathlib.Core.Bool.{false≢true}
-use Rattle.lz_tie.proofs.Vocabulary.{Stage, Publishing, Trace, Course, Event, Yard, actor_at, cell_at, course, needs, published_on, publishes}
-use Rattle.lz_tie.proofs.Vocabulary.{settling, line_publishes, Sizes, Note, as_list, AllLeft, MayPrepare}
+use Rattle.lz_tie.proofs.Vocabulary.{Stage, Publishing, Trace, Course, Event, Yard, actor_at, cell_at, course, needs, published_on, publishes, settling}
+use Rattle.lz_tie.proofs.Vocabulary.{line_publishes, Sizes, Note, as_list, AllLeft, MayPrepare}
 use Rattle.lz_vault.specs.declared.vault.Stage.TheVariants.{Open}
 use Rattle.lz_list.specs.declared.publishing.Publishing.TheVariants.{KeyPrepared as key_prepared, LinkPrepared as link_prepared}
-use Rattle.lz_machine.specs.declared.course.Course.TheVariants.{Plays}
-use Rattle.lz_machine.specs.declared.event.Event.TheVariants.{WriteKey, WriteOpen, Settle}
+use Rattle.lz_machine.specs.declared.{course.Course.TheVariants.{Plays}, event.Event.TheVariants.{WriteKey, WriteOpen, Settle}}
 use Rattle.lz_machine.proofs.Runs.Course.{plays_needs}
 
 -- the slot that is prepared

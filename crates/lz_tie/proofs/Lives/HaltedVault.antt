@@ -1,10 +1,8 @@
 -- A set that was halted has a dead vault, so its life is over for one of the reasons that a life has.
 use Rattle.std.proofs.Common.{◌≡◌, ◌⊎◌, ◌≤◌, ◌<◌, true, List, sym, ap, ◌∙◌}
 use Rattle.lz_tie.proofs.Vocabulary.{Format, Device, Vaulted, last_sync, halt_word, Yard, run, first_point, Note, trace_of, BoardId}
+use Rattle.lz_tie.{proofs.Reading.TraceNotes.{trace_reads}, specs.{Holds.{IsLocked}, Lives.{LivesOn}}}
 use Rattle.lz_machine.proofs.Theorem.Reached.{reached_sound, up_at}
-use Rattle.lz_tie.specs.Holds.{IsLocked}
-use Rattle.lz_tie.specs.Lives.{LivesOn}
-use Rattle.lz_tie.proofs.Reading.TraceNotes.{trace_reads}
 
 pub dead_halted : (b : BoardId) (ns : List Note) (y : Yard) (dev : Device) → IsLocked b ns y dev → halt_word (trace_of b.opened ns) ≡ 1 → y.vault.dead ≡ true
 dead_halted b ns y dev locked halted =

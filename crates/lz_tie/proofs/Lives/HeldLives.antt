@@ -1,16 +1,13 @@
 -- One hold: the file's format stays, and a vault dies only for want of a sync or because the device failed.
-use Rattle.std.proofs.Common.{◌≡◌, ◌≢◌, inl, inr, ⊎_elim, ℕ, ◌+◌, ◌≤◌, ◌==◌, Bool, true, false, List, not, ◌&&◌, refl, sym, subst, arith, le_refl, if◌then◌else◌}
-use Rattle.std.proofs.lemmas.Bool.Decides.{nat_tests}
-use Rattle.lz_tie.proofs.Vocabulary.{Format, Device, DeviceCall, SyncAll, syncs_after, last_sync, set, Course, Event, Outcome, Yard}
-use Rattle.lz_tie.proofs.Vocabulary.{actor_at, course, course_alive, call_of, is_played_dead, is_spent, is_sure, last_pin, line_on, needs, pin_of}
-use Rattle.lz_tie.proofs.Vocabulary.{with_words, Told, Note}
-use Rattle.lz_list.specs.declared.word.Word.TheVariants.{Pin as pin_at}
-use Rattle.lz_machine.specs.declared.course.Course.TheVariants.{Refused, Dies, Plays}
-use Rattle.lz_machine.specs.declared.event.Event.TheVariants.{Pin, Sync}
-use Rattle.lz_machine.specs.declared.event.Outcome.TheVariants.{Worn, NotNow, Dead, Fault}
-use Rattle.lz_yard.specs.Steps.{Played as PlayedOver}
-use Rattle.lz_yard.proofs.Events.KeptFit.{fault_or_not}
+use Rattle.std.proofs.Common.{◌≡◌, ◌≢◌, inl, inr, ⊎_elim, ℕ, ◌+◌, ◌≤◌, ◌==◌, Bool, true, false, List, not, ◌&&◌, refl, sym, subst, arith, le_refl}
+use Rattle.std.proofs.{Common.{if◌then◌else◌}, lemmas.Bool.Decides.{nat_tests}}
+use Rattle.lz_tie.proofs.Vocabulary.{Format, Device, DeviceCall, SyncAll, syncs_after, last_sync, set, Course, Event, Outcome, Yard, actor_at, course}
+use Rattle.lz_tie.proofs.Vocabulary.{course_alive, call_of, is_played_dead, is_spent, is_sure, last_pin, line_on, needs, pin_of, with_words, Told, Note}
 use Rattle.lz_tie.specs.Lives.{LivesOn, KeepsLife, faults_in}
+use Rattle.lz_list.specs.declared.word.Word.TheVariants.{Pin as pin_at}
+use Rattle.lz_machine.specs.declared.{course.Course.TheVariants.{Refused, Dies, Plays}, event.Event.TheVariants.{Pin, Sync}}
+use Rattle.lz_machine.specs.declared.event.Outcome.TheVariants.{Worn, NotNow, Dead, Fault}
+use Rattle.lz_yard.{specs.Steps.{Played as PlayedOver}, proofs.Events.KeptFit.{fault_or_not}}
 
 -- only a sync dies by itself, where none is left
 alive_dies : (y : Yard) (a pin : ℕ) (e : Event) → course_alive y a pin e ≡ Dies → is_spent y ≡ true

@@ -1,18 +1,11 @@
 -- How many steps of the notes failed: a load is none of them, and a hold's step is one only where the device failed in it.
 use Rattle.std.proofs.Common.{◌≡◌, ◌<◌, ℕ, zero, suc, ◌+◌, ◌≤◌, List, [], ◌∷◌, ◌++◌, refl, sym, ap, ◌∙◌, subst, arith, replicate, Option, Some, None}
-use Rattle.lz_tie.proofs.Vocabulary.{Device, Trace, Event, Outcome, failed_in, told_device, State, Up, Service, Caller, Point, Transition, Calls}
-use Rattle.lz_tie.proofs.Vocabulary.{Turn, Fails, Looks, caller_at, first_point, run, Yard, What, Note, Load, Part, Sizes, insert_load}
-use Rattle.lz_tie.proofs.Vocabulary.{shape_of_sizes, splice, BoardId}
-use Rattle.lz_machine.specs.declared.event.Outcome.TheVariants.{Fault}
-use Rattle.lz_machine.proofs.Theorem.DeviceFailures.{fails_once}
-use Rattle.lz_board.specs.declared.view.What.TheVariants.{Played, Found}
-use Rattle.lz_board.proofs.Upkeep.Splice.{at_place}
-use Rattle.lz_tie.specs.Holds.{HoldNotes, IsLocked}
-use Rattle.lz_tie.specs.Lives.{faults_in, faults_with}
-use Rattle.lz_tie.specs.Marks.{marks_in}
-use Rattle.lz_tie.specs.NotedRuns.{ReadsAs, TellsFault, TellsOne, TellsOf, TellsStep}
-use Rattle.lz_tie.proofs.Marks.RunMarks.{marks_read}
-use Rattle.lz_tie.proofs.Marks.RunningSet.{locked_sizes}
+use Rattle.lz_tie.proofs.Vocabulary.{Device, Trace, Event, Outcome, failed_in, told_device, State, Up, Service, Caller, Point, Transition, Calls, Turn, Fails}
+use Rattle.lz_tie.proofs.Vocabulary.{Looks, caller_at, first_point, run, Yard, What, Note, Load, Part, Sizes, insert_load, shape_of_sizes, splice, BoardId}
+use Rattle.lz_tie.{proofs.Marks.{RunMarks.{marks_read}, RunningSet.{locked_sizes}}, specs.{Holds.{HoldNotes, IsLocked}, Lives.{faults_in, faults_with}}}
+use Rattle.lz_tie.specs.{Marks.{marks_in}, NotedRuns.{ReadsAs, TellsFault, TellsOne, TellsOf, TellsStep}}
+use Rattle.lz_machine.{specs.declared.event.Outcome.TheVariants.{Fault}, proofs.Theorem.DeviceFailures.{fails_once}}
+use Rattle.lz_board.{specs.declared.view.What.TheVariants.{Played, Found}, proofs.Upkeep.Splice.{at_place}}
 
 module _ (opened : Trace) (p : ℕ) where
   faults_insert : (h : Load) (ns : List Note) → faults_in (insert_load opened p h ns) ≡ faults_in ns

@@ -1,10 +1,9 @@
 -- Where a history shows that a call was cut off, it is one of its pass's own calls that was.
-use Rattle.std.proofs.Common.{◌≡◌, ◌≢◌, ◌⊎◌, inl, inr, ⊎_elim, ℕ, ◌≤◌, Bool, true, false, List, [], ◌∷◌, Some, None, refl, sym, ◌∙◌, subst, eq-eqb, ◌==◌, if◌then◌else◌, Option, eqb-true, true≢false}
-use Rattle.lz_tie.proofs.Vocabulary.{Command, Mark, History, IsCalled, IsOpenCall, IsTold, MayFollow}
-use Rattle.lz_slot.specs.declared.history.Cut.{Cut as WhyCut}
-use Rattle.lz_slot.specs.declared.history.Mark.TheVariants.{Call, Answer, Refused, Cut, Stop, Crash, Opened, OpenFailed}
-use Rattle.lz_tie.specs.Marks.{AreOfPasses, NoneIsCut}
+use Rattle.std.proofs.Common.{◌≡◌, ◌≢◌, ◌⊎◌, inl, inr, ⊎_elim, ℕ, ◌≤◌, Bool, true, false, List, [], ◌∷◌, Some, None, refl, sym, ◌∙◌, subst, eq-eqb, ◌==◌}
+use Rattle.std.proofs.Common.{if◌then◌else◌, Option, eqb-true, true≢false}
+use Rattle.lz_tie.{proofs.Vocabulary.{Command, Mark, History, IsCalled, IsOpenCall, IsTold, MayFollow}, specs.Marks.{AreOfPasses, NoneIsCut}}
 use Rattle.lz_tie.specs.OwnCalls.{AsCut, Ending, SeenCall, calls_of, ended}
+use Rattle.lz_slot.specs.declared.history.{Cut.{Cut as WhyCut}, Mark.TheVariants.{Call, Answer, Refused, Cut, Stop, Crash, Opened, OpenFailed}}
 
 -- the ending of a call that was cut off
 abbrev pub is_cut : Option Ending → Bool

@@ -1,15 +1,13 @@
 -- What notes show grows: loads that are put among them show nothing, and a hold's step puts its mark before all others.
 use Rattle.std.proofs.Common.{◌≡◌, ◌≢◌, ℕ, suc, ◌≤◌, List, [], ◌∷◌, ◌++◌, length, map, refl, sym, ap, ◌∙◌, subst, Option, Some, None}
-use Rattle.lz_tie.proofs.Vocabulary.{Command, Format, Publishing, Trace, Event, Outcome, Progress, Calling, mark_of_turn, reply_at, Shape, What, Note}
-use Rattle.lz_tie.proofs.Vocabulary.{Load, Part, Sizes, steps_of, note_by, load_note, insert_load, splice, Quiet, InOrder, place, shape_of_sizes}
-use Rattle.lz_tie.proofs.Vocabulary.{Knows, BoardId}
+use Rattle.lz_tie.proofs.Vocabulary.{Command, Format, Publishing, Trace, Event, Outcome, Progress, Calling, mark_of_turn, reply_at, Shape, What, Note, Load}
+use Rattle.lz_tie.proofs.Vocabulary.{Part, Sizes, steps_of, note_by, load_note, insert_load, splice, Quiet, InOrder, place, shape_of_sizes, Knows, BoardId}
+use Rattle.lz_tie.specs.{NotedRuns.{AreNext, IsHopAt}, Holds.{HasCall, HoldNotes}}
+use Rattle.lz_tie.specs.Marks.{calls_with, calls_in, number_with, last_call_number, reply_in, marks_with, marks_in, Shows}
 use Rattle.lz_slot.specs.declared.history.Mark.TheVariants.{Call}
 use Rattle.lz_machine.specs.declared.caller.Progress.TheVariants.{Answering}
 use Rattle.lz_board.specs.declared.view.What.TheVariants.{Called, Played, Found}
 use Rattle.lz_board.proofs.Upkeep.Splice.{at_place, other_step, steps_insert_other, steps_splice, quiet_splice}
-use Rattle.lz_tie.specs.NotedRuns.{AreNext, IsHopAt}
-use Rattle.lz_tie.specs.Holds.{HasCall, HoldNotes}
-use Rattle.lz_tie.specs.Marks.{calls_with, calls_in, number_with, last_call_number, reply_in, marks_with, marks_in, Shows}
 
 -- a call that loads next isn't about to reply
 load_replies : (shape : Shape) (h : Load) (at : Option (Command × Progress)) → IsHopAt shape h at → reply_in at ≡ None

@@ -1,19 +1,13 @@
 -- Worked rows: what notes show, and a pass's own calls, computed.
 use Rattle.std.proofs.Common.{◌≡◌, Bool, true, false, List, [], ◌∷◌, Some, None, is_some, refl, ap, arith}
 use mathlib.Core.Bool.{false≢true}
-use Rattle.lz_slot.specs.declared.command.Command.TheVariants.{Add, Has}
-use Rattle.lz_slot.specs.declared.format.Format.TheVariants.{Two}
-use Rattle.lz_slot.specs.declared.history.Mark.TheVariants.{Call, Answer as answer, Refused}
-use Rattle.lz_slot.specs.declared.history.Refusal.TheVariants.{Full}
+use Rattle.lz_slot.specs.declared.{command.Command.TheVariants.{Add, Has}, format.Format.TheVariants.{Two}}
+use Rattle.lz_slot.specs.declared.history.{Mark.TheVariants.{Call, Answer as answer, Refused}, Refusal.TheVariants.{Full}}
 use Rattle.lz_list.specs.declared.word.Word.TheVariants.{Head, Link, Key, Halt as HaltWord}
-use Rattle.lz_machine.specs.declared.event.Event.TheVariants.{Pin, WriteOpen, Answer, Halt}
-use Rattle.lz_machine.specs.declared.event.Outcome.TheVariants.{Done, Fault, Dead}
-use Rattle.lz_machine.specs.declared.event.Reply.TheVariants.{Yes}
-use Rattle.lz_tie.proofs.Vocabulary.{Shape, Note, note_by, load_note, steps_of}
+use Rattle.lz_machine.specs.declared.event.{Event.TheVariants.{Pin, WriteOpen, Answer, Halt}, Outcome.TheVariants.{Done, Fault, Dead}, Reply.TheVariants.{Yes}}
+use Rattle.lz_tie.{proofs.Vocabulary.{Shape, Note, note_by, load_note, steps_of}, specs.Lives.{faults_in}}
+use Rattle.lz_tie.specs.{Marks.{calls_in, last_call_number, marks_in, Shows, AreOfPasses}, OwnCalls.{AsAnswered, AsRefused, SeenCall, calls_of, told}}
 use Rattle.lz_board.specs.declared.view.What.TheVariants.{Called, Played, Found}
-use Rattle.lz_tie.specs.Lives.{faults_in}
-use Rattle.lz_tie.specs.Marks.{calls_in, last_call_number, marks_in, Shows, AreOfPasses}
-use Rattle.lz_tie.specs.OwnCalls.{AsAnswered, AsRefused, SeenCall, calls_of, told}
 
 abbrev shape : Shape
 shape = record { slots = 2; buckets = 1; passes = 2 }

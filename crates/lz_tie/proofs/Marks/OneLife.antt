@@ -2,9 +2,9 @@
 use Rattle.std.proofs.Common.{◌≡◌, ℕ, suc, List, [], ◌∷◌, ◌++◌, refl, ap, Option, Some, None}
 use Rattle.lz_slot.specs.declared.history.Mark.TheVariants.{Call}
 use Rattle.lz_tie.proofs.Vocabulary.{History, Life, lives, with_mark, Keys, Reply, mark_of, mark_of_turn, Shape, What, Note, place, steps_of}
+use Rattle.lz_tie.specs.Marks.{calls_in, last_call_number, reply_in, marks_with, marks_in}
 use Rattle.lz_machine.specs.declared.event.Reply.TheVariants.{Yes}
 use Rattle.lz_board.specs.declared.view.What.TheVariants.{Called, Played, Found}
-use Rattle.lz_tie.specs.Marks.{calls_in, last_call_number, reply_in, marks_with, marks_in}
 
 abbrev only_life : Keys → History → List Life
 only_life S M = record { start = S; history = M } ∷ []

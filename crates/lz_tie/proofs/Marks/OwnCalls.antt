@@ -1,14 +1,12 @@
 -- A pass's calls in the history that notes show are those of its own steps.
-use Rattle.std.proofs.Common.{◌≡◌, ◌≢◌, ⊎_elim, ℕ, suc, ◌≤◌, Bool, true, false, List, [], ◌∷◌, ◌++◌, map, refl, sym, ap, ◌∙◌, subst, arith, eq-eqb, ne_eqb, ◌==◌, if◌then◌else◌, Option, Some, None}
-use Rattle.std.proofs.lemmas.Bool.{cases_eq}
-use Rattle.lz_tie.proofs.Vocabulary.{Command, Format, History, Publishing, Trace, Event, Outcome, Reply, mark_of, mark_of_turn, Shape, Moment, What}
-use Rattle.lz_tie.proofs.Vocabulary.{Note, Part, place, shape_of_sizes, steps_of, knowing, BoardId}
-use Rattle.lz_machine.specs.declared.event.Reply.TheVariants.{Yes}
-use Rattle.lz_board.specs.declared.view.What.TheVariants.{Called, Played, Found}
-use Rattle.lz_board.proofs.Upkeep.Splice.{own_step, other_step}
+use Rattle.std.proofs.Common.{◌≡◌, ◌≢◌, ⊎_elim, ℕ, suc, ◌≤◌, Bool, true, false, List, [], ◌∷◌, ◌++◌, map, refl, sym, ap, ◌∙◌, subst, arith, eq-eqb, ne_eqb}
+use Rattle.std.proofs.{Common.{◌==◌, if◌then◌else◌, Option, Some, None}, lemmas.Bool.{cases_eq}}
+use Rattle.lz_tie.proofs.Vocabulary.{Command, Format, History, Publishing, Trace, Event, Outcome, Reply, mark_of, mark_of_turn, Shape, Moment, What, Note, Part}
+use Rattle.lz_tie.proofs.{Vocabulary.{place, shape_of_sizes, steps_of, knowing, BoardId}, Marks.RunMarks.{other_number}}
 use Rattle.lz_tie.specs.Marks.{calls_with, calls_in, number_with, last_call_number, reply_in, marks_in}
 use Rattle.lz_tie.specs.OwnCalls.{Ending, SeenCall, ended, calls_of, replied, told_with, told, ending_of, unnumbered, shown, TellsOwn}
-use Rattle.lz_tie.proofs.Marks.RunMarks.{other_number}
+use Rattle.lz_machine.specs.declared.event.Reply.TheVariants.{Yes}
+use Rattle.lz_board.{specs.declared.view.What.TheVariants.{Called, Played, Found}, proofs.Upkeep.Splice.{own_step, other_step}}
 
 -- each of the calls has a number with F
 abbrev AllNumbers : (ℕ → Type 0) → List SeenCall → Type 0

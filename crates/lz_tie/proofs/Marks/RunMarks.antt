@@ -1,19 +1,15 @@
 -- The marks of a run are those that its notes show.
-use Rattle.std.proofs.Common.{◌≡◌, ◌≢◌, ℕ, zero, suc, ◌≤◌, List, [], ◌∷◌, ◌++◌, length, refl, sym, ap, ◌∙◌, subst, arith, eq-eqb, ne_eqb, if◌then◌else◌, replicate, Option, Some, None}
-use Rattle.std.proofs.lemmas.Bool.{cases_eq}
-use Rattle.std.proofs.lemmas.Option.{same_Some, none-some}
-use Rattle.lz_tie.proofs.Vocabulary.{Command, set_of_pass, Medium, Event, Outcome, Reply, Progress, Start, State, Up, Down, Service, Caller}
-use Rattle.lz_tie.proofs.Vocabulary.{Transition, Calls, Turn, Fails, Looks, Point, run, IsRun, MayStep, HasFault, first_point, caller_at, next_event}
-use Rattle.lz_tie.proofs.Vocabulary.{state_after, calls_made_after, marks_of, marks_of_turn, mark_of_turn, reply_at, moved_on, after_turn}
-use Rattle.lz_tie.proofs.Vocabulary.{after_fault, line, line_failed, progress_after, Shape, What, Note, place, steps_of}
-use Rattle.lz_slot.specs.declared.history.Mark.TheVariants.{Call}
-use Rattle.lz_slot.proofs.Counted.{of_pass_same, of_pass_other}
-use Rattle.lz_machine.proofs.Frames.OneActor.{caller_range}
-use Rattle.lz_machine.proofs.Runs.CallerTable.{fault_no_reply}
-use Rattle.lz_board.specs.declared.view.What.TheVariants.{Called, Played, Found}
+use Rattle.std.proofs.Common.{◌≡◌, ◌≢◌, ℕ, zero, suc, ◌≤◌, List, [], ◌∷◌, ◌++◌, length, refl, sym, ap, ◌∙◌, subst, arith, eq-eqb, ne_eqb, if◌then◌else◌}
+use Rattle.std.proofs.{Common.{replicate, Option, Some, None}, lemmas.{Bool.{cases_eq}, Option.{same_Some, none-some}}}
+use Rattle.lz_tie.proofs.Vocabulary.{Command, set_of_pass, Medium, Event, Outcome, Reply, Progress, Start, State, Up, Down, Service, Caller, Transition, Calls}
+use Rattle.lz_tie.proofs.Vocabulary.{Turn, Fails, Looks, Point, run, IsRun, MayStep, HasFault, first_point, caller_at, next_event, state_after}
+use Rattle.lz_tie.proofs.Vocabulary.{calls_made_after, marks_of, marks_of_turn, mark_of_turn, reply_at, moved_on, after_turn, after_fault, line, line_failed}
+use Rattle.lz_tie.proofs.{Vocabulary.{progress_after, Shape, What, Note, place, steps_of}, Reading.CallPlaces.{Placed, place_reads, run_before}}
 use Rattle.lz_tie.specs.NotedRuns.{TellsTurn, TellsFault, TellsStep, TellsOne, TellsOf, ReadsAs, viewed}
 use Rattle.lz_tie.specs.Marks.{calls_with, calls_in, number_with, last_call_number, reply_in, marks_with, marks_in}
-use Rattle.lz_tie.proofs.Reading.CallPlaces.{Placed, place_reads, run_before}
+use Rattle.lz_slot.{specs.declared.history.Mark.TheVariants.{Call}, proofs.Counted.{of_pass_same, of_pass_other}}
+use Rattle.lz_machine.proofs.{Frames.OneActor.{caller_range}, Runs.CallerTable.{fault_no_reply}}
+use Rattle.lz_board.specs.declared.view.What.TheVariants.{Called, Played, Found}
 
 -- a step of another pass, or one that begins no call, leaves a pass's number
 pub other_number : (p : ℕ) (n : Note) (ns : List Note) → n.by ≢ p → last_call_number p (n ∷ ns) ≡ last_call_number p ns

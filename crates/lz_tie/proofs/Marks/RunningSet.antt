@@ -1,22 +1,13 @@
 -- What lies under the lock has a history: the main theorem, over the run as which the notes are read.
 use Rattle.std.proofs.Common.{◌≡◌, inl, ℕ, List, ◌∷◌, [], length, sym, ap, ◌∙◌, subst, arith}
-use Rattle.lz_tie.proofs.Vocabulary.{Device, Medium, IsImage, Holds, History, Life, Runs, Fits, ChainTo, last_history, Keys, Same, after, reply}
-use Rattle.lz_tie.proofs.Vocabulary.{key_of, Trace, member, Lasts, State, Up, Service, Transition, Reached, Start, IsStart, run, IsRun, first_point}
-use Rattle.lz_tie.proofs.Vocabulary.{start_keys, Shape, Yard, first_trace, Note, shape_of_sizes, trace_of, BoardId}
-use Rattle.lz_slot.proofs.Sets.{after_same}
-use Rattle.lz_machine.specs.Runs.{shape_of as shape_in}
-use Rattle.lz_machine.proofs.Ledger.Membership.{upto_all}
-use Rattle.lz_machine.proofs.Open.FirstPoint.{one_set}
-use Rattle.lz_machine.proofs.Open.FirstState.{opened_up}
-use Rattle.lz_machine.proofs.Runs.Shape.{run_keeps_shape}
-use Rattle.lz_machine.proofs.Theorem.Reached.{every_history, what_lasts}
-use Rattle.lz_tie.specs.NotedRuns.{ReadsAs}
-use Rattle.lz_tie.specs.Holds.{sizes_of, IsLocked}
-use Rattle.lz_tie.specs.Marks.{marks_in}
+use Rattle.lz_tie.proofs.Vocabulary.{Device, Medium, IsImage, Holds, History, Life, Runs, Fits, ChainTo, last_history, Keys, Same, after, reply, key_of, Trace}
+use Rattle.lz_tie.proofs.Vocabulary.{member, Lasts, State, Up, Service, Transition, Reached, Start, IsStart, run, IsRun, first_point, start_keys, Shape, Yard}
+use Rattle.lz_tie.proofs.{Vocabulary.{first_trace, Note, shape_of_sizes, trace_of, BoardId}, Reading.TraceNotes.{trace_reads}, Marks.OneLife.{one_life}}
+use Rattle.lz_tie.{proofs.Marks.RunMarks.{marks_read}, specs.{NotedRuns.{ReadsAs}, Holds.{sizes_of, IsLocked}, Marks.{marks_in}}}
 use Rattle.lz_tie.specs.RunningSets.{members_of, Explains, HasHistory}
-use Rattle.lz_tie.proofs.Reading.TraceNotes.{trace_reads}
-use Rattle.lz_tie.proofs.Marks.OneLife.{one_life}
-use Rattle.lz_tie.proofs.Marks.RunMarks.{marks_read}
+use Rattle.lz_slot.proofs.Sets.{after_same}
+use Rattle.lz_machine.{specs.Runs.{shape_of as shape_in}, proofs.{Ledger.Membership.{upto_all}, Open.{FirstPoint.{one_set}, FirstState.{opened_up}}}}
+use Rattle.lz_machine.proofs.{Runs.Shape.{run_keeps_shape}, Theorem.Reached.{every_history, what_lasts}}
 
 -- of two sets with the same keys
 lasts_same : (P : Trace) (M : History) (S T : Keys) → Same S T → Lasts P M S → Lasts P M T

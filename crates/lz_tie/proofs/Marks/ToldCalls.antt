@@ -1,15 +1,10 @@
 -- A call that was answered is the newest that its pass's own steps tell, with its reply.
 use Rattle.std.proofs.Common.{◌≡◌, ℕ, List, [], ◌∷◌, ◌++◌, refl, ap, ◌∙◌, append_assoc, Option, Some, None}
 use Rattle.lz_tie.proofs.Vocabulary.{Command, Format, Progress, Event, Outcome, Reply, progress_after, reply_at, Shape, What, Note, Part, note_by}
-use Rattle.lz_tie.proofs.Vocabulary.{unless_replied, place, placed, shape_of_sizes}
-use Rattle.lz_machine.specs.declared.caller.Progress.TheVariants.{Answering}
-use Rattle.lz_machine.specs.declared.event.Event.TheVariants.{Answer}
-use Rattle.lz_machine.specs.declared.event.Outcome.TheVariants.{Done}
+use Rattle.lz_tie.proofs.{Vocabulary.{unless_replied, place, placed, shape_of_sizes}, Replies.CallSteps.{place_since}}
+use Rattle.lz_tie.specs.{Answers.{IsWithin, AreWithin, IsOneCall, Answers}, Marks.{reply_in}, OwnCalls.{told_with, told}}
+use Rattle.lz_machine.specs.declared.{caller.Progress.TheVariants.{Answering}, event.{Event.TheVariants.{Answer}, Outcome.TheVariants.{Done}}}
 use Rattle.lz_board.specs.declared.view.What.TheVariants.{Called, Played}
-use Rattle.lz_tie.specs.Answers.{IsWithin, AreWithin, IsOneCall, Answers}
-use Rattle.lz_tie.specs.Marks.{reply_in}
-use Rattle.lz_tie.specs.OwnCalls.{told_with, told}
-use Rattle.lz_tie.proofs.Replies.CallSteps.{place_since}
 
 -- a call that goes on after a step had no reply before it
 unreplied : (shape : Shape) (e : Event) (o : Outcome) (at : Option (Command × Progress)) (call : Command × Progress) → placed shape (Played e o) at ≡ Some call → (reply_in at ≡ None) × ((was : Command × Progress) × (at ≡ Some was))

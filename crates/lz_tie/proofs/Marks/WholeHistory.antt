@@ -1,18 +1,13 @@
 -- The history that the lock's notes show is that of a run, and each of its calls was made by a pass of the board.
 use Rattle.std.proofs.Common.{◌≡◌, ◌⊎◌, inl, inr, ⊎_elim, ℕ, ◌≤◌, List, [], ◌∷◌, ◌++◌, length, refl, sym, ap, ◌∙◌, subst, Option, Some, None}
-use Rattle.lz_tie.proofs.Vocabulary.{Device, Medium, History, Reply, HaltLasts, IsTold, Start, State, Up, Service, Caller, Transition, Calls, Turn}
-use Rattle.lz_tie.proofs.Vocabulary.{Fails, run, IsRun, MayStep, first_point, caller_at, mark_of, mark_of_turn, Shape, Yard, What, Note, place}
-use Rattle.lz_tie.proofs.Vocabulary.{shape_of_sizes, steps_of, trace_of, BoardId}
-use Rattle.lz_machine.specs.declared.event.Reply.TheVariants.{Yes}
-use Rattle.lz_machine.proofs.Frames.OneActor.{caller_range}
-use Rattle.lz_machine.proofs.Theorem.LateCalls.{halts_last}
+use Rattle.lz_tie.proofs.Vocabulary.{Device, Medium, History, Reply, HaltLasts, IsTold, Start, State, Up, Service, Caller, Transition, Calls, Turn, Fails, run}
+use Rattle.lz_tie.proofs.Vocabulary.{IsRun, MayStep, first_point, caller_at, mark_of, mark_of_turn, Shape, Yard, What, Note, place, shape_of_sizes, steps_of}
+use Rattle.lz_tie.proofs.{Vocabulary.{trace_of, BoardId}, Reading.CallPlaces.{place_reads, run_before}, Marks.RunningSet.{locked_reached, locked_sizes}}
+use Rattle.lz_tie.specs.{NotedRuns.{TellsTurn, TellsFault, TellsStep, TellsOne, TellsOf, ReadsAs}, Holds.{IsLocked}}
+use Rattle.lz_tie.specs.Marks.{last_call_number, reply_in, marks_with, marks_in, AreOfPasses}
+use Rattle.lz_machine.{specs.declared.event.Reply.TheVariants.{Yes}, proofs.{Frames.OneActor.{caller_range}, Theorem.LateCalls.{halts_last}}}
 use Rattle.lz_machine.proofs.Theorem.Marks.{marks_tell}
 use Rattle.lz_board.specs.declared.view.What.TheVariants.{Called, Played, Found}
-use Rattle.lz_tie.specs.NotedRuns.{TellsTurn, TellsFault, TellsStep, TellsOne, TellsOf, ReadsAs}
-use Rattle.lz_tie.specs.Holds.{IsLocked}
-use Rattle.lz_tie.specs.Marks.{last_call_number, reply_in, marks_with, marks_in, AreOfPasses}
-use Rattle.lz_tie.proofs.Reading.CallPlaces.{place_reads, run_before}
-use Rattle.lz_tie.proofs.Marks.RunningSet.{locked_reached, locked_sizes}
 
 -- the note is by one of the passes
 abbrev pub InRange : ℕ → Note → Type 0

@@ -1,8 +1,6 @@
 -- Notes grow by one hold after the other.
 use Rattle.std.proofs.Common.{ℕ, List, [], ◌∷◌, ◌++◌, refl, sym, ap, ◌∙◌, append_assoc}
-use Rattle.lz_tie.proofs.Vocabulary.{Note, as_list, shape_of_sizes, trace_of, BoardId}
-use Rattle.lz_tie.specs.Marks.{marks_in, marks_with}
-use Rattle.lz_tie.specs.Moments.{ExplainsFrom, GrowsTo}
+use Rattle.lz_tie.{proofs.Vocabulary.{Note, as_list, shape_of_sizes, trace_of, BoardId}, specs.{Marks.{marks_in, marks_with}, Moments.{ExplainsFrom, GrowsTo}}}
 
 pub same_grows : (b : BoardId) (ns : List Note) → GrowsTo b ns ns
 same_grows b ns = record { new = []; shows = refl; trace = ([], refl) }

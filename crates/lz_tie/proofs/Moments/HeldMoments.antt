@@ -1,23 +1,15 @@
 -- One hold: what a crash might have left in it is left by the notes before it or by those after it.
 use Rattle.std.proofs.Common.{◌≡◌, ◌⊎◌, ◌≤◌, inl, inr, ⊎_elim, ℕ, List, [], ◌∷◌, ◌++◌, length, refl, sym, ap, ◌∙◌, subst, le_refl, IsTrue}
-use Rattle.lz_tie.proofs.Vocabulary.{IsImage, Device, IsTimely, LeavesEither, Event, Outcome, Shape, Yard, Told, Sizes, Load, Note, Part, as_list}
-use Rattle.lz_tie.proofs.Vocabulary.{splice, steps_of, shape_of_sizes, trace_of, found_note, noted, Pen, BoardId, IsPenOf, notes}
+use Rattle.lz_tie.proofs.Vocabulary.{IsImage, Device, IsTimely, LeavesEither, Event, Outcome, Shape, Yard, Told, Sizes, Load, Note, Part, as_list, splice}
+use Rattle.lz_tie.proofs.{Vocabulary.{steps_of, shape_of_sizes, trace_of, found_note, noted, Pen, BoardId, IsPenOf, notes}, Marks.GrownMarks.{marks_splice}}
+use Rattle.lz_tie.proofs.{Marks.RunningSet.{explained, history_of, locked_sizes}, Moments.GrownNotes.{grows_then, same_grows}}
+use Rattle.lz_tie.{proofs.Moments.{LeftBeginnings.{more_left, splice_left}, StayingReplies.{go_on_staying, stays_splice}}, specs.NotedRuns.{AreNext}}
+use Rattle.lz_tie.specs.{Holds.{IsLocked, InHold, MayTurn}, Lives.{faults_in}, RunningSets.{Explains}, Marks.{calls_in, marks_in, marks_with, last_call_number}}
+use Rattle.lz_tie.specs.Moments.{IsLeftBy, LeftSince, GrowsTo, MomentsGoOn, HoldExplains, ExplainsBegun, ExplainedSince, IsReply, RepliesStay, Stays}
 use Rattle.lz_disk.proofs.Moments.{leaves_then, leaves_more}
 use Rattle.lz_machine.specs.declared.event.Event.TheVariants.{Invoke}
-use Rattle.lz_yard.specs.Steps.{Played as PlayedOver}
-use Rattle.lz_yard.proofs.Events.KeptFit.{fault_or_not}
+use Rattle.lz_yard.{specs.Steps.{Played as PlayedOver}, proofs.Events.KeptFit.{fault_or_not}}
 use Rattle.lz_board.proofs.Upkeep.Splice.{trace_splice}
-use Rattle.lz_tie.specs.NotedRuns.{AreNext}
-use Rattle.lz_tie.specs.Holds.{IsLocked, InHold, MayTurn}
-use Rattle.lz_tie.specs.Lives.{faults_in}
-use Rattle.lz_tie.specs.RunningSets.{Explains}
-use Rattle.lz_tie.specs.Marks.{calls_in, marks_in, marks_with, last_call_number}
-use Rattle.lz_tie.specs.Moments.{IsLeftBy, LeftSince, GrowsTo, MomentsGoOn, HoldExplains, ExplainsBegun, ExplainedSince, IsReply, RepliesStay, Stays}
-use Rattle.lz_tie.proofs.Marks.GrownMarks.{marks_splice}
-use Rattle.lz_tie.proofs.Marks.RunningSet.{explained, history_of, locked_sizes}
-use Rattle.lz_tie.proofs.Moments.GrownNotes.{grows_then, same_grows}
-use Rattle.lz_tie.proofs.Moments.LeftBeginnings.{more_left, splice_left}
-use Rattle.lz_tie.proofs.Moments.StayingReplies.{go_on_staying, stays_splice}
 
 -- what may be left of the lock's disk is left by all its notes
 pub now_left : (b : BoardId) (ns : List Note) (y : Yard) (dev : Device) → IsLocked b ns y dev → IsTrue dev.honest → (t : List ℕ) → IsImage dev.medium t → IsLeftBy b.sizes b.opened ns t

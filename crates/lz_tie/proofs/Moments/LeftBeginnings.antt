@@ -1,12 +1,10 @@
 -- What some beginning of the notes might have left is left by a beginning of them too once more is noted, also where a pass's
 -- loads are put in.
 use Rattle.std.proofs.Common.{◌≡◌, ◌⊎◌, inl, inr, ⊎_elim, ℕ, ◌<◌, ◌≤◌, List, [], ◌∷◌, ◌++◌, length, refl, sym, ap, ◌∙◌, subst, arith}
-use Rattle.lz_tie.proofs.Vocabulary.{Medium, Trace, State, Up, Down, Service, Turn, run, first_point, SameBut, Sizes, Note, Load, trace_of, steps_of}
-use Rattle.lz_tie.proofs.Vocabulary.{load_note, insert_load, splice, Quiet, InOrder, Shown, AllShown, place, shape_of_sizes}
+use Rattle.lz_tie.proofs.Vocabulary.{Medium, Trace, State, Up, Down, Service, Turn, run, first_point, SameBut, Sizes, Note, Load, trace_of, steps_of, load_note}
+use Rattle.lz_tie.proofs.Vocabulary.{insert_load, splice, Quiet, InOrder, Shown, AllShown, place, shape_of_sizes}
+use Rattle.lz_tie.{proofs.Splicing.LoadInsertion.{shorter, insert_reads}, specs.{NotedRuns.{ReadsAs, AreNext, IsHopAt}, Moments.{IsLeftBy}}}
 use Rattle.lz_board.proofs.Upkeep.Splice.{at_place, other_step, least_load, trace_splice, steps_splice, quiet_splice}
-use Rattle.lz_tie.specs.NotedRuns.{ReadsAs, AreNext, IsHopAt}
-use Rattle.lz_tie.specs.Moments.{IsLeftBy}
-use Rattle.lz_tie.proofs.Splicing.LoadInsertion.{shorter, insert_reads}
 
 -- one more note
 pub more_left : (z : Sizes) (opened : Trace) (n : Note) (ns : List Note) (t : List ℕ) → IsLeftBy z opened ns t → IsLeftBy z opened (n ∷ ns) t

@@ -1,11 +1,8 @@
 -- A reply that a pass has among its own steps stays.
-use Rattle.std.proofs.Common.{◌≡◌, ◌≢◌, ⊎_elim, ℕ, List, [], ◌∷◌, ◌++◌, map, sym, ap, ◌∙◌, subst}
-use Rattle.std.proofs.lemmas.Bool.{cases_eq}
-use Rattle.lz_tie.proofs.Vocabulary.{Device, Note, shape_of_sizes, steps_of, BoardId}
+use Rattle.std.proofs.{Common.{◌≡◌, ◌≢◌, ⊎_elim, ℕ, List, [], ◌∷◌, ◌++◌, map, sym, ap, ◌∙◌, subst}, lemmas.Bool.{cases_eq}}
+use Rattle.lz_tie.proofs.{Vocabulary.{Device, Note, shape_of_sizes, steps_of, BoardId}, Marks.OwnCalls.{calls_own}}
+use Rattle.lz_tie.specs.{Moments.{IsReply, OwnRepliesStay, RepliesStay, Stays}, OwnCalls.{shown, told}}
 use Rattle.lz_board.proofs.Upkeep.Splice.{other_step, own_step}
-use Rattle.lz_tie.specs.Moments.{IsReply, OwnRepliesStay, RepliesStay, Stays}
-use Rattle.lz_tie.specs.OwnCalls.{shown, told}
-use Rattle.lz_tie.proofs.Marks.OwnCalls.{calls_own}
 
 head_same : (x y : Note) (xs ys : List Note) → x ∷ xs ≡ y ∷ ys → x ≡ y
 head_same x y xs ys is = cc

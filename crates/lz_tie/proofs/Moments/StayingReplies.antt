@@ -1,15 +1,10 @@
 -- A reply that was noted stays over each later hold.
 use Rattle.std.proofs.Common.{◌≡◌, ◌≤◌, ⊎_elim, ℕ, List, [], ◌∷◌, ◌++◌, length, refl, sym, ap, ◌∙◌, subst, append_assoc, arith, IsTrue}
-use Rattle.lz_tie.proofs.Vocabulary.{Device, IsTimely, IsImage, LeavesEither, Shape, Load, Note, What, as_list, steps_of, insert_load, splice, Quiet}
-use Rattle.lz_tie.proofs.Vocabulary.{InOrder, place, shape_of_sizes, stamp_of, trace_of, BoardId}
-use Rattle.lz_board.specs.declared.view.What.TheVariants.{Played}
-use Rattle.lz_board.proofs.Upkeep.Splice.{at_place, other_step, quiet_splice, steps_splice, trace_insert}
-use Rattle.lz_tie.specs.Marks.{marks_in}
-use Rattle.lz_tie.specs.NotedRuns.{AreNext, IsHopAt}
-use Rattle.lz_tie.specs.RunningSets.{HasHistory}
-use Rattle.lz_tie.specs.Moments.{ExplainsFrom, GrowsTo, IsReply, RepliesStay, Stays}
-use Rattle.lz_tie.proofs.Marks.GrownMarks.{marks_above, marks_insert}
-use Rattle.lz_tie.proofs.Moments.GrownNotes.{grows_on, grows_then, later_from, same_grows}
+use Rattle.lz_tie.proofs.Vocabulary.{Device, IsTimely, IsImage, LeavesEither, Shape, Load, Note, What, as_list, steps_of, insert_load, splice, Quiet, InOrder}
+use Rattle.lz_tie.proofs.{Vocabulary.{place, shape_of_sizes, stamp_of, trace_of, BoardId}, Marks.GrownMarks.{marks_above, marks_insert}}
+use Rattle.lz_tie.{proofs.Moments.GrownNotes.{grows_on, grows_then, later_from, same_grows}, specs.{Marks.{marks_in}, NotedRuns.{AreNext, IsHopAt}}}
+use Rattle.lz_tie.specs.{RunningSets.{HasHistory}, Moments.{ExplainsFrom, GrowsTo, IsReply, RepliesStay, Stays}}
+use Rattle.lz_board.{specs.declared.view.What.TheVariants.{Played}, proofs.Upkeep.Splice.{at_place, other_step, quiet_splice, steps_splice, trace_insert}}
 
 -- a reply is noted with the moment at which it is made
 pub stamp_now : (w : What) (m : ℕ) → IsReply w → stamp_of w m ≡ m

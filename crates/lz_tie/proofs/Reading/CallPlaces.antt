@@ -1,18 +1,14 @@
 -- The place of a call in a run is that which its pass's own notes give.
 use Rattle.std.proofs.Common.{◌≡◌, ◌≢◌, ⊎_elim, ℕ, zero, suc, ◌≤◌, List, [], ◌∷◌, ◌++◌, length, refl, sym, ap, ◌∙◌, subst, arith, replicate, Option, Some, None}
-use Rattle.std.proofs.lemmas.Bool.{cases_eq}
-use Rattle.std.proofs.lemmas.List.{length-replicate}
+use Rattle.std.proofs.lemmas.{Bool.{cases_eq}, List.{length-replicate}}
 use Rattle.lz_tie.proofs.Vocabulary.{Command, set_of_pass, Medium, Event, Outcome, Reply, Progress, Shape, Yard, actor_at, line, line_failed, course}
-use Rattle.lz_tie.proofs.Vocabulary.{progress_after, begun, Start, State, Up, Service, Caller, Transition, Calls, Turn, Fails, Looks, Point, run}
-use Rattle.lz_tie.proofs.Vocabulary.{IsRun, MayStep, first_point, caller_at, next_event, state_after, reply_at, moved_on, after_turn, after_fault}
-use Rattle.lz_tie.proofs.Vocabulary.{looked, invoked, What, Note, steps_of, place, placed, unless_replied}
-use Rattle.lz_slot.proofs.Counted.{of_pass_same, of_pass_other, length-set_of_pass}
-use Rattle.lz_machine.specs.declared.event.Outcome.TheVariants.{Fault}
-use Rattle.lz_machine.proofs.Runs.Shape.{line_keeps_shape}
-use Rattle.lz_machine.proofs.Frames.OneActor.{caller_range}
-use Rattle.lz_board.specs.declared.view.What.TheVariants.{Played, Found}
-use Rattle.lz_board.proofs.Upkeep.Splice.{own_step, other_step}
+use Rattle.lz_tie.proofs.Vocabulary.{progress_after, begun, Start, State, Up, Service, Caller, Transition, Calls, Turn, Fails, Looks, Point, run, IsRun}
+use Rattle.lz_tie.proofs.Vocabulary.{MayStep, first_point, caller_at, next_event, state_after, reply_at, moved_on, after_turn, after_fault, looked, invoked}
+use Rattle.lz_tie.proofs.Vocabulary.{What, Note, steps_of, place, placed, unless_replied}
 use Rattle.lz_tie.specs.NotedRuns.{TellsTurn, TellsFault, TellsStep, TellsOne, TellsOf, ReadsAs, viewed}
+use Rattle.lz_slot.proofs.Counted.{of_pass_same, of_pass_other, length-set_of_pass}
+use Rattle.lz_machine.{specs.declared.event.Outcome.TheVariants.{Fault}, proofs.{Runs.Shape.{line_keeps_shape}, Frames.OneActor.{caller_range}}}
+use Rattle.lz_board.{specs.declared.view.What.TheVariants.{Played, Found}, proofs.Upkeep.Splice.{own_step, other_step}}
 
 goes_viewed : (r : Option Reply) (caller : Caller) (at : Progress) → viewed (moved_on r caller at) ≡ unless_replied r caller.command at
 goes_viewed None caller at = refl

@@ -1,23 +1,15 @@
 -- In a set of one pass nothing is published but for it, and so it has seen the whole trace.
-use Rattle.std.proofs.Common.{◌≡◌, ◌⊎◌, inl, inr, ⊎_elim, ℕ, ◌≤◌, List, [], ◌∷◌, ◌++◌, length, length-append, refl, sym, ap, ◌∙◌, subst, arith, append_assoc, Option, Some, None}
-use Rattle.lz_tie.proofs.Vocabulary.{Medium, Device, Publishing, Trace, Stage, Actor, Course, Event, Shape, Yard, actor_at, cell_at, course}
-use Rattle.lz_tie.proofs.Vocabulary.{line_publishes, published_on, publishes, settling, Start, State, Up, Service, Caller, Transition, Calls, Turn}
-use Rattle.lz_tie.proofs.Vocabulary.{Fails, run, IsRun, first_point, caller_at, next_event, Sizes, What, Note, Part, Extends, as_list, trace_of}
-use Rattle.lz_tie.proofs.Vocabulary.{Quiet, Knows, BoardId}
+use Rattle.std.proofs.Common.{◌≡◌, ◌⊎◌, inl, inr, ⊎_elim, ℕ, ◌≤◌, List, [], ◌∷◌, ◌++◌, length, length-append, refl, sym, ap, ◌∙◌, subst, arith, append_assoc}
+use Rattle.std.proofs.Common.{Option, Some, None}
+use Rattle.lz_tie.proofs.Vocabulary.{Medium, Device, Publishing, Trace, Stage, Actor, Course, Event, Shape, Yard, actor_at, cell_at, course, line_publishes}
+use Rattle.lz_tie.proofs.Vocabulary.{published_on, publishes, settling, Start, State, Up, Service, Caller, Transition, Calls, Turn, Fails, run, IsRun}
+use Rattle.lz_tie.proofs.Vocabulary.{first_point, caller_at, next_event, Sizes, What, Note, Part, Extends, as_list, trace_of, Quiet, Knows, BoardId}
+use Rattle.lz_tie.{proofs.Reading.{CallPlaces.{place_reads, run_before}, OwnTraces.{own_append}}, specs.OnePass.{AreOwn, OnlyOwn}}
+use Rattle.lz_tie.specs.{NotedRuns.{TellsTurn, TellsFault, TellsStep, TellsOf, ReadsAs}, Holds.{IsLocked}}
 use Rattle.lz_vault.specs.declared.vault.Stage.TheVariants.{Closed, Open}
-use Rattle.lz_machine.specs.declared.course.Course.TheVariants.{Plays}
-use Rattle.lz_machine.specs.declared.event.Event.TheVariants.{Link, Mark, Settle, Unlink}
-use Rattle.lz_machine.specs.Runs.{shape_of as shape_in}
-use Rattle.lz_machine.proofs.Frames.OneActor.{caller_range}
-use Rattle.lz_machine.proofs.Runs.Shape.{run_keeps_shape}
-use Rattle.lz_board.specs.declared.view.What.TheVariants.{Found}
-use Rattle.lz_board.proofs.Upkeep.Growth.{extends_both, extends_trans}
-use Rattle.lz_board.proofs.Upkeep.Splice.{low_or_not, least_load}
-use Rattle.lz_tie.specs.OnePass.{AreOwn, OnlyOwn}
-use Rattle.lz_tie.specs.NotedRuns.{TellsTurn, TellsFault, TellsStep, TellsOf, ReadsAs}
-use Rattle.lz_tie.specs.Holds.{IsLocked}
-use Rattle.lz_tie.proofs.Reading.CallPlaces.{place_reads, run_before}
-use Rattle.lz_tie.proofs.Reading.OwnTraces.{own_append}
+use Rattle.lz_machine.specs.{declared.{course.Course.TheVariants.{Plays}, event.Event.TheVariants.{Link, Mark, Settle, Unlink}}, Runs.{shape_of as shape_in}}
+use Rattle.lz_machine.proofs.{Frames.OneActor.{caller_range}, Runs.Shape.{run_keeps_shape}}
+use Rattle.lz_board.{specs.declared.view.What.TheVariants.{Found}, proofs.Upkeep.{Growth.{extends_both, extends_trans}, Splice.{low_or_not, least_load}}}
 
 -- the note publishes nothing, or is by one of these passes and publishes for it
 abbrev IsByPass : ℕ → Note → Type 0

@@ -1,9 +1,8 @@
 -- What was published for one pass alone, and its parts.
-use Rattle.std.proofs.Common.{◌≡◌, ℕ, [], ◌∷◌, ◌++◌, sym, ap, ◌∙◌, subst, append_assoc}
-use Rattle.std.proofs.lemmas.List.{append_cancel_right}
-use Rattle.lz_list.specs.declared.publishing.Publishing.TheVariants.{Linked as linked, Marked as marked, Unlinked as unlinked, Settled as settled, KeyPrepared as key_prepared, LinkPrepared as link_prepared, Halted as halted}
-use Rattle.lz_tie.proofs.Vocabulary.{Trace, Extends}
-use Rattle.lz_tie.specs.OnePass.{AreOwn, OnlyOwn}
+use Rattle.std.proofs.{Common.{◌≡◌, ℕ, [], ◌∷◌, ◌++◌, sym, ap, ◌∙◌, subst, append_assoc}, lemmas.List.{append_cancel_right}}
+use Rattle.lz_list.specs.declared.publishing.Publishing.TheVariants.{Linked as linked, Marked as marked, Unlinked as unlinked, Settled as settled}
+use Rattle.lz_list.specs.declared.publishing.Publishing.TheVariants.{KeyPrepared as key_prepared, LinkPrepared as link_prepared, Halted as halted}
+use Rattle.lz_tie.{proofs.Vocabulary.{Trace, Extends}, specs.OnePass.{AreOwn, OnlyOwn}}
 
 pub own_append : (p : ℕ) (P Q : Trace) → AreOwn p P → AreOwn p Q → AreOwn p (P ++ Q)
 own_append p [] Q here there = there

@@ -1,25 +1,19 @@
 -- The pin words of a run are those that the notes give.
-use Rattle.std.proofs.Common.{◌≡◌, ◌≢◌, ◌⊎◌, inl, inr, ⊎_elim, ℕ, zero, suc, ◌+◌, ◌≤◌, ◌==◌, Bool, true, false, List, [], ◌∷◌, ◌++◌, length, refl, sym, ap, ◌∙◌, subst, arith, eq-eqb, ne_eqb, replicate, Option, Some, None, if◌then◌else◌, not, ◌||◌}
-use Rattle.std.proofs.lemmas.Bool.{cases_eq, not-true}
+use Rattle.std.proofs.Common.{◌≡◌, ◌≢◌, ◌⊎◌, inl, inr, ⊎_elim, ℕ, zero, suc, ◌+◌, ◌≤◌, ◌==◌, Bool, true, false, List, [], ◌∷◌, ◌++◌, length, refl, sym, ap, ◌∙◌}
+use Rattle.std.proofs.{Common.{subst, arith, eq-eqb, ne_eqb, replicate, Option, Some, None, if◌then◌else◌, not, ◌||◌}, lemmas.Bool.{cases_eq, not-true}}
 use mathlib.Core.Bool.{false≢true}
-use Rattle.lz_tie.proofs.Vocabulary.{of_pass, set_of_pass, Medium, is_outside, Words, get, set, Course, Actor, Event, Outcome, Shape, Yard, actor_at}
-use Rattle.lz_tie.proofs.Vocabulary.{course, line, line_on, words_after, pin_of, last_pin, is_sure, stays_out, needs, pin_answered, Start, IsStart}
-use Rattle.lz_tie.proofs.Vocabulary.{State, Up, Down, Service, Caller, Transition, Calls, Turn, Fails, Looks, Point, run, IsRun, MayStep, first_point}
-use Rattle.lz_tie.proofs.Vocabulary.{caller_at, next_event, state_after, after_turn, after_fault, looked, What, Note, pin_after_played}
-use Rattle.lz_tie.proofs.Vocabulary.{pin_after_what, pin_after}
+use Rattle.lz_tie.proofs.Vocabulary.{of_pass, set_of_pass, Medium, is_outside, Words, get, set, Course, Actor, Event, Outcome, Shape, Yard, actor_at, course}
+use Rattle.lz_tie.proofs.Vocabulary.{line, line_on, words_after, pin_of, last_pin, is_sure, stays_out, needs, pin_answered, Start, IsStart, State, Up, Down}
+use Rattle.lz_tie.proofs.Vocabulary.{Service, Caller, Transition, Calls, Turn, Fails, Looks, Point, run, IsRun, MayStep, first_point, caller_at, next_event}
+use Rattle.lz_tie.proofs.Vocabulary.{state_after, after_turn, after_fault, looked, What, Note, pin_after_played, pin_after_what, pin_after}
+use Rattle.lz_tie.{proofs.Reading.CallPlaces.{place_reads, run_before}, specs.NotedRuns.{TellsTurn, TellsFault, TellsStep, TellsOne, TellsOf, ReadsAs}}
 use Rattle.lz_slot.proofs.Counted.{of_pass_same, of_pass_other, length-set_of_pass}
 use Rattle.lz_list.specs.declared.word.Word.TheVariants.{Pin as pin_word}
-use Rattle.lz_machine.specs.declared.course.Course.TheVariants.{Refused, Plays}
-use Rattle.lz_machine.specs.declared.event.Event.TheVariants.{Invoke, Pin, Link, Settle, Unlink, Answer}
-use Rattle.lz_machine.specs.declared.event.Outcome.TheVariants.{Done, Worn, NotNow, Fault}
-use Rattle.lz_machine.proofs.Runs.Course.{answer_plays}
-use Rattle.lz_machine.proofs.Theorem.Reached.{reached_sound, up_at}
-use Rattle.lz_machine.proofs.Frames.OneActor.{caller_range}
-use Rattle.lz_machine.proofs.Frames.Outside.{out_even, answered_pin, answered_other, outside_even}
-use Rattle.lz_machine.proofs.Steps.Unlink.{redirect_pins}
+use Rattle.lz_machine.specs.declared.{course.Course.TheVariants.{Refused, Plays}, event.Event.TheVariants.{Invoke, Pin, Link, Settle, Unlink, Answer}}
+use Rattle.lz_machine.{specs.declared.event.Outcome.TheVariants.{Done, Worn, NotNow, Fault}, proofs.Runs.Course.{answer_plays}}
+use Rattle.lz_machine.proofs.{Theorem.Reached.{reached_sound, up_at}, Frames.OneActor.{caller_range}}
+use Rattle.lz_machine.proofs.{Frames.Outside.{out_even, answered_pin, answered_other, outside_even}, Steps.Unlink.{redirect_pins}}
 use Rattle.lz_board.specs.declared.view.What.TheVariants.{Played, Found}
-use Rattle.lz_tie.specs.NotedRuns.{TellsTurn, TellsFault, TellsStep, TellsOne, TellsOf, ReadsAs}
-use Rattle.lz_tie.proofs.Reading.CallPlaces.{place_reads, run_before}
 
 -- events that may change a pin word
 abbrev pub is_pinning : Event → Bool

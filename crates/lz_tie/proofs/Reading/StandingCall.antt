@@ -1,17 +1,11 @@
 -- What the open call of a pass that is inside may rely on, by the notes: with the trace at which the pass went in, and the
 -- trace as it is.
 use Rattle.std.proofs.Common.{◌≡◌, ℕ, ◌%◌, ◌≤◌, true, List, [], ◌∷◌, ◌++◌, map, length, refl, sym, ap, ◌∙◌, subst, Option, Some, None, is_some}
-use Rattle.lz_tie.proofs.Vocabulary.{Command, Medium, Trace, Progress, Shape, pin_of, CallerSound, view_of, own_change, Start, IsStart, Up, Service}
-use Rattle.lz_tie.proofs.Vocabulary.{Transition, run, IsRun, first_point, caller_at, Note, Load, trace_of, load_note, place, placed, pin_after}
-use Rattle.lz_tie.proofs.Vocabulary.{turned_at}
-use Rattle.lz_machine.specs.declared.event.Event.TheVariants.{Hop}
-use Rattle.lz_machine.specs.declared.event.Outcome.TheVariants.{Value}
-use Rattle.lz_machine.proofs.Theorem.TraceOutside.{calls_stand}
+use Rattle.lz_tie.proofs.Vocabulary.{Command, Medium, Trace, Progress, Shape, pin_of, CallerSound, view_of, own_change, Start, IsStart, Up, Service, Transition}
+use Rattle.lz_tie.proofs.Vocabulary.{run, IsRun, first_point, caller_at, Note, Load, trace_of, load_note, place, placed, pin_after, turned_at}
+use Rattle.lz_tie.{proofs.Reading.{TraceNotes.{trace_reads}, PinWords.{pin_in_state, pin_reads}, TurnedTrace.{turned_outside}}, specs.NotedRuns.{ReadsAs}}
+use Rattle.lz_machine.{specs.declared.event.{Event.TheVariants.{Hop}, Outcome.TheVariants.{Value}}, proofs.Theorem.TraceOutside.{calls_stand}}
 use Rattle.lz_board.specs.declared.view.What.TheVariants.{Played}
-use Rattle.lz_tie.specs.NotedRuns.{ReadsAs}
-use Rattle.lz_tie.proofs.Reading.TraceNotes.{trace_reads}
-use Rattle.lz_tie.proofs.Reading.PinWords.{pin_in_state, pin_reads}
-use Rattle.lz_tie.proofs.Reading.TurnedTrace.{turned_outside}
 
 -- a call that is open after some loads was open before them
 pub still_calling : (shape : Shape) (p : ℕ) (hs : List Load) (steps : List Note) → is_some (place shape (map (load_note p) hs ++ steps)) ≡ true → is_some (place shape steps) ≡ true

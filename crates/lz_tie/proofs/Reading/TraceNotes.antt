@@ -1,9 +1,9 @@
 -- What notes tell of the run that they are read as.
 use Rattle.std.proofs.Common.{◌≡◌, ℕ, zero, suc, List, [], ◌∷◌, ◌++◌, refl, sym, ap, ◌∙◌, replicate, Option, Some, None}
-use Rattle.lz_tie.proofs.Vocabulary.{Trace, State, Up, Down, Service, Caller, Transition, Calls, Turn, Fails, Looks, Point, run, caller_at}
-use Rattle.lz_tie.proofs.Vocabulary.{trace_after, turn_publishes, What, Note, as_list, trace_of}
-use Rattle.lz_board.specs.declared.view.What.TheVariants.{Found}
+use Rattle.lz_tie.proofs.Vocabulary.{Trace, State, Up, Down, Service, Caller, Transition, Calls, Turn, Fails, Looks, Point, run, caller_at, trace_after}
+use Rattle.lz_tie.proofs.Vocabulary.{turn_publishes, What, Note, as_list, trace_of}
 use Rattle.lz_tie.specs.NotedRuns.{TellsTurn, TellsFault, TellsStep, TellsOne, TellsOf, NoteTells, ReadsAs}
+use Rattle.lz_board.specs.declared.view.What.TheVariants.{Found}
 
 -- looks publish nothing
 pub looks_trace : (p : Point) (k q : ℕ) (before : List Transition) → (run p (replicate k (Looks q) ++ before)).trace ≡ (run p before).trace

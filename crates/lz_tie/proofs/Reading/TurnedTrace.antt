@@ -1,17 +1,12 @@
 -- The trace at which a pass of a run went in is that before the last change of its pin word in the notes.
-use Rattle.std.proofs.Common.{◌≡◌, ◌≢◌, ◌⊎◌, inl, inr, ⊎_elim, ℕ, zero, suc, ◌+◌, ◌%◌, ◌≤◌, ◌==◌, Bool, true, false, List, [], ◌∷◌, ◌++◌, refl, sym, ap, ◌∙◌, subst, arith, eq-eqb, ne_eqb, replicate, if◌then◌else◌}
-use Rattle.std.proofs.lemmas.Bool.{cases_eq}
-use Rattle.lz_tie.proofs.Vocabulary.{Medium, Trace, Event, Outcome, Start, IsStart, State, Up, Down, Service, Transition, Looks, Point, run, IsRun}
-use Rattle.lz_tie.proofs.Vocabulary.{first_point, is_out, trace_outside, What, Note, trace_of, pin_after_played, pin_after_what, pin_after, turned_at}
-use Rattle.lz_tie.proofs.Vocabulary.{IsStep}
-use Rattle.lz_machine.specs.declared.event.Event.TheVariants.{Pin, Answer}
-use Rattle.lz_machine.specs.declared.event.Outcome.TheVariants.{Done}
-use Rattle.lz_machine.proofs.Theorem.TraceOutside.{out_now}
+use Rattle.std.proofs.Common.{◌≡◌, ◌≢◌, ◌⊎◌, inl, inr, ⊎_elim, ℕ, zero, suc, ◌+◌, ◌%◌, ◌≤◌, ◌==◌, Bool, true, false, List, [], ◌∷◌, ◌++◌, refl, sym, ap, ◌∙◌}
+use Rattle.std.proofs.{Common.{subst, arith, eq-eqb, ne_eqb, replicate, if◌then◌else◌}, lemmas.Bool.{cases_eq}}
+use Rattle.lz_tie.proofs.Vocabulary.{Medium, Trace, Event, Outcome, Start, IsStart, State, Up, Down, Service, Transition, Looks, Point, run, IsRun, first_point}
+use Rattle.lz_tie.proofs.Vocabulary.{is_out, trace_outside, What, Note, trace_of, pin_after_played, pin_after_what, pin_after, turned_at, IsStep}
+use Rattle.lz_tie.proofs.Reading.{CallPlaces.{place_reads, run_before}, TraceNotes.{looks_trace, trace_reads}}
+use Rattle.lz_tie.{proofs.Reading.PinWords.{still_pin, pin_in_state, looks_pins, pin_reads}, specs.NotedRuns.{TellsOf, TellsOne, TellsLooks, ReadsAs}}
+use Rattle.lz_machine.{specs.declared.event.{Event.TheVariants.{Pin, Answer}, Outcome.TheVariants.{Done}}, proofs.Theorem.TraceOutside.{out_now}}
 use Rattle.lz_board.specs.declared.view.What.TheVariants.{Called, Played, Found}
-use Rattle.lz_tie.specs.NotedRuns.{TellsOf, TellsOne, TellsLooks, ReadsAs}
-use Rattle.lz_tie.proofs.Reading.CallPlaces.{place_reads, run_before}
-use Rattle.lz_tie.proofs.Reading.TraceNotes.{looks_trace, trace_reads}
-use Rattle.lz_tie.proofs.Reading.PinWords.{still_pin, pin_in_state, looks_pins, pin_reads}
 
 -- an event leaves its actor's pin word, or counts it up
 played_pin : (e : Event) (o : Outcome) (pin : ℕ) → (pin_after_played e o pin ≡ pin) ⊎ (pin_after_played e o pin ≡ suc pin)

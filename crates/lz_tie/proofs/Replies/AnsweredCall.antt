@@ -1,27 +1,19 @@
 -- What a pass has when its call has answered: its steps are that call, its reply keeps what the table promises, and the pass
 -- may make the next call.
-use Rattle.std.proofs.Common.{◌≡◌, ℕ, ◌%◌, ◌==◌, if◌then◌else◌, suc, true, false, List, [], ◌∷◌, ◌++◌, map, length, refl, sym, ap, ◌∙◌, subst, append_assoc, Option, Some, None, is_some}
-use Rattle.std.proofs.lemmas.List.Elements.{filter-append}
-use Rattle.lz_tie.proofs.Vocabulary.{Command, Format, HasMembers, Counts, Publishing, Trace, Begins, Lawful, member, Outcome, Reply, Shape, IsInside}
-use Rattle.lz_tie.proofs.Vocabulary.{is_old, last_pin, View, Relies, is_before_pin, side_of, own_change, Sizes, Note, Part, as_list, trace_of}
-use Rattle.lz_tie.proofs.Vocabulary.{note_by, stamped, load_note, own, is_for, splice, place, placed, shape_of_sizes, pin_after_what, Changes}
-use Rattle.lz_tie.proofs.Vocabulary.{BoardId}
+use Rattle.std.proofs.Common.{◌≡◌, ℕ, ◌%◌, ◌==◌, if◌then◌else◌, suc, true, false, List, [], ◌∷◌, ◌++◌, map, length, refl, sym, ap, ◌∙◌, subst, append_assoc}
+use Rattle.std.proofs.{Common.{Option, Some, None, is_some}, lemmas.List.Elements.{filter-append}}
+use Rattle.lz_tie.proofs.Vocabulary.{Command, Format, HasMembers, Counts, Publishing, Trace, Begins, Lawful, member, Outcome, Reply, Shape, IsInside, is_old}
+use Rattle.lz_tie.proofs.Vocabulary.{last_pin, View, Relies, is_before_pin, side_of, own_change, Sizes, Note, Part, as_list, trace_of, note_by, stamped}
+use Rattle.lz_tie.proofs.Vocabulary.{load_note, own, is_for, splice, place, placed, shape_of_sizes, pin_after_what, Changes, BoardId}
+use Rattle.lz_tie.proofs.{Reading.OwnTraces.{own_since}, Replies.CallSteps.{call_steps, one_call, steps_since, same_reserve}}
+use Rattle.lz_tie.proofs.Replies.LastTurn.{answer_done, answer_silent, answer_pin, stays_outside, goes_outside, worn_pin, their_view, answer_relies}
+use Rattle.lz_tie.{proofs.Replies.ReplyRows.{yes_since, no_since, added, removed}, specs.{OnePass.{OnlyOwn}, Answers.{Promises, WasFull, IsOneCall, Answers}}}
+use Rattle.lz_tie.specs.{Holds.{HoldNotes, Turned, IsIdle}, UnderWay.{UnderWay, OwnAt, FoundFull}}
 use Rattle.lz_slot.specs.declared.command.Command.TheVariants.{Add, Remove, Has}
 use Rattle.lz_list.proofs.Traces.WalkEnd.{begins_before}
-use Rattle.lz_machine.specs.declared.event.Event.TheVariants.{Answer}
-use Rattle.lz_machine.specs.declared.event.Outcome.TheVariants.{Done}
-use Rattle.lz_machine.specs.declared.event.Reply.TheVariants.{Yes, No, Full, Worn, OldFile, Halted, Device}
-use Rattle.lz_machine.specs.declared.caller.Progress.TheVariants.{Answering}
-use Rattle.lz_board.specs.declared.view.What.TheVariants.{Played}
-use Rattle.lz_board.proofs.Upkeep.Splice.{trace_splice}
-use Rattle.lz_tie.specs.OnePass.{OnlyOwn}
-use Rattle.lz_tie.proofs.Reading.OwnTraces.{own_since}
-use Rattle.lz_tie.specs.Answers.{Promises, WasFull, IsOneCall, Answers}
-use Rattle.lz_tie.specs.Holds.{HoldNotes, Turned, IsIdle}
-use Rattle.lz_tie.specs.UnderWay.{UnderWay, OwnAt, FoundFull}
-use Rattle.lz_tie.proofs.Replies.CallSteps.{call_steps, one_call, steps_since, same_reserve}
-use Rattle.lz_tie.proofs.Replies.LastTurn.{answer_done, answer_silent, answer_pin, stays_outside, goes_outside, worn_pin, their_view, answer_relies}
-use Rattle.lz_tie.proofs.Replies.ReplyRows.{yes_since, no_since, added, removed}
+use Rattle.lz_machine.specs.declared.event.{Event.TheVariants.{Answer}, Outcome.TheVariants.{Done}}
+use Rattle.lz_machine.specs.declared.{event.Reply.TheVariants.{Yes, No, Full, Worn, OldFile, Halted, Device}, caller.Progress.TheVariants.{Answering}}
+use Rattle.lz_board.{specs.declared.view.What.TheVariants.{Played}, proofs.Upkeep.Splice.{trace_splice}}
 
 -- what stands of a pass that is inside as it answers
 record Stands (v : View) (p : ℕ) (c : Command) (reply : Reply) (P P0 Q : Trace) : Type 0 where

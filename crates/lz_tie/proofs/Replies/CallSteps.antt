@@ -1,11 +1,9 @@
 -- The steps of a call, from its beginning to its Answer.
 use Rattle.std.proofs.Common.{◌≡◌, ℕ, List, [], ◌∷◌, ◌++◌, map, refl, sym, ap, ◌∙◌, append_assoc, Some, None}
 use Rattle.lz_tie.proofs.Vocabulary.{Command, Format, Reply, Shape, Note, Load, note_by, load_note, place, placed, stamped}
-use Rattle.lz_machine.specs.declared.event.Event.TheVariants.{Answer}
-use Rattle.lz_machine.specs.declared.event.Outcome.TheVariants.{Done}
-use Rattle.lz_machine.specs.declared.caller.Progress.TheVariants.{Answering}
-use Rattle.lz_board.specs.declared.view.What.TheVariants.{Called, Played}
 use Rattle.lz_tie.specs.Answers.{reserved_by, last_reserve, AreWithin, IsOneCall}
+use Rattle.lz_machine.specs.declared.{event.{Event.TheVariants.{Answer}, Outcome.TheVariants.{Done}}, caller.Progress.TheVariants.{Answering}}
+use Rattle.lz_board.specs.declared.view.What.TheVariants.{Called, Played}
 
 module _ (p : ℕ) (format : Format) (c : Command) where
   abbrev call_note : Note

@@ -1,20 +1,13 @@
 -- Where a key is linked the members are fewer than the slots: each has a node, in a slot that holds its key, and so has the new one.
-use Rattle.std.proofs.Common.{◌≡◌, inl, inr, ℕ, zero, suc, ◌<◌, ◌==◌, ◌&&◌, ◌||◌, not, if◌then◌else◌, Bool, true, false, List, [], ◌∷◌, ◌++◌, length, refl, sym, ◌∙◌, subst, arith, nat_eq, length-append}
-use Rattle.std.specs.List.{IsDistinct}
+use Rattle.std.proofs.Common.{◌≡◌, inl, inr, ℕ, zero, suc, ◌<◌, ◌==◌, ◌&&◌, ◌||◌, not, if◌then◌else◌, Bool, true, false, List, [], ◌∷◌, ◌++◌, length, refl, sym}
+use Rattle.std.proofs.{Common.{◌∙◌, subst, arith, nat_eq, length-append}, lemmas.Map.{Keys.{IsDistinct-push}, Made.{length-le_from_is_member}}}
+use Rattle.std.{proofs.lemmas.Bool.{cases_Bool, cases_eq, and_parts, not-true, or_cases, or_left, or_right, Decides.{nat_tests}}, specs.List.{IsDistinct}}
 use Rattle.std.specs.Cmp.{nat_eq_equiv}
-use Rattle.std.proofs.lemmas.Map.Keys.{IsDistinct-push}
-use Rattle.std.proofs.lemmas.Map.Made.{length-le_from_is_member}
-use Rattle.std.proofs.lemmas.Bool.{cases_Bool, cases_eq, and_parts, not-true, or_cases, or_left, or_right}
-use Rattle.std.proofs.lemmas.Bool.Decides.{nat_tests}
-use Rattle.lz_tie.proofs.Vocabulary.{Keys, Same, members, Trace, bucket_of, key_word, member, Lawful}
+use Rattle.lz_tie.{proofs.Vocabulary.{Keys, Same, members, Trace, bucket_of, key_word, member, Lawful}, specs.OneCaller.{keys_in, HasRoom}}
 use Rattle.lz_slot.proofs.Sets.{members_among}
-use Rattle.lz_list.specs.declared.publishing.Publishing.TheVariants.{Linked as linked}
-use Rattle.lz_list.proofs.Chains.TraceChain.{words_show_chain}
-use Rattle.lz_list.proofs.Traces.Absence.{unlinked_is_settled}
-use Rattle.lz_list.proofs.Traces.TraceWords.{node_of_key}
-use Rattle.lz_machine.proofs.Alone.Size.{members_append, none_distinct}
-use Rattle.lz_machine.proofs.Frames.Ranges.{on_range}
-use Rattle.lz_tie.specs.OneCaller.{keys_in, HasRoom}
+use Rattle.lz_list.{specs.declared.publishing.Publishing.TheVariants.{Linked as linked}, proofs.Chains.TraceChain.{words_show_chain}}
+use Rattle.lz_list.proofs.Traces.{Absence.{unlinked_is_settled}, TraceWords.{node_of_key}}
+use Rattle.lz_machine.proofs.{Alone.Size.{members_append, none_distinct}, Frames.Ranges.{on_range}}
 
 -- the keys that the first n slots hold
 abbrev slot_keys : Trace → ℕ → List ℕ

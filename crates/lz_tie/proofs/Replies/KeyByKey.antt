@@ -2,14 +2,12 @@
 use Rattle.std.proofs.Common.{◌≡◌, inl, inr, ℕ, ◌==◌, if◌then◌else◌, Bool, true, false, List, [], ◌∷◌, ◌++◌, map, refl, sym, ap, ◌∙◌, subst, eq-eqb, true≢false}
 use Rattle.std.proofs.lemmas.Bool.Decides.{eqb_tells}
 use Rattle.lz_tie.proofs.Vocabulary.{Command, Format, Keys, Same, after, key_of, moved, replies, reply, set_after, Trace, member, Reply}
-use Rattle.lz_slot.specs.declared.command.Command.TheVariants.{Add}
-use Rattle.lz_slot.proofs.Sets.{after_at, after_same, moved_other}
+use Rattle.lz_tie.{proofs.{Replies.OneKey.{one_key}, Sessions.PlainRows.{after_told}}, specs.KeyByKey.{AreFor, Untouched, KeyRow, IsKeyAnswer, ServedKey}}
+use Rattle.lz_tie.specs.KeyByKey.{about, SameBut, PlainCalls, OwnKeysArePlain, answered_by, answered_in, PlainCallsAreReplies}
+use Rattle.lz_tie.specs.Sessions.{AnsweredCalls, cuts_off, NoneCut}
+use Rattle.lz_slot.{specs.declared.command.Command.TheVariants.{Add}, proofs.Sets.{after_at, after_same, moved_other}}
 use Rattle.lz_list.specs.declared.publishing.Publishing.TheVariants.{Linked as linked, Marked as marked}
 use Rattle.lz_machine.specs.declared.event.Reply.TheVariants.{Yes, No, Full, Worn, OldFile, Halted, Device}
-use Rattle.lz_tie.specs.KeyByKey.{AreFor, Untouched, KeyRow, IsKeyAnswer, ServedKey, about, SameBut, PlainCalls, OwnKeysArePlain, answered_by, answered_in, PlainCallsAreReplies}
-use Rattle.lz_tie.specs.Sessions.{AnsweredCalls, cuts_off, NoneCut}
-use Rattle.lz_tie.proofs.Replies.OneKey.{one_key}
-use Rattle.lz_tie.proofs.Sessions.PlainRows.{after_told}
 
 pub leaves : (k : ℕ) (since P : Trace) → AreFor (λ q. ⊥) k since → member k (since ++ P) ≡ member k P
 leaves k [] P none = refl

@@ -1,10 +1,8 @@
 -- The changes of a key in a trace: whose they are, and where they stand.
 use Rattle.std.proofs.Common.{◌≡◌, ◌⊎◌, inl, inr, ℕ, suc, [], ◌∷◌, ◌++◌, length, refl, sym, subst, arith}
-use Rattle.lz_tie.proofs.Vocabulary.{Publishing, Trace, Begins}
+use Rattle.lz_tie.{proofs.Vocabulary.{Publishing, Trace, Begins}, specs.{KeyByKey.{AreFor, ChangedFor}, LoneClient.{IsChange}}}
 use Rattle.lz_list.specs.declared.publishing.Publishing.TheVariants.{Linked as linked, Marked as marked}
 use Rattle.lz_board.proofs.Upkeep.Growth.{begins_extends, extends_of, extends_length}
-use Rattle.lz_tie.specs.KeyByKey.{AreFor, ChangedFor}
-use Rattle.lz_tie.specs.LoneClient.{IsChange}
 
 module _ (Such : ℕ → Type 0) (k : ℕ) where
   newest_for : (e : Publishing) (P : Trace) (q : ℕ) → AreFor Such k (e ∷ P) → IsChange k q e → Such q

@@ -1,20 +1,13 @@
 -- The turn of an Answer: it is done, publishes nothing, and leaves the pass outside.
 use Rattle.std.proofs.Common.{◌≡◌, ◌≢◌, ℕ, suc, ◌%◌, ◌==◌, if◌then◌else◌, List, [], length, refl, sym, ap, ◌∙◌, subst, arith, eq-eqb, Option, Some, None}
 use Rattle.std.proofs.lemmas.Bool.Decides.{nat_tests}
-use Rattle.lz_tie.proofs.Vocabulary.{Command, NoCall, Publishing, Trace, Course, Outcome, Reply, Progress, Yard, actor_at, IsInside, course, line}
-use Rattle.lz_tie.proofs.Vocabulary.{call_on, published_on, last_pin, reply_at, HasTurn, Relies, View, view_of, own_change, Note, Part}
-use Rattle.lz_tie.proofs.Vocabulary.{trace_of, pin_after_what, pin_after_played}
-use Rattle.lz_machine.specs.declared.course.Course.TheVariants.{Refused}
-use Rattle.lz_machine.specs.declared.event.Event.TheVariants.{Answer}
-use Rattle.lz_machine.specs.declared.event.Outcome.TheVariants.{Done, NotNow, Fault}
-use Rattle.lz_machine.specs.declared.event.Reply.TheVariants.{Worn}
-use Rattle.lz_machine.specs.declared.caller.Progress.TheVariants.{Answering}
-use Rattle.lz_machine.proofs.Runs.Course.{answer_plays}
-use Rattle.lz_machine.proofs.Alone.Halt.{refusals_are_right}
-use Rattle.lz_machine.proofs.Theorem.Timeliness.{never_late}
+use Rattle.lz_tie.proofs.Vocabulary.{Command, NoCall, Publishing, Trace, Course, Outcome, Reply, Progress, Yard, actor_at, IsInside, course, line, call_on}
+use Rattle.lz_tie.proofs.Vocabulary.{published_on, last_pin, reply_at, HasTurn, Relies, View, view_of, own_change, Note, Part, trace_of, pin_after_what}
+use Rattle.lz_tie.{proofs.{Vocabulary.{pin_after_played}, Hold.NoteCondition.{listed_none}}, specs.Holds.{Turned}}
+use Rattle.lz_machine.specs.declared.{course.Course.TheVariants.{Refused}, event.{Event.TheVariants.{Answer}, Outcome.TheVariants.{Done, NotNow, Fault}}}
+use Rattle.lz_machine.{specs.declared.{event.Reply.TheVariants.{Worn}, caller.Progress.TheVariants.{Answering}}, proofs.Runs.Course.{answer_plays}}
+use Rattle.lz_machine.proofs.{Alone.Halt.{refusals_are_right}, Theorem.Timeliness.{never_late}}
 use Rattle.lz_board.specs.declared.view.What.TheVariants.{Played}
-use Rattle.lz_tie.specs.Holds.{Turned}
-use Rattle.lz_tie.proofs.Hold.NoteCondition.{listed_none}
 
 done_in_time : (y : Yard) (a : ℕ) → (line y a Answer).1 ≢ NotNow → (line y a Answer).1 ≡ Done
 done_in_time y a now = grind (arith, answer_plays)

@@ -1,18 +1,15 @@
 -- Where all calls that name a key were made one after the other, nobody else changed it meanwhile.
 use Rattle.std.proofs.Common.{◌≡◌, inl, inr, ℕ, ◌==◌, if◌then◌else◌, Bool, true, false, List, [], ◌∷◌, filter, refl, sym, ap, subst, eqb-true}
 use Rattle.std.proofs.lemmas.Bool.Decides.{eqb_tells}
-use Rattle.lz_tie.proofs.Vocabulary.{Command, Format, key_of, Publishing, Trace, Begins, Since, own}
+use Rattle.lz_tie.proofs.{Vocabulary.{Command, Format, key_of, Publishing, Trace, Begins, Since, own}, Replies.KeyByKey.{own_keys}}
+use Rattle.lz_tie.proofs.Replies.{KeyChanges.{no_sooner, sooner, each_since, changed_for}, SeenMore.{own_of_call, seen_more}}
+use Rattle.lz_tie.specs.{Answers.{Answers, MayHaveChanged}, KeyByKey.{AreFor, ChangedFor, ServedKey, about}, LoneClient.{MadeCall, AreMade, made_by, naming}}
+use Rattle.lz_tie.specs.LoneClient.{told_in, PublishedIn, InTurn, IsChange, IsInCall, SomeCall, ChangedIn, TurnsServeKey, InTurnServesKey, LoneClientIsPlain}
+use Rattle.lz_tie.specs.Sessions.{AnsweredCalls}
 use Rattle.lz_slot.specs.declared.command.Command.TheVariants.{Add, Remove, Has}
 use Rattle.lz_list.specs.declared.publishing.Publishing.TheVariants.{Linked as linked, Marked as marked, Unlinked as unlinked}
 use Rattle.lz_list.proofs.Traces.WalkEnd.{begins_before}
 use Rattle.lz_board.proofs.Upkeep.Growth.{begins_of}
-use Rattle.lz_tie.specs.Answers.{Answers, MayHaveChanged}
-use Rattle.lz_tie.specs.KeyByKey.{AreFor, ChangedFor, ServedKey, about}
-use Rattle.lz_tie.specs.LoneClient.{MadeCall, AreMade, made_by, naming, told_in, PublishedIn, InTurn, IsChange, IsInCall, SomeCall, ChangedIn, TurnsServeKey, InTurnServesKey, LoneClientIsPlain}
-use Rattle.lz_tie.specs.Sessions.{AnsweredCalls}
-use Rattle.lz_tie.proofs.Replies.KeyByKey.{own_keys}
-use Rattle.lz_tie.proofs.Replies.KeyChanges.{no_sooner, sooner, each_since, changed_for}
-use Rattle.lz_tie.proofs.Replies.SeenMore.{own_of_call, seen_more}
 
 -- a pass that has published nothing of key k since has not changed it
 not_own : (p k : ℕ) (since : Trace) → AreFor (λ q. ⊥) k (own p since) → AreFor (λ q. ¬ (q ≡ p)) k since

@@ -1,16 +1,12 @@
 -- An answer tells of an old file exactly where the file can't hold the key of an adding.
 use Rattle.std.proofs.Common.{◌≡◌, ◌⊎◌, ⊎_elim, inl, inr, ℕ, if◌then◌else◌, Bool, true, false, List, [], ◌∷◌, ◌++◌, sym, ap, ◌∙◌, Option, Some, None}
+use Rattle.std.{proofs.lemmas.Option.{none-some}, specs.Cmp.{both_ways}}
 use mathlib.Core.Bool.{false≢true}
-use Rattle.std.specs.Cmp.{both_ways}
-use Rattle.std.proofs.lemmas.Option.{none-some}
 use Rattle.lz_tie.proofs.Vocabulary.{Command, Format, Trace, Reply, Progress, first_progress, is_old, Shape, What, Note, Part, note_by, place, placed}
-use Rattle.lz_tie.proofs.Vocabulary.{shape_of_sizes}
+use Rattle.lz_tie.{proofs.Vocabulary.{shape_of_sizes}, specs.{Answers.{Promises, IsWithin, AreWithin, IsOneCall, Answers}, OneCaller.{tells_old}}}
 use Rattle.lz_slot.specs.declared.command.Command.TheVariants.{Add, Remove, Has}
-use Rattle.lz_machine.specs.declared.event.Reply.TheVariants.{OldFile}
-use Rattle.lz_machine.specs.declared.caller.Progress.TheVariants.{Answering}
+use Rattle.lz_machine.specs.declared.{event.Reply.TheVariants.{OldFile}, caller.Progress.TheVariants.{Answering}}
 use Rattle.lz_board.specs.declared.view.What.TheVariants.{Called, Played}
-use Rattle.lz_tie.specs.Answers.{Promises, IsWithin, AreWithin, IsOneCall, Answers}
-use Rattle.lz_tie.specs.OneCaller.{tells_old}
 
 -- the answer of a call whose file can't hold its key comes first, and no other does
 abbrev tells_at : Option (Command × Progress) → Bool

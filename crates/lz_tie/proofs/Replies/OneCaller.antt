@@ -1,19 +1,13 @@
 -- In a set of one pass each answer is that of the plain set: it is that of its key, and no other key was changed.
 use Rattle.std.proofs.Common.{◌≡◌, inl, inr, ℕ, List, [], ◌∷◌, sym, ◌∙◌}
-use Rattle.lz_tie.proofs.Vocabulary.{Command, Format, Keys, key_of, Trace, Lawful, Reply, Shape, Note, shape_of_sizes, Changes}
+use Rattle.lz_tie.proofs.{Vocabulary.{Command, Format, Keys, key_of, Trace, Lawful, Reply, Shape, Note, shape_of_sizes, Changes}, Replies.FreeSlot.{room}}
+use Rattle.lz_tie.proofs.Replies.{OneKey.{changed_of, before_linking, one_key}, KeyByKey.{leaves, unmoved, whole}, LoneClient.{no_other_key}}
+use Rattle.lz_tie.{proofs.Replies.SeenMore.{own_of_call}, specs.{OnePass.{AreOwn, OnlyOwn}, Answers.{Added, MayHaveChanged, Promises}}}
+use Rattle.lz_tie.specs.{OneCaller.{keys_in, HasRoom, PlainRow, OneCallerIsPlain}, KeyByKey.{AreFor, OnlyOwnOf, KeyRow, SameBut}}
 use Rattle.lz_slot.specs.declared.command.Command.TheVariants.{Add}
 use Rattle.lz_list.specs.declared.publishing.Publishing.TheVariants.{Linked as linked, Marked as marked, Unlinked as unlinked}
 use Rattle.lz_list.proofs.Traces.Hindsight.{lawful_begins}
 use Rattle.lz_machine.specs.declared.event.Reply.TheVariants.{Yes, Full, Worn, OldFile, Halted, Device}
-use Rattle.lz_tie.specs.OnePass.{AreOwn, OnlyOwn}
-use Rattle.lz_tie.specs.Answers.{Added, MayHaveChanged, Promises}
-use Rattle.lz_tie.specs.OneCaller.{keys_in, HasRoom, PlainRow, OneCallerIsPlain}
-use Rattle.lz_tie.specs.KeyByKey.{AreFor, OnlyOwnOf, KeyRow, SameBut}
-use Rattle.lz_tie.proofs.Replies.FreeSlot.{room}
-use Rattle.lz_tie.proofs.Replies.OneKey.{changed_of, before_linking, one_key}
-use Rattle.lz_tie.proofs.Replies.KeyByKey.{leaves, unmoved, whole}
-use Rattle.lz_tie.proofs.Replies.LoneClient.{no_other_key}
-use Rattle.lz_tie.proofs.Replies.SeenMore.{own_of_call}
 
 -- what was changed for the pass alone was so of each key
 own_of : (p k : ℕ) (P : Trace) → AreOwn p P → AreFor (λ q. q ≡ p) k P

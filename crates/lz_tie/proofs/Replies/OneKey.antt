@@ -1,20 +1,15 @@
 -- In a set of several passes each answer is that of a plain set of its key, where no other pass changed the key meanwhile.
-use Rattle.std.proofs.Common.{◌≡◌, ◌⊎◌, inl, inr, ℕ, ◌==◌, not, if◌then◌else◌, Bool, true, false, List, [], ◌∷◌, ◌++◌, refl, sym, ap, ◌∙◌, subst, append_assoc, eq-eqb}
-use Rattle.std.proofs.lemmas.Bool.Decides.{eqb_tells}
-use Rattle.std.proofs.lemmas.List.{append_cancel_right}
-use Rattle.std.proofs.lemmas.List.Elements.{filter-append}
-use Rattle.lz_tie.proofs.Vocabulary.{Command, Format, key_of, moved, Publishing, Trace, Begins, Lawful, member, Reply, Shape, Note, own, is_for}
-use Rattle.lz_tie.proofs.Vocabulary.{shape_of_sizes, Changes, Between, Rests}
+use Rattle.std.proofs.Common.{◌≡◌, ◌⊎◌, inl, inr, ℕ, ◌==◌, not, if◌then◌else◌, Bool, true, false, List, [], ◌∷◌, ◌++◌, refl, sym, ap, ◌∙◌, subst, append_assoc}
+use Rattle.std.proofs.{Common.{eq-eqb}, lemmas.{Bool.Decides.{eqb_tells}, List.{append_cancel_right, Elements.{filter-append}}}}
+use Rattle.lz_tie.proofs.Vocabulary.{Command, Format, key_of, moved, Publishing, Trace, Begins, Lawful, member, Reply, Shape, Note, own, is_for, shape_of_sizes}
+use Rattle.lz_tie.proofs.{Vocabulary.{Changes, Between, Rests}, Calls.OwnChanges.{own_linked, own_marked}, Replies.KeyChanges.{oldest_for}}
+use Rattle.lz_tie.{proofs.Replies.OldFiles.{old_is_told}, specs.Answers.{Added, Removed, WasCut, MayHaveChanged, Promises}}
+use Rattle.lz_tie.specs.KeyByKey.{AreFor, OnlyOwnOf, KeyRow, OneKeyIsPlain}
 use Rattle.lz_slot.specs.declared.command.Command.TheVariants.{Add, Remove, Has}
 use Rattle.lz_list.specs.declared.publishing.Publishing.TheVariants.{Linked as linked, Marked as marked, Unlinked as unlinked}
 use Rattle.lz_list.proofs.Traces.Hindsight.{lawful_begins}
 use Rattle.lz_machine.specs.declared.event.Reply.TheVariants.{Yes, No, Full, Worn, OldFile, Halted, Device}
 use Rattle.lz_board.proofs.Upkeep.Growth.{extends_of}
-use Rattle.lz_tie.specs.Answers.{Added, Removed, WasCut, MayHaveChanged, Promises}
-use Rattle.lz_tie.specs.KeyByKey.{AreFor, OnlyOwnOf, KeyRow, OneKeyIsPlain}
-use Rattle.lz_tie.proofs.Calls.OwnChanges.{own_linked, own_marked}
-use Rattle.lz_tie.proofs.Replies.KeyChanges.{oldest_for}
-use Rattle.lz_tie.proofs.Replies.OldFiles.{old_is_told}
 
 -- changes of other keys say nothing of k
 other_linked : (k j s q : ℕ) (b : Bool) (l P : Trace) → (j == k) ≡ false → member k ((if b then linked j s q ∷ l else l) ++ P) ≡ member k (l ++ P)

@@ -1,18 +1,14 @@
 -- What a reply promises, row by row, from what its call may rely on since the pass went in: P is what the pass had seen before
 -- the call, P0 the trace at which it went in, Q the trace now.
-use Rattle.std.proofs.Common.{◌≡◌, ⊎_elim, inl, inr, ℕ, suc, true, false, ◌∷◌, length, sym, ap, ◌∙◌, subst, arith, ◌⊎◌}
+use Rattle.std.proofs.{Common.{◌≡◌, ⊎_elim, inl, inr, ℕ, suc, true, false, ◌∷◌, length, sym, ap, ◌∙◌, subst, arith, ◌⊎◌}, lemmas.Bool.Decides.{nat_tests}}
 use mathlib.Core.Bool.{false≢true}
-use Rattle.std.proofs.lemmas.Bool.Decides.{nat_tests}
-use Rattle.lz_tie.proofs.Vocabulary.{Publishing, Trace, Begins, Lawful, member, linking, linking_in, is_settled, is_removed, SettledYes, SettledNo}
-use Rattle.lz_tie.proofs.Vocabulary.{upto, RestsYes, RestsNo, IsSettledChange, own_change, Changes, Rests}
-use Rattle.lz_list.specs.declared.publishing.Publishing.TheVariants.{Linked as linked, Marked as marked, Unlinked as unlinked}
-use Rattle.lz_list.proofs.Traces.Hindsight.{lawful_begins}
-use Rattle.lz_list.proofs.Traces.WalkEnd.{begins_before}
-use Rattle.lz_list.proofs.Traces.NodeBits.{node}
-use Rattle.lz_machine.proofs.Ledger.Reply.{upto_is}
-use Rattle.lz_tie.specs.Answers.{Added, Removed}
+use Rattle.lz_tie.proofs.Vocabulary.{Publishing, Trace, Begins, Lawful, member, linking, linking_in, is_settled, is_removed, SettledYes, SettledNo, upto}
+use Rattle.lz_tie.proofs.Vocabulary.{RestsYes, RestsNo, IsSettledChange, own_change, Changes, Rests}
+use Rattle.lz_tie.{proofs.Replies.OwnChange.{OwnChange, own_stands, one_is, two_are, IsChangeOf}, specs.Answers.{Added, Removed}}
 use Rattle.lz_tie.specs.UnderWay.{HasLinked, HasUnlinked}
-use Rattle.lz_tie.proofs.Replies.OwnChange.{OwnChange, own_stands, one_is, two_are, IsChangeOf}
+use Rattle.lz_list.specs.declared.publishing.Publishing.TheVariants.{Linked as linked, Marked as marked, Unlinked as unlinked}
+use Rattle.lz_list.proofs.Traces.{Hindsight.{lawful_begins}, WalkEnd.{begins_before}, NodeBits.{node}}
+use Rattle.lz_machine.proofs.Ledger.Reply.{upto_is}
 
 -- what was settled since the pass went in was so since the call was made
 pub yes_since : (k : ℕ) (P P0 Q : Trace) → Begins P P0 → RestsYes k P0 Q → Rests k true P Q

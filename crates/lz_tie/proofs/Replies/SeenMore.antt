@@ -1,11 +1,10 @@
 -- What a pass has seen after a call goes on from what it had seen, with the own changes of its command.
 use Rattle.std.proofs.Common.{ℕ, inr, List, [], ◌∷◌, refl}
-use Rattle.lz_tie.proofs.Vocabulary.{Command, Format, Trace, Reply, Shape, Note, Part, Changes, Extends}
+use Rattle.lz_tie.proofs.{Vocabulary.{Command, Format, Trace, Reply, Shape, Note, Part, Changes, Extends}, Calls.OwnChanges.{none_cut}}
+use Rattle.lz_tie.specs.Answers.{Answers, MayHaveChanged, Promises}
 use Rattle.lz_slot.specs.declared.command.Command.TheVariants.{Add, Remove, Has}
 use Rattle.lz_list.specs.declared.publishing.Publishing.TheVariants.{Linked as linked, Marked as marked, Unlinked as unlinked}
 use Rattle.lz_machine.specs.declared.event.Reply.TheVariants.{Yes, Full, Halted, Device}
-use Rattle.lz_tie.specs.Answers.{Answers, MayHaveChanged, Promises}
-use Rattle.lz_tie.proofs.Calls.OwnChanges.{none_cut}
 
 -- the own changes of a call, those of a yes or some first ones of them
 pub record OwnOf (p : ℕ) (c : Command) (P Q : Trace) : Type 0 where

@@ -1,21 +1,18 @@
 -- What the notes show of slots and hands stays right through each event.
-use Rattle.std.proofs.Common.{◌≡◌, ◌≢◌, ◌⊎◌, inl, inr, ⊎_elim, ℕ, zero, suc, ◌≤◌, Bool, true, false, List, [], ◌∷◌, ◌++◌, refl, sym, ap, ◌∙◌, subst, if◌then◌else◌, replicate, slice_set, slice_index_or, Option, Some, None, is_some}
+use Rattle.std.proofs.Common.{◌≡◌, ◌≢◌, ◌⊎◌, inl, inr, ⊎_elim, ℕ, zero, suc, ◌≤◌, Bool, true, false, List, [], ◌∷◌, ◌++◌, refl, sym, ap, ◌∙◌, subst}
+use Rattle.std.proofs.{Common.{if◌then◌else◌, replicate, slice_set, slice_index_or, Option, Some, None, is_some}, lemmas.List.Quantifiers.{position-Some}}
 use mathlib.Core.Bool.{false≢true}
-use Rattle.std.proofs.lemmas.List.Quantifiers.{position-Some}
-use Rattle.lz_tie.proofs.Vocabulary.{of_pass, set_of_pass, Sight, Use, Free, Taken, Limbo, use_of, is_free, collect_at, collect, lowest_free}
-use Rattle.lz_tie.proofs.Vocabulary.{give_back, see_pin_at, see_pin, check, is_pair_free, Trace, IsLoose, Actor, Event, Yard, actor_at, cell_at}
-use Rattle.lz_tie.proofs.Vocabulary.{idle_actor, line_publishes, publishes, uses_after, actors_after, given_back, kept_slot, is_unused, is_old}
-use Rattle.lz_tie.proofs.Vocabulary.{node_of, set_actor, with_hold, with_slot, released, reserved, pin_of, pin_answered, Sizes, Note, Load, as_list}
-use Rattle.lz_tie.proofs.Vocabulary.{trace_of, splice, pin_after, Sighting, AllLeft}
+use Rattle.lz_tie.proofs.Vocabulary.{of_pass, set_of_pass, Sight, Use, Free, Taken, Limbo, use_of, is_free, collect_at, collect, lowest_free, give_back}
+use Rattle.lz_tie.proofs.Vocabulary.{see_pin_at, see_pin, check, is_pair_free, Trace, IsLoose, Actor, Event, Yard, actor_at, cell_at, idle_actor}
+use Rattle.lz_tie.proofs.Vocabulary.{line_publishes, publishes, uses_after, actors_after, given_back, kept_slot, is_unused, is_old, node_of, set_actor}
+use Rattle.lz_tie.proofs.Vocabulary.{with_hold, with_slot, released, reserved, pin_of, pin_answered, Sizes, Note, Load, as_list, trace_of, splice, pin_after}
+use Rattle.lz_tie.proofs.{Vocabulary.{Sighting, AllLeft}, Reuse.SightUpkeep.{silent_stays, loose_stays, all_left_more, use_more}}
+use Rattle.lz_tie.{proofs.{Reuse.UseUpkeep.{set_use, collect_told, retire_told, see_told}, Hold.OneWord.{line_silent}}, specs.Reuse.{UseTold, ReuseTold}}
 use Rattle.lz_allot.specs.declared.sight.Sight.TheVariants.{Unseen}
 use Rattle.lz_machine.specs.declared.actor.Hold.TheVariants.{Nothing, Locks, Checked, GateOpened, Linked, GateClosed, Marked, Unlinked}
-use Rattle.lz_machine.specs.declared.event.Event.TheVariants.{Invoke, Reserve, Claim, Check, WriteOpen, Link, WriteClose, Mark, Release, Unlink, Retire, SeePin, Answer}
-use Rattle.lz_machine.proofs.Frames.Uses.{use_map}
+use Rattle.lz_machine.specs.declared.event.Event.TheVariants.{Invoke, Reserve, Claim, Check, WriteOpen, Link, WriteClose, Mark, Release, Unlink, Retire, SeePin}
+use Rattle.lz_machine.{specs.declared.event.Event.TheVariants.{Answer}, proofs.Frames.Uses.{use_map}}
 use Rattle.lz_board.proofs.Upkeep.Splice.{trace_splice}
-use Rattle.lz_tie.specs.Reuse.{UseTold, ReuseTold}
-use Rattle.lz_tie.proofs.Reuse.SightUpkeep.{silent_stays, loose_stays, all_left_more, use_more}
-use Rattle.lz_tie.proofs.Hold.OneWord.{line_silent}
-use Rattle.lz_tie.proofs.Reuse.UseUpkeep.{set_use, collect_told, retire_told, see_told}
 
 -- events that change what slots are used for
 abbrev pub is_reusing : Event → Bool

@@ -1,10 +1,10 @@
 -- What the notes show of pin words stays shown, and a slot that passes have left stays left while it stands on no chain.
 use Rattle.std.proofs.Common.{◌≡◌, inl, inr, ⊎_elim, ℕ, ◌%◌, ◌≤◌, true, List, [], ◌∷◌, ◌++◌, length, refl, sym, ap, ◌∙◌, subst, true≢false, Option, Some, None}
-use Rattle.lz_tie.proofs.Vocabulary.{of_pass, Use, Free, Taken, Limbo, Sight, Publishing, Trace, IsLoose, IsAway, Sizes, Note, Load, as_list}
-use Rattle.lz_tie.proofs.Vocabulary.{trace_of, load_note, insert_load, splice, pin_after, pin_after_what, shows, Sighting, HasLeft, AllLeft}
+use Rattle.lz_tie.proofs.Vocabulary.{of_pass, Use, Free, Taken, Limbo, Sight, Publishing, Trace, IsLoose, IsAway, Sizes, Note, Load, as_list, trace_of}
+use Rattle.lz_tie.proofs.Vocabulary.{load_note, insert_load, splice, pin_after, pin_after_what, shows, Sighting, HasLeft, AllLeft}
+use Rattle.lz_tie.specs.Reuse.{SightTold, UseTold}
 use Rattle.lz_allot.specs.declared.sight.Sight.TheVariants.{Unseen, Inside, Left}
 use Rattle.lz_board.proofs.Upkeep.Splice.{at_place, trace_insert, trace_splice, pin_insert}
-use Rattle.lz_tie.specs.Reuse.{SightTold, UseTold}
 
 -- the sighting x, seen in other notes: as long a trace before it, and the same pin word
 pub record Same (opened : Trace) (ns ms : List Note) (q : ℕ) (x : Sighting opened ns q) : Type 0 where

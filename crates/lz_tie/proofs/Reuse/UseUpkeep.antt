@@ -1,17 +1,13 @@
 -- What the notes show of slots stays right as the uses of the slots change.
-use Rattle.std.proofs.Common.{◌≡◌, ◌≢◌, ◌⊎◌, inl, inr, ⊎_elim, ℕ, zero, suc, ◌%◌, ◌≤◌, ◌==◌, Bool, true, false, List, [], ◌∷◌, ◌++◌, length, refl, sym, ap, ◌∙◌, subst, arith, le_refl, length-append, true≢false, eq-eqb, if◌then◌else◌, replicate, slice_set}
+use Rattle.std.proofs.Common.{◌≡◌, ◌≢◌, ◌⊎◌, inl, inr, ⊎_elim, ℕ, zero, suc, ◌%◌, ◌≤◌, ◌==◌, Bool, true, false, List, [], ◌∷◌, ◌++◌, length, refl, sym, ap, ◌∙◌}
+use Rattle.std.proofs.{Common.{subst, arith, le_refl, length-append, true≢false, eq-eqb, if◌then◌else◌, replicate, slice_set}, lemmas.Bool.{cases_eq}}
+use Rattle.std.{proofs.lemmas.{Bool.Decides.{eqb_tells}, List.{length-replicate}}, specs.List.{list_all}}
 use mathlib.Core.Bool.{false≢true}
-use Rattle.std.specs.List.{list_all}
-use Rattle.std.proofs.lemmas.Bool.{cases_eq}
-use Rattle.std.proofs.lemmas.Bool.Decides.{eqb_tells}
-use Rattle.std.proofs.lemmas.List.{length-replicate}
-use Rattle.lz_tie.proofs.Vocabulary.{of_pass, set_of_pass, Sight, Use, Free, Limbo, use_of, has_left, collect_at, see_pin_at, sight_after, is_outside}
-use Rattle.lz_tie.proofs.Vocabulary.{Trace, IsLoose, IsAway, Sizes, Note, as_list, trace_of, pin_after, Sighting}
+use Rattle.lz_tie.proofs.Vocabulary.{of_pass, set_of_pass, Sight, Use, Free, Limbo, use_of, has_left, collect_at, see_pin_at, sight_after, is_outside, Trace}
+use Rattle.lz_tie.{proofs.Vocabulary.{IsLoose, IsAway, Sizes, Note, as_list, trace_of, pin_after, Sighting}, specs.Reuse.{SightTold, UseTold}}
 use Rattle.lz_slot.proofs.Counted.{of_pass_same, of_pass_other, length-set_of_pass}
 use Rattle.lz_allot.specs.declared.sight.Sight.TheVariants.{Unseen, Inside, Left}
-use Rattle.lz_machine.proofs.Frames.Limbo.{away_new}
-use Rattle.lz_machine.proofs.Frames.Uses.{left_of}
-use Rattle.lz_tie.specs.Reuse.{SightTold, UseTold}
+use Rattle.lz_machine.proofs.Frames.{Limbo.{away_new}, Uses.{left_of}}
 
 -- the use of a slot after one was set
 pub set_use : (uses : List Use) (s : ℕ) (u : Use) (t : ℕ) → ((t ≡ s) × (use_of (slice_set uses s u) t ≡ u)) ⊎ (use_of (slice_set uses s u) t ≡ use_of uses t)

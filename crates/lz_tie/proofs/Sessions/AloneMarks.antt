@@ -1,15 +1,11 @@
 -- Where one pass alone makes calls, the history that the notes show is that of its own calls.
-use Rattle.std.proofs.Common.{◌≡◌, ◌⊎◌, inl, inr, ⊎_elim, ℕ, suc, List, [], ◌∷◌, ◌++◌, length, refl, sym, ap, ◌∙◌, subst, eq-eqb, if◌then◌else◌, Option, Some, None}
-use Rattle.std.proofs.lemmas.Bool.{cases_eq}
-use Rattle.std.proofs.lemmas.Option.{none-some}
-use Rattle.lz_tie.proofs.Vocabulary.{Command, Format, Publishing, Progress, Event, Outcome, Reply, progress_after, mark_of_turn, reply_at, Shape}
-use Rattle.lz_tie.proofs.Vocabulary.{Moment, What, Note, unless_replied, place, placed, steps_of}
+use Rattle.std.proofs.Common.{◌≡◌, ◌⊎◌, inl, inr, ⊎_elim, ℕ, suc, List, [], ◌∷◌, ◌++◌, length, refl, sym, ap, ◌∙◌, subst, eq-eqb, if◌then◌else◌, Option, Some}
+use Rattle.std.proofs.{Common.{None}, lemmas.{Bool.{cases_eq}, Option.{none-some}}}
+use Rattle.lz_tie.proofs.Vocabulary.{Command, Format, Publishing, Progress, Event, Outcome, Reply, progress_after, mark_of_turn, reply_at, Shape, Moment, What}
+use Rattle.lz_tie.{proofs.Vocabulary.{Note, unless_replied, place, placed, steps_of}, specs.Marks.{calls_in, last_call_number, reply_in, marks_with, marks_in}}
+use Rattle.lz_tie.specs.{OwnCalls.{replied, told_with, told}, Sessions.{marks_alone}}
 use Rattle.lz_slot.specs.declared.history.Mark.TheVariants.{Call}
-use Rattle.lz_board.specs.declared.view.What.TheVariants.{Called, Played, Found}
-use Rattle.lz_board.proofs.Upkeep.Splice.{own_step, other_step}
-use Rattle.lz_tie.specs.Marks.{calls_in, last_call_number, reply_in, marks_with, marks_in}
-use Rattle.lz_tie.specs.OwnCalls.{replied, told_with, told}
-use Rattle.lz_tie.specs.Sessions.{marks_alone}
+use Rattle.lz_board.{specs.declared.view.What.TheVariants.{Called, Played, Found}, proofs.Upkeep.Splice.{own_step, other_step}}
 
 -- the step is one of this pass, or of none
 abbrev pub IsSole : ℕ → Note → Type 0

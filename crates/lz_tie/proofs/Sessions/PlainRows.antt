@@ -1,13 +1,9 @@
 -- A reply of the plain set: what it leaves, and what a history makes of it.
 use Rattle.std.proofs.Common.{◌≡◌, ◌⊎◌, inl, inr, ⊎_elim, ℕ, false, true, ◌∷◌, sym, ◌∙◌}
 use mathlib.Core.Bool.{false≢true, true≢false}
-use Rattle.lz_tie.proofs.Vocabulary.{Command, History, Keys, Same, after, Reply, mark_of, has_cut, IsPlain}
-use Rattle.lz_slot.specs.declared.command.Command.TheVariants.{Add, Remove, Has}
-use Rattle.lz_slot.specs.declared.history.Mark.TheVariants.{Call}
-use Rattle.lz_slot.proofs.Sets.{after_same}
+use Rattle.lz_tie.{proofs.Vocabulary.{Command, History, Keys, Same, after, Reply, mark_of, has_cut, IsPlain}, specs.{OneCaller.{PlainRow}, Sessions.{cuts_off}}}
+use Rattle.lz_slot.{specs.declared.{command.Command.TheVariants.{Add, Remove, Has}, history.Mark.TheVariants.{Call}}, proofs.Sets.{after_same}}
 use Rattle.lz_machine.specs.declared.event.Reply.TheVariants.{Yes, No, Full, Worn, OldFile, Halted, Device}
-use Rattle.lz_tie.specs.OneCaller.{PlainRow}
-use Rattle.lz_tie.specs.Sessions.{cuts_off}
 
 -- the set after a call that wasn't cut off
 abbrev pub after_told : Command → Reply → Keys → Keys

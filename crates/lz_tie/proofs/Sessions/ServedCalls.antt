@@ -2,15 +2,11 @@
 use Rattle.std.proofs.Common.{◌≡◌, ⊎_elim, ℕ, suc, true, false, List, [], ◌∷◌, ◌++◌, length, refl, sym, ap, ◌∙◌, subst, arith, Option, Some}
 use Rattle.std.proofs.lemmas.Bool.{cases_Bool}
 use Rattle.lz_tie.proofs.Vocabulary.{Command, Format, History, Fits, Keys, Reply, has_cut, IsPlain, Sizes, Part, shape_of_sizes}
-use Rattle.lz_machine.proofs.Alone.Answered.{reply_ends, served_reply}
-use Rattle.lz_machine.proofs.Alone.Service.{Ended, served}
-use Rattle.lz_tie.specs.Answers.{Answers}
-use Rattle.lz_tie.specs.OneCaller.{IsPlainAnswer, PlainRow, keys_in}
-use Rattle.lz_tie.specs.OwnCalls.{told}
+use Rattle.lz_tie.proofs.{Marks.ToldCalls.{answers_told}, Replies.OneCaller.{one_caller}}
+use Rattle.lz_tie.{proofs.Sessions.PlainRows.{LeadsTo, row_leaves, row_same, row_cut, leads_on, leads_cut, no_cut}, specs.Answers.{Answers}}
+use Rattle.lz_tie.specs.{OneCaller.{IsPlainAnswer, PlainRow, keys_in}, OwnCalls.{told}}
 use Rattle.lz_tie.specs.Sessions.{AnsweredCalls, Served, PlainRun, cuts_off, NoneCut, CutLast, marks_alone}
-use Rattle.lz_tie.proofs.Marks.ToldCalls.{answers_told}
-use Rattle.lz_tie.proofs.Replies.OneCaller.{one_caller}
-use Rattle.lz_tie.proofs.Sessions.PlainRows.{LeadsTo, row_leaves, row_same, row_cut, leads_on, leads_cut, no_cut}
+use Rattle.lz_machine.proofs.Alone.{Answered.{reply_ends, served_reply}, Service.{Ended, served}}
 
 -- the pass's calls, the newest first, once it has made these too
 abbrev pub told_after : AnsweredCalls → List (Command × Option Reply) → List (Command × Option Reply)

@@ -1,13 +1,9 @@
 -- What is left once a session has ended.
 use Rattle.std.proofs.Common.{◌≡◌, ℕ, List, [], sym, ap, ◌∙◌, subst}
-use Rattle.lz_tie.proofs.Vocabulary.{Format, History, Fits, Same, IsPlain, Trace, Note, Part, shape_of_sizes, BoardId}
-use Rattle.lz_tie.specs.Marks.{marks_in}
-use Rattle.lz_tie.specs.OneCaller.{keys_in}
-use Rattle.lz_tie.specs.OwnCalls.{told}
-use Rattle.lz_tie.specs.RunningSets.{members_of, Explains}
+use Rattle.lz_tie.proofs.{Vocabulary.{Format, History, Fits, Same, IsPlain, Trace, Note, Part, shape_of_sizes, BoardId}, Sessions.PlainRows.{LeadsTo}}
+use Rattle.lz_tie.{proofs.Sessions.ServedCalls.{told_after, served_told, plain_served, whole_none, fits_plain, leads_after, plain_to}, specs.Marks.{marks_in}}
+use Rattle.lz_tie.specs.{OneCaller.{keys_in}, OwnCalls.{told}, RunningSets.{members_of, Explains}}
 use Rattle.lz_tie.specs.Sessions.{AnsweredCalls, PlainRun, NoneCut, marks_alone, IsSession, SessionIsPlain, SessionIsHeld}
-use Rattle.lz_tie.proofs.Sessions.PlainRows.{LeadsTo}
-use Rattle.lz_tie.proofs.Sessions.ServedCalls.{told_after, served_told, plain_served, whole_none, fits_plain, leads_after, plain_to}
 
 -- at first the history leads to the set with which the life began
 pub leads_none : (p : ℕ) (opened : Trace) (old : Part) → old.known ≡ opened → LeadsTo (members_of opened) (marks_alone p []) (keys_in old.known)

@@ -1,18 +1,14 @@
 -- What might have been left at a moment of a session: by then some first ones of its calls were done, and the next one may have
 -- been under way.
 use Rattle.std.proofs.Common.{◌≡◌, ◌⊎◌, inl, inr, ⊎_elim, ℕ, suc, List, [], ◌∷◌, ◌++◌, length, refl, sym, ap, ◌∙◌, subst, append_assoc, Option, Some, None}
-use Rattle.lz_tie.proofs.Vocabulary.{Command, Format, Mark, History, Fits, Keys, Reply, IsPlain, mark_of, Shape, Trace, Note, Part, shape_of_sizes}
-use Rattle.lz_tie.proofs.Vocabulary.{BoardId}
-use Rattle.lz_slot.specs.declared.history.Mark.TheVariants.{Call}
-use Rattle.lz_machine.proofs.Alone.Service.{served_open}
-use Rattle.lz_tie.specs.Marks.{marks_with, marks_in}
-use Rattle.lz_tie.specs.Moments.{ExplainsBegun}
-use Rattle.lz_tie.specs.OneCaller.{keys_in}
-use Rattle.lz_tie.specs.RunningSets.{members_of, Explains}
-use Rattle.lz_tie.specs.Sessions.{AnsweredCalls, Served, PlainRun, NoneCut, CutLast, marks_alone, IsSession, MayHaveNext, HoldsAfterSome, MomentsArePlain}
+use Rattle.lz_tie.proofs.Vocabulary.{Command, Format, Mark, History, Fits, Keys, Reply, IsPlain, mark_of, Shape, Trace, Note, Part, shape_of_sizes, BoardId}
 use Rattle.lz_tie.proofs.Sessions.PlainRows.{LeadsTo, leads_open}
 use Rattle.lz_tie.proofs.Sessions.ServedCalls.{told_after, served_first, plain_served, Whole, whole_none, whole_after, fits_plain, leads_after, plain_to}
-use Rattle.lz_tie.proofs.Sessions.SessionEnd.{leads_none, session_marks}
+use Rattle.lz_tie.{proofs.Sessions.SessionEnd.{leads_none, session_marks}, specs.{Marks.{marks_with, marks_in}, Moments.{ExplainsBegun}, OneCaller.{keys_in}}}
+use Rattle.lz_tie.specs.RunningSets.{members_of, Explains}
+use Rattle.lz_tie.specs.Sessions.{AnsweredCalls, Served, PlainRun, NoneCut, CutLast, marks_alone, IsSession, MayHaveNext, HoldsAfterSome, MomentsArePlain}
+use Rattle.lz_slot.specs.declared.history.Mark.TheVariants.{Call}
+use Rattle.lz_machine.proofs.Alone.Service.{served_open}
 
 -- the marks of a beginning of the notes end those of all
 marks_later : (shape : Shape) (later before : List Note) → (X : History) × (marks_in shape (later ++ before) ≡ X ++ marks_in shape before)

@@ -1,12 +1,8 @@
 -- In a set of one pass the notes are its steps and what the pen found.
 use Rattle.std.proofs.Common.{◌≡◌, inl, inr, ⊎_elim, ℕ, List, [], ◌∷◌, sym, ap, ◌∙◌, subst, arith}
-use Rattle.lz_tie.proofs.Vocabulary.{Device, Yard, Sizes, Note, Part, shape_of_sizes, Knows, knowing, BoardId, Trace}
-use Rattle.lz_tie.specs.Holds.{IsLocked}
-use Rattle.lz_tie.specs.OwnCalls.{told}
-use Rattle.lz_tie.specs.Sessions.{TellsAlone, marks_alone}
-use Rattle.lz_tie.proofs.Marks.RunningSet.{locked_sizes}
-use Rattle.lz_tie.proofs.Marks.WholeHistory.{AreByPasses, notes_by_passes}
-use Rattle.lz_tie.proofs.Sessions.AloneMarks.{AreSole, alone_marks}
+use Rattle.lz_tie.proofs.{Vocabulary.{Device, Yard, Sizes, Note, Part, shape_of_sizes, Knows, knowing, BoardId, Trace}, Marks.RunningSet.{locked_sizes}}
+use Rattle.lz_tie.{proofs.{Marks.WholeHistory.{AreByPasses, notes_by_passes}, Sessions.AloneMarks.{AreSole, alone_marks}}, specs.Holds.{IsLocked}}
+use Rattle.lz_tie.specs.{OwnCalls.{told}, Sessions.{TellsAlone, marks_alone}}
 
 are_sole : (passes : ℕ) → passes ≡ 1 → (ns : List Note) → AreByPasses passes ns → AreSole 1 ns
 are_sole passes one [] all = tt

@@ -1,25 +1,19 @@
 -- A pass's load may be put into the notes: they are read as a run then too, by the law that walks move.
-use Rattle.std.proofs.Common.{◌≡◌, ◌≢◌, ◌⊎◌, ⊎_elim, ℕ, zero, suc, ◌+◌, ◌<◌, ◌≤◌, Bool, false, ◌||◌, List, [], ◌∷◌, ◌++◌, length, refl, sym, ap, ◌∙◌, subst, arith, append_assoc, length-append, ne_eqb, replicate, Option, Some, None, IsSome, IsNone}
+use Rattle.std.proofs.Common.{◌≡◌, ◌≢◌, ◌⊎◌, ⊎_elim, ℕ, zero, suc, ◌+◌, ◌<◌, ◌≤◌, Bool, false, ◌||◌, List, [], ◌∷◌, ◌++◌, length, refl, sym, ap, ◌∙◌, subst}
+use Rattle.std.proofs.{Common.{arith, append_assoc, length-append, ne_eqb, replicate, Option, Some, None, IsSome, IsNone}, lemmas.Bool.{cases_Bool, cases_eq}}
+use Rattle.std.{proofs.lemmas.List.Folds.{list_any-append}, specs.List.{list_any}}
 use mathlib.Core.Bool.{false≢true}
-use Rattle.std.specs.List.{list_any}
-use Rattle.std.proofs.lemmas.Bool.{cases_Bool, cases_eq}
-use Rattle.std.proofs.lemmas.List.Folds.{list_any-append}
-use Rattle.lz_tie.proofs.Vocabulary.{Medium, Word, Publishing, Words, get, Trace, word_after, Course, Shape, Yard, actor_at, course, line}
-use Rattle.lz_tie.proofs.Vocabulary.{line_on, line_publishes, published_on, pin_of, event_at, loaded, Start, IsStart, State, Up, Down, Service}
-use Rattle.lz_tie.proofs.Vocabulary.{Caller, Transition, Calls, Turn, Fails, Looks, CrashesIn, Point, run, IsRun, MayStep, first_point, caller_at}
-use Rattle.lz_tie.proofs.Vocabulary.{next_event, HasTurn, is_of, SameBut, KeepsRun, next_hop, hop_of_caller, TraceSound, Sizes, What, Note}
-use Rattle.lz_tie.proofs.Vocabulary.{Load, as_list, trace_of, steps_of, Extends, load_note, insert_load, Quiet, IsShared, Shown, place}
-use Rattle.lz_list.specs.declared.word.Word.TheVariants.{Head, Link, Key, Pin as PinOf, Halt}
-use Rattle.lz_list.proofs.Tables.WordTable.{table_at}
-use Rattle.lz_machine.specs.declared.course.Course.TheVariants.{Refused, Plays}
-use Rattle.lz_machine.specs.declared.event.Event.TheVariants.{Hop}
-use Rattle.lz_machine.specs.declared.event.Outcome.TheVariants.{Value, NotNow}
-use Rattle.lz_machine.proofs.Theorem.Reached.{reached_sound, walks_move, up_at}
-use Rattle.lz_board.specs.declared.view.What.TheVariants.{Called, Played, Found}
-use Rattle.lz_board.proofs.Upkeep.Splice.{at_place, other_step}
-use Rattle.lz_tie.specs.NotedRuns.{TellsTurn, TellsFault, TellsStep, TellsLooks, TellsOf, NoteTells, ReadsAs, viewed, IsHopAt}
-use Rattle.lz_tie.proofs.Reading.TraceNotes.{trace_reads}
+use Rattle.lz_tie.proofs.Vocabulary.{Medium, Word, Publishing, Words, get, Trace, word_after, Course, Shape, Yard, actor_at, course, line, line_on}
+use Rattle.lz_tie.proofs.Vocabulary.{line_publishes, published_on, pin_of, event_at, loaded, Start, IsStart, State, Up, Down, Service, Caller, Transition}
+use Rattle.lz_tie.proofs.Vocabulary.{Calls, Turn, Fails, Looks, CrashesIn, Point, run, IsRun, MayStep, first_point, caller_at, next_event, HasTurn, is_of}
+use Rattle.lz_tie.proofs.Vocabulary.{SameBut, KeepsRun, next_hop, hop_of_caller, TraceSound, Sizes, What, Note, Load, as_list, trace_of, steps_of, Extends}
+use Rattle.lz_tie.proofs.{Vocabulary.{load_note, insert_load, Quiet, IsShared, Shown, place}, Reading.TraceNotes.{trace_reads}}
 use Rattle.lz_tie.proofs.Reading.CallPlaces.{place_reads, run_before}
+use Rattle.lz_tie.specs.NotedRuns.{TellsTurn, TellsFault, TellsStep, TellsLooks, TellsOf, NoteTells, ReadsAs, viewed, IsHopAt}
+use Rattle.lz_list.{specs.declared.word.Word.TheVariants.{Head, Link, Key, Pin as PinOf, Halt}, proofs.Tables.WordTable.{table_at}}
+use Rattle.lz_machine.specs.declared.{course.Course.TheVariants.{Refused, Plays}, event.{Event.TheVariants.{Hop}, Outcome.TheVariants.{Value, NotNow}}}
+use Rattle.lz_machine.proofs.Theorem.Reached.{reached_sound, walks_move, up_at}
+use Rattle.lz_board.{specs.declared.view.What.TheVariants.{Called, Played, Found}, proofs.Upkeep.Splice.{at_place, other_step}}
 
 -- the words of a sound state are those after its trace
 pub words_shown : (shape : Shape) (words : Words) (P : Trace) → TraceSound shape words P → (w : Word) → IsShared (record { slots = shape.slots; buckets = shape.buckets; passes = shape.passes }) w → get words w ≡ word_after shape.buckets P w

@@ -1,10 +1,9 @@
 -- Notes with all loads of a pass put in are read as a run that differs in the pass's call alone.
 use Rattle.std.proofs.Common.{◌≡◌, ℕ, ◌≤◌, List, [], ◌∷◌, ◌++◌, length, refl, sym, ap, ◌∙◌, subst, arith}
-use Rattle.lz_tie.proofs.Vocabulary.{Start, IsStart, State, Up, Down, Transition, Turn, Point, run, IsRun, first_point, SameBut, Sizes, Note, Load}
-use Rattle.lz_tie.proofs.Vocabulary.{trace_of, steps_of, splice, Quiet, InOrder, Shown, AllShown, place}
-use Rattle.lz_board.proofs.Upkeep.Splice.{trace_splice, steps_splice, quiet_splice, least_load}
+use Rattle.lz_tie.proofs.Vocabulary.{Start, IsStart, State, Up, Down, Transition, Turn, Point, run, IsRun, first_point, SameBut, Sizes, Note, Load, trace_of}
+use Rattle.lz_tie.proofs.{Vocabulary.{steps_of, splice, Quiet, InOrder, Shown, AllShown, place}, Splicing.LoadInsertion.{insert_reads}}
 use Rattle.lz_tie.specs.NotedRuns.{ReadsAs, AreNext, IsHopAt}
-use Rattle.lz_tie.proofs.Splicing.LoadInsertion.{insert_reads}
+use Rattle.lz_board.proofs.Upkeep.Splice.{trace_splice, steps_splice, quiet_splice, least_load}
 
 same_refl : (a : ℕ) (w : State) → SameBut a w w
 same_refl a (Up service disk) = (refl, refl, λ b away. refl)

@@ -1,15 +1,11 @@
 -- A set begins with the members that the text holds which its open read, and such a text explains what was seen before the first call.
 use Rattle.std.proofs.Common.{◌≡◌, inl, ℕ, List, [], ◌∷◌, refl, sym, ap, ◌∙◌, subst, le_refl, append-nil, IsTrue}
-use Rattle.lz_tie.proofs.Vocabulary.{Keys, Same, Runs, Holds, Device, IsImage, at_rest, Yard, first_trace, opened_service, OpensYard, Note, sizes_in}
-use Rattle.lz_tie.proofs.Vocabulary.{opened_by, BoardId}
+use Rattle.lz_tie.proofs.Vocabulary.{Keys, Same, Runs, Holds, Device, IsImage, at_rest, Yard, first_trace, opened_service, OpensYard, Note, sizes_in, opened_by}
+use Rattle.lz_tie.{proofs.{Vocabulary.{BoardId}, Marks.RunningSet.{explained}, Start.OpenedYard.{opened_sizes}}, specs.Holds.{sizes_of}}
+use Rattle.lz_tie.specs.{RunningSets.{Explains, members_of}, Moments.{ExplainsBegun}}
 use Rattle.lz_slot.proofs.Files.HeldSets.{holds_same_set}
 use Rattle.lz_machine.proofs.Open.FirstPoint.{one_set}
 use Rattle.lz_board.proofs.Start.FirstWords.{opens_text}
-use Rattle.lz_tie.specs.Holds.{sizes_of}
-use Rattle.lz_tie.specs.RunningSets.{Explains, members_of}
-use Rattle.lz_tie.specs.Moments.{ExplainsBegun}
-use Rattle.lz_tie.proofs.Marks.RunningSet.{explained}
-use Rattle.lz_tie.proofs.Start.OpenedYard.{opened_sizes}
 
 -- what explains no calls explains a beginning of any notes
 no_calls : (b : BoardId) (ns : List Note) (t : List ℕ) → Explains b [] t → ExplainsBegun b ns t

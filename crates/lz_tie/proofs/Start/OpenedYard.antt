@@ -2,17 +2,13 @@
 use Rattle.std.proofs.Common.{◌≡◌, ◌≢◌, inl, Bool, false, List, [], length, zero, suc, refl, sym, ap, ◌∙◌, subst, ℕ, Some, None, is_some, IsTrue, replicate}
 use Rattle.std.proofs.lemmas.List.{length-replicate}
 use mathlib.Core.Bool.{false≢true}
-use Rattle.lz_tie.proofs.Vocabulary.{of_pass, Device, Medium, at_rest, Use, Free, Taken, Limbo, use_of, Trace, Yard, opened_yard, first_trace}
-use Rattle.lz_tie.proofs.Vocabulary.{idle_actor, slots_read, IsStart, opened_service, OpensYard, Sizes, Note, sizes_in, opened_by, AreOpened, BoardId}
-use Rattle.lz_list.proofs.Tables.WordTable.{length-table}
-use Rattle.lz_machine.proofs.Frames.Limbo.{away_new}
-use Rattle.lz_machine.proofs.Open.FoundSlots.{no_limbo_read}
-use Rattle.lz_board.proofs.Start.FirstWords.{opens_text}
-use Rattle.lz_tie.specs.NotedRuns.{IsTied}
-use Rattle.lz_tie.specs.Holds.{sizes_of, IsLocked}
+use Rattle.lz_tie.proofs.Vocabulary.{of_pass, Device, Medium, at_rest, Use, Free, Taken, Limbo, use_of, Trace, Yard, opened_yard, first_trace, idle_actor}
+use Rattle.lz_tie.proofs.Vocabulary.{slots_read, IsStart, opened_service, OpensYard, Sizes, Note, sizes_in, opened_by, AreOpened, BoardId}
+use Rattle.lz_tie.{proofs.Hold.{NoteCondition.{sound, tied_loose}, Alike.{alike_is}}, specs.{NotedRuns.{IsTied}, Holds.{sizes_of, IsLocked}}}
 use Rattle.lz_tie.specs.Reuse.{UseTold, ReuseTold}
-use Rattle.lz_tie.proofs.Hold.NoteCondition.{sound, tied_loose}
-use Rattle.lz_tie.proofs.Hold.Alike.{alike_is}
+use Rattle.lz_list.proofs.Tables.WordTable.{length-table}
+use Rattle.lz_machine.proofs.{Frames.Limbo.{away_new}, Open.FoundSlots.{no_limbo_read}}
+use Rattle.lz_board.proofs.Start.FirstWords.{opens_text}
 
 module _ {bytewise : Bool} (y : Yard) (t : List ℕ) (starts : IsStart (record { bytewise = bytewise; shape = y.shape; text = t })) (is : y ≡ opened_yard y.shape t) where
   opens : AreOpened y.words × (opened_by y.words ≡ first_trace y.shape t)

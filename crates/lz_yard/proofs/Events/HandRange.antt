@@ -1,9 +1,7 @@
 -- The yard's parts fit, before and after an event.
-use Rattle.std.proofs.Common.{◌≡◌, ℕ, zero, suc, ◌<◌, ◌≤◌, length, sym, ap, ◌∙◌, subst, arith}
+use Rattle.std.proofs.{Common.{◌≡◌, ℕ, zero, suc, ◌<◌, ◌≤◌, length, sym, ap, ◌∙◌, subst, arith}, lemmas.Option.{slice_get-get_or}}
 use Rattle.std.specs.Prelude.{Option, Some, IfSome, slice_index_or}
-use Rattle.std.proofs.lemmas.Option.{slice_get-get_or}
-use Rattle.lz_machine.specs.declared.actor.Actor.{Actor}
-use Rattle.lz_machine.specs.Yards.{Yard, actor_at, idle_actor}
+use Rattle.lz_machine.specs.{declared.actor.Actor.{Actor}, Yards.{Yard, actor_at, idle_actor}}
 use Rattle.lz_yard.specs.Parts.{PartsFit, HasInRange}
 
 if_some : (o : Option ℕ) (s : ℕ) (P : ℕ → Type 0) → o ≡ Some s → IfSome o P → P s

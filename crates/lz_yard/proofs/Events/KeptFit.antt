@@ -1,39 +1,20 @@
 -- The yard's parts fit after an event, where they did before it.
 use Rattle.std.proofs.Common.{◌≡◌, ◌≢◌, ◌⊎◌, ℕ, zero, suc, ◌<◌, ◌≤◌, Bool, true, false, List, [], ◌∷◌, length, refl, sym, subst, arith, length-set}
+use Rattle.std.proofs.lemmas.{Option.{same_Some}, List.{length-map}}
 use Rattle.std.specs.Prelude.{Option, Some, IfSome, Result, Ok, Err, slice_get, slice_set, if◌then◌else◌}
-use Rattle.std.proofs.lemmas.Option.{same_Some}
-use Rattle.std.proofs.lemmas.List.{length-map}
-use Rattle.lz_slot.specs.Counted.{set_of_pass}
-use Rattle.lz_slot.proofs.Counted.{length-set_of_pass}
-use Rattle.lz_disk.specs.Images.{Medium}
-use Rattle.lz_disk.specs.Devices.{Device}
-use Rattle.lz_vault.specs.Vaults.{died}
-use Rattle.lz_vault.specs.declared.vault.VaultFault.{VaultFault}
+use Rattle.lz_slot.{specs.Counted.{set_of_pass}, proofs.Counted.{length-set_of_pass}}
+use Rattle.lz_disk.specs.{Images.{Medium}, Devices.{Device}}
+use Rattle.lz_vault.specs.{Vaults.{died}, declared.vault.VaultFault.{VaultFault}}
 use Rattle.lz_allot.specs.Uses.{collect, lowest_free}
-use Rattle.lz_list.specs.declared.place.Place.{Place}
-use Rattle.lz_list.specs.declared.word.Word.{Word}
-use Rattle.lz_list.specs.Words.{Words, set}
-use Rattle.lz_list.specs.Lists.{IsCurr, IsWord}
-use Rattle.lz_list.specs.Locks.{is_pair_free}
+use Rattle.lz_list.specs.{declared.{place.Place.{Place}, word.Word.{Word}}, Words.{Words, set}, Lists.{IsCurr, IsWord}, Locks.{is_pair_free}}
 use Rattle.lz_machine.specs.declared.event.Event.{Event}
 use Rattle.lz_machine.specs.declared.event.Event.TheVariants.{Invoke, Reserve, Claim, Check, WriteOpen, Link, WriteClose, Mark, Release, Unlink, Retire, Answer}
-use Rattle.lz_machine.specs.declared.event.Outcome.{Outcome}
-use Rattle.lz_machine.specs.declared.event.Outcome.TheVariants.{Fault}
-use Rattle.lz_machine.specs.declared.course.Course.TheVariants.{Plays}
-use Rattle.lz_machine.specs.declared.actor.Hold.{Hold}
-use Rattle.lz_machine.specs.declared.actor.Hold.TheVariants.{Locks}
-use Rattle.lz_machine.specs.declared.actor.Actor.{Actor}
-use Rattle.lz_machine.specs.Yards.{Yard, actor_at}
-use Rattle.lz_machine.specs.Table.{course, cells_after, words_after, uses_after, actors_after, kept_slot, line_failed, with_hold, with_slot, with_vault, yard_done, needs}
-use Rattle.lz_yard.specs.Steps.{Played, Tells}
-use Rattle.lz_yard.specs.declared.told.Told.{Told}
-use Rattle.lz_machine.specs.Ready.{IsEventOf, IsReady}
-use Rattle.lz_machine.specs.Runs.{MayPlay, with_words}
-use Rattle.lz_yard.specs.Parts.{PartsFit, PartsOver, HasInRange, Known, Does}
-use Rattle.lz_yard.specs.Plays.{IsPlayed, MayBePlayed}
+use Rattle.lz_machine.specs.declared.{event.Outcome.{Outcome, TheVariants.{Fault}}, course.Course.TheVariants.{Plays}, actor.Hold.{Hold, TheVariants.{Locks}}}
+use Rattle.lz_machine.specs.{declared.actor.Actor.{Actor}, Yards.{Yard, actor_at}, Table.{course, cells_after, words_after, uses_after, actors_after}}
+use Rattle.lz_machine.specs.{Table.{kept_slot, line_failed, with_hold, with_slot, with_vault, yard_done, needs}, Ready.{IsEventOf, IsReady}}
+use Rattle.lz_machine.{specs.Runs.{MayPlay, with_words}, proofs.{Runs.Shape.{line_keeps_shape}, Theorem.Readiness.{ready_to_play}}}
+use Rattle.lz_yard.specs.{Steps.{Played, Tells}, declared.told.Told.{Told}, Parts.{PartsFit, PartsOver, HasInRange, Known, Does}, Plays.{IsPlayed, MayBePlayed}}
 use Rattle.lz_yard.proofs.Events.HandRange.{hand_fits}
-use Rattle.lz_machine.proofs.Runs.Shape.{line_keeps_shape}
-use Rattle.lz_machine.proofs.Theorem.Readiness.{ready_to_play}
 
 -- tables of words of the same lengths
 record SameSizes (old new : Words) : Type 0 where

@@ -1,20 +1,10 @@
 -- A line from what became of its event.
-use Rattle.std.proofs.Common.{◌≡◌, ◌≢◌, ℕ, arith}
-use Rattle.std.specs.Prelude.{Ok, Err}
-use Rattle.std.proofs.lemmas.Bool.Decides.{nat_tests}
+use Rattle.std.{proofs.{Common.{◌≡◌, ◌≢◌, ℕ, arith}, lemmas.Bool.Decides.{nat_tests}}, specs.Prelude.{Ok, Err}}
 use Rattle.lz_disk.specs.Devices.{Device}
-use Rattle.lz_vault.specs.Vaults.{NoCall, Succeeds, died}
-use Rattle.lz_vault.specs.declared.vault.VaultFault.{VaultFault}
-use Rattle.lz_machine.specs.declared.event.Event.{Event}
-use Rattle.lz_machine.specs.declared.event.Outcome.{Outcome}
-use Rattle.lz_machine.specs.declared.event.Outcome.TheVariants.{Fault, Dead}
-use Rattle.lz_machine.specs.declared.course.Course.TheVariants.{Refused, Dies, Plays}
-use Rattle.lz_machine.specs.Yards.{Yard, actor_at}
-use Rattle.lz_machine.specs.Table.{course, with_vault}
-use Rattle.lz_machine.proofs.Runs.Outcomes.{no_fault}
-use Rattle.lz_yard.specs.Steps.{Played, Tells, nothing_told}
-use Rattle.lz_yard.specs.declared.told.Told.{Told}
-use Rattle.lz_yard.specs.Parts.{Known, Does}
+use Rattle.lz_vault.specs.{Vaults.{NoCall, Succeeds, died}, declared.vault.VaultFault.{VaultFault}}
+use Rattle.lz_machine.specs.declared.{event.{Event.{Event}, Outcome.{Outcome, TheVariants.{Fault, Dead}}}, course.Course.TheVariants.{Refused, Dies, Plays}}
+use Rattle.lz_machine.{specs.{Yards.{Yard, actor_at}, Table.{course, with_vault}}, proofs.Runs.Outcomes.{no_fault}}
+use Rattle.lz_yard.specs.{Steps.{Played, Tells, nothing_told}, declared.told.Told.{Told}, Parts.{Known, Does}}
 
 module _ (y : Yard) (a : ℕ) (e : Event) where
   -- it is played, and done

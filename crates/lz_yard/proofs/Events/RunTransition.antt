@@ -1,22 +1,13 @@
 -- A call's next event, played on a yard over any device, as a step of a run.
-use Rattle.std.proofs.Common.{◌≡◌, ◌≢◌, ◌≤◌, length, IsTrue, ℕ, Bool, true, false, Option, Some, refl, sym, ◌∙◌, subst, arith}
-use Rattle.std.proofs.lemmas.Bool.{false≢true}
+use Rattle.std.proofs.{Common.{◌≡◌, ◌≢◌, ◌≤◌, length, IsTrue, ℕ, Bool, true, false, Option, Some, refl, sym, ◌∙◌, subst, arith}, lemmas.Bool.{false≢true}}
 use Rattle.std.proofs.lemmas.Bool.Decides.{nat_tests}
 use Rattle.lz_slot.specs.Counted.{set_of_pass}
-use Rattle.lz_disk.specs.Images.{Medium}
-use Rattle.lz_disk.specs.Devices.{Device}
+use Rattle.lz_disk.specs.{Images.{Medium}, Devices.{Device}}
 use Rattle.lz_vault.specs.Vaults.{DeviceCall, NoCall, MayFail, medium_after}
-use Rattle.lz_machine.specs.declared.event.Outcome.{Outcome}
-use Rattle.lz_machine.specs.declared.event.Outcome.TheVariants.{Fault}
-use Rattle.lz_machine.specs.Yards.{Shape, Yard}
-use Rattle.lz_machine.specs.Table.{line_call}
-use Rattle.lz_machine.specs.Calls.{progress_after}
-use Rattle.lz_machine.specs.Points.{IsReached}
-use Rattle.lz_machine.specs.Runs.{Start, Caller, Service, State, Up, Transition, Turn, Fails, MayStep, HasTurn, HasFault, MayPlay, Point, caller_at, next_event, reply_at, moved_on, played, state_after}
-use Rattle.lz_machine.proofs.Frames.OneActor.{caller_range}
-use Rattle.lz_machine.proofs.Runs.CallerEvent.{is_next}
-use Rattle.lz_machine.proofs.Runs.ReachedPoint.{as_reached}
-use Rattle.lz_machine.proofs.Theorem.Timing.{in_time}
+use Rattle.lz_machine.specs.{declared.event.Outcome.{Outcome, TheVariants.{Fault}}, Yards.{Shape, Yard}, Table.{line_call}, Calls.{progress_after}}
+use Rattle.lz_machine.specs.{Points.{IsReached}, Runs.{Start, Caller, Service, State, Up, Transition, Turn, Fails, MayStep, HasTurn, HasFault, MayPlay, Point}}
+use Rattle.lz_machine.{specs.Runs.{caller_at, next_event, reply_at, moved_on, played, state_after}, proofs.Frames.OneActor.{caller_range}}
+use Rattle.lz_machine.proofs.{Runs.{CallerEvent.{is_next}, ReachedPoint.{as_reached}}, Theorem.Timing.{in_time}}
 use Rattle.lz_yard.specs.Steps.{Played}
 
 -- the call after its next event had this outcome

@@ -1,19 +1,11 @@
 -- What the calls of the vault ask for, and what they make of an event.
-use Rattle.std.proofs.Common.{◌≡◌, ℕ, ◌<◌, Bool, true, false, ◌&&◌, length, sym, ◌∙◌, arith}
+use Rattle.std.proofs.{Common.{◌≡◌, ℕ, ◌<◌, Bool, true, false, ◌&&◌, length, sym, ◌∙◌, arith}, lemmas.Option.{same_Some, slice_get-get_or}}
 use Rattle.std.specs.Prelude.{Some, Ok, slice_get, slice_set}
-use Rattle.std.proofs.lemmas.Option.{same_Some, slice_get-get_or}
 use Rattle.lz_disk.specs.Devices.{Device}
-use Rattle.lz_vault.specs.Members.{no_cell}
-use Rattle.lz_vault.specs.Stages.{Cell, stage_put}
-use Rattle.lz_vault.specs.Vaults.{Vaulted, Called, key_call}
-use Rattle.lz_list.specs.declared.word.Word.TheVariants.{Key as key_at}
-use Rattle.lz_list.specs.Words.{set}
-use Rattle.lz_list.specs.Lists.{Listed}
-use Rattle.lz_machine.specs.declared.event.Event.TheVariants.{WriteKey}
-use Rattle.lz_machine.specs.declared.event.Outcome.TheVariants.{Done}
-use Rattle.lz_machine.specs.declared.course.Course.TheVariants.{Plays}
-use Rattle.lz_machine.specs.Yards.{Yard, actor_at, cell_at}
-use Rattle.lz_machine.specs.Ready.{IsReady}
+use Rattle.lz_vault.specs.{Members.{no_cell}, Stages.{Cell, stage_put}, Vaults.{Vaulted, Called, key_call}}
+use Rattle.lz_list.specs.{declared.word.Word.TheVariants.{Key as key_at}, Words.{set}, Lists.{Listed}}
+use Rattle.lz_machine.specs.declared.{event.{Event.TheVariants.{WriteKey}, Outcome.TheVariants.{Done}}, course.Course.TheVariants.{Plays}}
+use Rattle.lz_machine.specs.{Yards.{Yard, actor_at, cell_at}, Ready.{IsReady}}
 use Rattle.lz_yard.specs.Parts.{Does, Known, PartsFit}
 
 -- an event that a dead vault refuses is played on one that isn't dead

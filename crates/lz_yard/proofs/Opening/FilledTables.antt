@@ -1,33 +1,17 @@
 -- What an open makes of the members that it found fits, and is what the yard of the text read has.
 use Rattle.std.proofs.Common.{◌≡◌, ℕ, zero, suc, ◌<◌, ◌≤◌, true, List, [], ◌∷◌, length, map, refl, sym, ap, ◌∙◌, subst, arith}
-use Rattle.std.specs.Prelude.{All, Some, replicate, slice_get, slice_index_or, if◌then◌else◌}
+use Rattle.std.proofs.lemmas.List.{length-map, length-replicate, get_or-replicate, FromFn.{length-range_with_len}}
+use Rattle.std.{proofs.lemmas.Option.{slice_get_within, get_or_from_slice_get}, specs.Prelude.{All, Some, replicate, slice_get, slice_index_or, if◌then◌else◌}}
 use Rattle.std.specs.List.{range_with_len}
-use Rattle.std.proofs.lemmas.List.{length-map, length-replicate, get_or-replicate}
-use Rattle.std.proofs.lemmas.List.FromFn.{length-range_with_len}
-use Rattle.std.proofs.lemmas.Option.{slice_get_within, get_or_from_slice_get}
-use Rattle.lz_slot.specs.Limits.{most_passes, most_slots}
-use Rattle.lz_vault.specs.Stages.{Cell}
-use Rattle.lz_vault.specs.Vaults.{Vaulted}
-use Rattle.lz_allot.specs.Uses.{Free, Taken}
-use Rattle.lz_allot.specs.Rows.{first_row}
-use Rattle.lz_allot.specs.Allots.{Allotted, first_uses}
-use Rattle.lz_list.specs.Words.{Words}
-use Rattle.lz_list.specs.Lists.{Listed, IsSorted, new_words, free_locks}
-use Rattle.lz_list.specs.declared.word.Word.TheVariants.{Head, Link, Key}
-use Rattle.lz_list.specs.Traces.{Chain, IsFound, has_slot, word_after, words_of_trace, opening}
-use Rattle.lz_list.proofs.Traces.OpeningTrace.{opening_lawful}
-use Rattle.lz_list.proofs.Tables.WordTable.{length-table}
-use Rattle.lz_list.proofs.Traces.TraceWords.{sorted_after}
-use Rattle.lz_machine.specs.declared.actor.Actor.{Actor}
-use Rattle.lz_machine.specs.Yards.{Yard, idle_actor}
-use Rattle.lz_yard.specs.Parts.{PartsFit, HasInRange}
-use Rattle.lz_slot.specs.Nodes.{has_node}
-use Rattle.lz_vault.specs.Members.{AreMembers}
-use Rattle.lz_yard.specs.Filling.{AreTables, taken_among, with_members}
-use Rattle.lz_vault.proofs.Members.{node_first, node_later}
-use Rattle.lz_yard.proofs.Opening.MemberNodes.{are_found}
-use Rattle.lz_yard.proofs.Opening.LinkedMembers.{filled_words}
-use Rattle.lz_yard.proofs.Opening.TakenSlots.{taken_low, has_taken}
+use Rattle.lz_slot.specs.{Limits.{most_passes, most_slots}, Nodes.{has_node}}
+use Rattle.lz_vault.{specs.{Stages.{Cell}, Vaults.{Vaulted}, Members.{AreMembers}}, proofs.Members.{node_first, node_later}}
+use Rattle.lz_allot.specs.{Uses.{Free, Taken}, Rows.{first_row}, Allots.{Allotted, first_uses}}
+use Rattle.lz_list.specs.{Words.{Words}, Lists.{Listed, IsSorted, new_words, free_locks}, declared.word.Word.TheVariants.{Head, Link, Key}}
+use Rattle.lz_list.{specs.Traces.{Chain, IsFound, has_slot, word_after, words_of_trace, opening}, proofs.Traces.OpeningTrace.{opening_lawful}}
+use Rattle.lz_list.proofs.{Traces.TraceWords.{sorted_after}, Tables.WordTable.{length-table}}
+use Rattle.lz_machine.specs.{declared.actor.Actor.{Actor}, Yards.{Yard, idle_actor}}
+use Rattle.lz_yard.{specs.{Parts.{PartsFit, HasInRange}, Filling.{AreTables, taken_among, with_members}}, proofs.Opening.MemberNodes.{are_found}}
+use Rattle.lz_yard.proofs.Opening.{LinkedMembers.{filled_words}, TakenSlots.{taken_low, has_taken}}
 
 -- each entry of a list is a node of it
 node_at : (es : Chain) (i : ℕ) (d : ℕ × ℕ) → i < length es → has_node (slice_index_or es i d).0 (slice_index_or es i d).1 es ≡ true

@@ -1,46 +1,24 @@
 -- A yard that was opened over an honest device is that of the text read.
-use Rattle.std.proofs.Common.{◌≡◌, ◌≢◌, ◌≤◌, ◌*◌, take, ◌⊎◌, inl, inr, ℕ, zero, suc, ◌+◌, ◌<◌, Bool, true, false, List, [], ◌∷◌, ◌++◌, length, map, refl, sym, ap, ◌∙◌, subst, arith, IsTrue}
+use Rattle.std.proofs.Common.{◌≡◌, ◌≢◌, ◌≤◌, ◌*◌, take, ◌⊎◌, inl, inr, ℕ, zero, suc, ◌+◌, ◌<◌, Bool, true, false, List, [], ◌∷◌, ◌++◌, length, map, refl, sym}
+use Rattle.std.proofs.{Common.{ap, ◌∙◌, subst, arith, IsTrue}, lemmas.List.{length-map, get_or-map, get_or_append_left, get_or_push, ext_get_or}}
+use Rattle.std.proofs.lemmas.{List.FromFn.{length-range_with_len, get_or-range_with_len}, Option.{slice_get-get_or}, Bool.{cases_eq, cases_Bool}}
+use Rattle.std.{proofs.lemmas.Bool.Decides.{nat_tests}, specs.{Prelude.{slice_get, Some, replicate, slice_index_or, if◌then◌else◌}, List.{range_with_len}}}
 use mathlib.Core.Bool.{false≢true}
-use Rattle.std.specs.Prelude.{slice_get, Some, replicate, slice_index_or, if◌then◌else◌}
-use Rattle.std.specs.List.{range_with_len}
-use Rattle.std.proofs.lemmas.List.{length-map, get_or-map, get_or_append_left, get_or_push, ext_get_or}
-use Rattle.std.proofs.lemmas.List.FromFn.{length-range_with_len, get_or-range_with_len}
-use Rattle.std.proofs.lemmas.Option.{slice_get-get_or}
-use Rattle.std.proofs.lemmas.Bool.{cases_eq, cases_Bool}
-use Rattle.std.proofs.lemmas.Bool.Decides.{nat_tests}
-use Rattle.lz_slot.specs.declared.slot.SlotRead.{SlotRead}
-use Rattle.lz_slot.specs.declared.slot.SlotRead.TheVariants.{Closed as Closed_read, Torn as Torn_read, Member as Member_read, BadKey as BadKey_read}
-use Rattle.lz_slot.specs.Limits.{most_slots_of, most_buckets, most_passes}
-use Rattle.lz_slot.specs.Rooms.{largest_of}
-use Rattle.lz_slot.specs.declared.format.Format.{Format}
-use Rattle.lz_slot.specs.Sets.{members}
-use Rattle.lz_slot.specs.Bytes.{Holds, format_of, open_byte, header_body, slot_at, held, held_key}
-use Rattle.lz_disk.specs.Images.{AreBytes, at_rest}
-use Rattle.lz_vault.specs.declared.vault.Stage.TheVariants.{Open}
-use Rattle.lz_vault.specs.Stages.{Cell, AreSteady, Suits}
-use Rattle.lz_vault.specs.Vaults.{Vaulted}
-use Rattle.lz_disk.specs.Devices.{Device}
-use Rattle.lz_vault.specs.Opens.{IsCellOf, AreFound, AreTornIn, AreBlank, MayOpen}
-use Rattle.lz_allot.specs.Uses.{Use, Free, Taken}
-use Rattle.lz_allot.specs.Allots.{Allotted}
-use Rattle.lz_list.specs.Lists.{Listed}
-use Rattle.lz_list.specs.Traces.{Chain, IsFound, has_slot, words_of_trace, opening}
-use Rattle.lz_list.proofs.Tables.WordTable.{length-table}
-use Rattle.lz_machine.specs.declared.actor.Actor.{Actor}
-use Rattle.lz_machine.specs.Yards.{cell_read, use_read, slots_read, opened_yard}
-use Rattle.lz_slot.specs.Nodes.{has_node}
-use Rattle.lz_vault.specs.Members.{member_in, member_at, no_cell}
-use Rattle.lz_yard.specs.Filling.{AreTables, IsFirst}
-use Rattle.lz_machine.specs.Runs.{IsStart, keys_found}
-use Rattle.lz_machine.proofs.Open.Texts.{text_of, text_size, text_head, text_format, text_says, text_bytes}
-use Rattle.lz_list.proofs.Chains.ChainNode.{node_slot}
-use Rattle.lz_machine.proofs.Open.FirstNodes.{node_held, held_found}
-use Rattle.lz_machine.proofs.Open.ListedKeys.{holds_listed}
-use Rattle.lz_yard.proofs.Opening.MemberNodes.{slot_node, are_found}
+use Rattle.lz_slot.specs.declared.slot.SlotRead.{SlotRead, TheVariants.{Closed as Closed_read, Torn as Torn_read, Member as Member_read, BadKey as BadKey_read}}
+use Rattle.lz_slot.specs.{declared.format.Format.{Format}, Limits.{most_slots_of, most_buckets, most_passes}, Rooms.{largest_of}, Sets.{members}}
+use Rattle.lz_slot.specs.{Bytes.{Holds, format_of, open_byte, header_body, slot_at, held, held_key}, Nodes.{has_node}}
+use Rattle.lz_disk.specs.{Images.{AreBytes, at_rest}, Devices.{Device}}
+use Rattle.lz_vault.specs.{declared.vault.Stage.TheVariants.{Open}, Stages.{Cell, AreSteady, Suits}, Vaults.{Vaulted}}
+use Rattle.lz_vault.specs.{Opens.{IsCellOf, AreFound, AreTornIn, AreBlank, MayOpen}, Members.{member_in, member_at, no_cell}}
 use Rattle.lz_vault.proofs.Members.{node_cases, are_distinct}
-use Rattle.lz_yard.proofs.Opening.MemberOrder.{Within, same_words_after}
-use Rattle.lz_yard.proofs.Opening.FilledTables.{opened}
-use Rattle.lz_yard.proofs.Opening.SlotReads.{read_length}
+use Rattle.lz_allot.specs.{Uses.{Use, Free, Taken}, Allots.{Allotted}}
+use Rattle.lz_list.{specs.{Lists.{Listed}, Traces.{Chain, IsFound, has_slot, words_of_trace, opening}}, proofs.Tables.WordTable.{length-table}}
+use Rattle.lz_list.proofs.Chains.ChainNode.{node_slot}
+use Rattle.lz_machine.specs.{declared.actor.Actor.{Actor}, Yards.{cell_read, use_read, slots_read, opened_yard}, Runs.{IsStart, keys_found}}
+use Rattle.lz_machine.proofs.Open.{Texts.{text_of, text_size, text_head, text_format, text_says, text_bytes}, FirstNodes.{node_held, held_found}}
+use Rattle.lz_machine.proofs.Open.ListedKeys.{holds_listed}
+use Rattle.lz_yard.{specs.Filling.{AreTables, IsFirst}, proofs.Opening.{MemberNodes.{slot_node, are_found}, MemberOrder.{Within, same_words_after}}}
+use Rattle.lz_yard.proofs.Opening.{FilledTables.{opened}, SlotReads.{read_length}}
 
 append_cases : (k s : ℕ) (c d : Chain) → has_node k s (c ++ d) ≡ true → (has_node k s c ≡ true) ⊎ (has_node k s d ≡ true)
 append_cases k s [] d there = inr there

@@ -1,24 +1,15 @@
 -- The words that an open fills are those after the trace of its members.
-use Rattle.std.proofs.Common.{◌≡◌, ◌≢◌, inl, inr, ℕ, suc, ◌<◌, ◌≤◌, true, false, ◌==◌, [], ◌∷◌, ◌++◌, length, refl, sym, ap, ◌∙◌, arith, length-set, length-append}
-use Rattle.std.specs.Prelude.{All, slice_set}
-use Rattle.std.proofs.lemmas.Bool.Decides.{nat_tests, eqb_tells}
-use Rattle.std.proofs.lemmas.List.{get_or_append_left}
-use Rattle.lz_slot.specs.Limits.{most_slots}
-use Rattle.lz_list.specs.declared.place.Place.TheVariants.{Bucket}
-use Rattle.lz_list.specs.declared.flags.Flags.{Flags}
-use Rattle.lz_list.specs.Words.{Words, link_with, next_at}
-use Rattle.lz_list.specs.Lists.{new_words}
-use Rattle.lz_list.specs.Traces.{Trace, Chain, Lawful, WordsShow, IsFound, insert, place_before, link_above, bucket_of, chain, chain_of, place_of, head_word, node_next, next_link, key_word, flags_after, words_of_trace, table, opening}
-use Rattle.lz_list.proofs.Traces.OpeningTrace.{opening_lawful}
-use Rattle.lz_list.proofs.Chains.TraceChain.{words_show_chain}
-use Rattle.lz_list.proofs.Tables.WordTable.{table_at, table_set, length-table}
+use Rattle.std.proofs.Common.{◌≡◌, ◌≢◌, inl, inr, ℕ, suc, ◌<◌, ◌≤◌, true, false, ◌==◌, [], ◌∷◌, ◌++◌, length, refl, sym, ap, ◌∙◌, arith, length-set}
+use Rattle.std.{proofs.{Common.{length-append}, lemmas.{Bool.Decides.{nat_tests, eqb_tells}, List.{get_or_append_left}}}, specs.Prelude.{All, slice_set}}
+use Rattle.lz_slot.specs.{Limits.{most_slots}, Nodes.{has_node}}
+use Rattle.lz_list.specs.{declared.{place.Place.TheVariants.{Bucket}, flags.Flags.{Flags}}, Words.{Words, link_with, next_at}, Lists.{new_words}}
+use Rattle.lz_list.specs.Traces.{Trace, Chain, Lawful, WordsShow, IsFound, insert, place_before, link_above, bucket_of, chain, chain_of, place_of, head_word}
+use Rattle.lz_list.{specs.Traces.{node_next, next_link, key_word, flags_after, words_of_trace, table, opening}, proofs.Traces.OpeningTrace.{opening_lawful}}
+use Rattle.lz_list.proofs.{Chains.{TraceChain.{words_show_chain}, ChainNode.{bucket_low}}, Tables.WordTable.{table_at, table_set, length-table}}
 use Rattle.lz_list.proofs.Tables.WordRow.{table_of}
-use Rattle.lz_list.proofs.Chains.ChainNode.{bucket_low}
-use Rattle.lz_slot.specs.Nodes.{has_node}
-use Rattle.lz_vault.specs.Members.{Ascends}
+use Rattle.lz_vault.{specs.Members.{Ascends}, proofs.Members.{node_first, node_later}}
 use Rattle.lz_yard.specs.Filling.{with_first, with_members}
 use Rattle.lz_machine.proofs.Frames.Ranges.{head_range}
-use Rattle.lz_vault.proofs.Members.{node_first, node_later}
 
 -- all keys of a chain are above this one
 abbrev AllAbove : ℕ → Chain → Type 0

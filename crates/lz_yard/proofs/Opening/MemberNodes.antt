@@ -1,13 +1,9 @@
 -- The members that an open found, as the list of the machine has them.
-use Rattle.std.proofs.Common.{◌≡◌, inl, inr, ℕ, ◌<◌, Bool, true, false, [], ◌∷◌, List, refl, sym, ◌∙◌, arith}
+use Rattle.std.proofs.{Common.{◌≡◌, inl, inr, ℕ, ◌<◌, Bool, true, false, [], ◌∷◌, List, refl, sym, ◌∙◌, arith}, lemmas.Option.{same_Some}}
+use Rattle.std.{proofs.lemmas.Bool.Decides.{nat_tests, eqb_tells}, specs.Prelude.{Some}}
 use mathlib.Core.Bool.{false≢true}
-use Rattle.std.specs.Prelude.{Some}
-use Rattle.std.proofs.lemmas.Option.{same_Some}
-use Rattle.std.proofs.lemmas.Bool.Decides.{nat_tests, eqb_tells}
-use Rattle.lz_vault.specs.Stages.{Cell}
+use Rattle.lz_vault.{specs.{Stages.{Cell}, Members.{member_at, Ascends}}, proofs.Members.{node_first, node_later}}
 use Rattle.lz_slot.specs.Nodes.{has_node}
-use Rattle.lz_vault.specs.Members.{member_at, Ascends}
-use Rattle.lz_vault.proofs.Members.{node_first, node_later}
 use Rattle.lz_list.specs.Traces.{Chain, has_key, has_slot, IsFound}
 
 -- a key, a slot that stands in a list is that of a node

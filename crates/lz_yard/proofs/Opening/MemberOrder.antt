@@ -1,18 +1,14 @@
 -- The words after an opening don't depend on the order in which its members stand.
 use Rattle.std.proofs.Common.{◌≡◌, ◌⊎◌, inl, inr, ℕ, suc, ◌≤◌, Bool, true, false, ◌==◌, [], ◌∷◌, refl, sym, ap, ◌∙◌, subst, arith}
+use Rattle.std.proofs.lemmas.Bool.{cases_eq, cases_Bool, Decides.{nat_tests, leb_tells, eqb_tells}}
 use mathlib.Core.Bool.{false≢true}
-use Rattle.std.proofs.lemmas.Bool.{cases_eq, cases_Bool}
-use Rattle.std.proofs.lemmas.Bool.Decides.{nat_tests, leb_tells, eqb_tells}
-use Rattle.lz_list.specs.Traces.{Trace, Chain, WordsShow, rank_at, on, IsFound, insert, bucket_of, chain, chain_of, place_of, has_slot, head_word, node_next, next_link, key_word, has_added, has_removed, flags_after, words_of_trace, halt_word, opening}
-use Rattle.lz_list.proofs.Chains.PlaceRank.{before_on, on_start}
+use Rattle.lz_list.specs.Traces.{Trace, Chain, WordsShow, rank_at, on, IsFound, insert, bucket_of, chain, chain_of, place_of, has_slot, head_word, node_next}
+use Rattle.lz_list.specs.Traces.{next_link, key_word, has_added, has_removed, flags_after, words_of_trace, halt_word, opening}
+use Rattle.lz_list.proofs.Chains.{PlaceRank.{before_on, on_start}, SortedChain.{same_pair}, TraceChain.{words_show_chain}, ChainNode.{node_slot}}
 use Rattle.lz_list.proofs.Traces.OpeningTrace.{opening_lawful}
-use Rattle.lz_list.proofs.Chains.SortedChain.{same_pair}
-use Rattle.lz_list.proofs.Chains.TraceChain.{words_show_chain}
 use Rattle.lz_slot.specs.Nodes.{has_node}
-use Rattle.lz_vault.specs.Members.{Ascends}
+use Rattle.lz_vault.{specs.Members.{Ascends}, proofs.Members.{node_cases, node_first, node_later}}
 use Rattle.lz_machine.proofs.Open.FirstNodes.{off_chains, none_marked}
-use Rattle.lz_vault.proofs.Members.{node_cases, node_first, node_later}
-use Rattle.lz_list.proofs.Chains.ChainNode.{node_slot}
 use Rattle.lz_yard.proofs.Opening.MemberNodes.{slot_node}
 
 -- the nodes of the first are nodes of the second

@@ -1,21 +1,13 @@
 -- The slots that an open finds taken are those of its members.
 use Rattle.std.proofs.Common.{◌≡◌, inl, inr, ℕ, zero, suc, ◌+◌, ◌<◌, Bool, true, false, ◌==◌, List, [], ◌∷◌, ◌++◌, length, sym, ap, ◌∙◌, arith}
-use mathlib.Core.Bool.{false≢true}
-use Rattle.std.specs.Prelude.{All, Option, Some, None, is_some, nat_lt, ◌&&◌, ◌||◌, if◌then◌else◌}
+use Rattle.std.proofs.{Math.Numerals.{add-one}, lemmas.{Bool.{cases_eq, cases_lt, cases_Bool, Decides.{nat_tests}}, List.{append-nil, Elements.{All-append}}}}
+use Rattle.std.{proofs.lemmas.List.Folds.{list_any-append}, specs.Prelude.{All, Option, Some, None, is_some, nat_lt, ◌&&◌, ◌||◌, if◌then◌else◌}}
 use Rattle.std.specs.List.{list_any}
-use Rattle.std.proofs.Math.Numerals.{add-one}
-use Rattle.std.proofs.lemmas.Bool.{cases_eq, cases_lt, cases_Bool}
-use Rattle.std.proofs.lemmas.Bool.Decides.{nat_tests}
-use Rattle.std.proofs.lemmas.List.{append-nil}
-use Rattle.std.proofs.lemmas.List.Elements.{All-append}
-use Rattle.std.proofs.lemmas.List.Folds.{list_any-append}
+use mathlib.Core.Bool.{false≢true}
 use Rattle.lz_slot.specs.Nodes.{has_node}
-use Rattle.lz_vault.specs.Stages.{Cell}
-use Rattle.lz_vault.specs.Members.{AreMembers, member_at}
-use Rattle.lz_list.specs.Traces.{Chain, has_slot}
-use Rattle.lz_list.proofs.Chains.ChainNode.{node_slot}
-use Rattle.lz_yard.specs.Filling.{taken_among}
-use Rattle.lz_yard.proofs.Opening.MemberNodes.{slot_node}
+use Rattle.lz_vault.specs.{Stages.{Cell}, Members.{AreMembers, member_at}}
+use Rattle.lz_list.{specs.Traces.{Chain, has_slot}, proofs.Chains.ChainNode.{node_slot}}
+use Rattle.lz_yard.{specs.Filling.{taken_among}, proofs.Opening.MemberNodes.{slot_node}}
 
 module _ (cells : List Cell) where
   -- a slot that is taken, or one that isn't

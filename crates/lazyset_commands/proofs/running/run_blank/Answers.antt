@@ -1,8 +1,8 @@
+use Rattle.lazyset_commands.proofs.running.run_blank.Goals as goal
 use Rattle.std.proofs.Common.{◌<◌, length, sym, subst, arith}
 use Rattle.lz_board.specs.Seats.{IsNew}
 use Rattle.lz_set.specs.Names.{MayCall}
 use Rattle.lazyset_commands.proofs.Services.{all_new}
-use Rattle.lazyset_commands.proofs.running.run_blank.Goals as goal
 
 pub remove-pass-requires : goal.remove-pass-requires
 remove-pass-requires g c = omega (arith, all_new g.N.Named.board c.start-set.result.1.items c.start-set.ensures.passes, c.requires.one)

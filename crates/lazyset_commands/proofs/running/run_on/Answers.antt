@@ -1,8 +1,7 @@
+use Rattle.lazyset_commands.proofs.running.run_on.Goals as goal
 use Rattle.std.proofs.Common.{inl, inr, refl, sym, ap, ◌∙◌}
 use Rattle.lz_list.specs.declared.layout.Sizes.{Sizes}
-use Rattle.lazyset_commands.proofs.Openings.{failed_open}
-use Rattle.lazyset_commands.proofs.Runs.LeftSets.{seat_faults, seat_set, seat_plain}
-use Rattle.lazyset_commands.proofs.running.run_on.Goals as goal
+use Rattle.lazyset_commands.proofs.{Openings.{failed_open}, Runs.LeftSets.{seat_faults, seat_set, seat_plain}}
 
 pub run_blank-requires-clause-one : goal.run_blank-requires-clause-one
 run_blank-requires-clause-one g c = ap (λ (z : Sizes). z.passes) c.in-Ok.ensures.board.0 ∙ c.in-Ok.ensures.ok.passes

@@ -1,11 +1,8 @@
-use Rattle.std.proofs.Common.{sym}
-use Rattle.lz_board.specs.Notes.{trace_of}
-use Rattle.lz_board.specs.Seats.{part}
-use Rattle.lz_board.proofs.Walk.GlanceAnswer.{halt_since}
-use Rattle.lz_serve.proofs.Halting.{session_halts}
-use Rattle.lazyset_commands.proofs.Runs.HandedPass.{one_since, one_welcome}
-use Rattle.lz_serve.proofs.Seats.{seat_session}
 use Rattle.lazyset_commands.proofs.running.run_pass.Goals as goal
+use Rattle.std.proofs.Common.{sym}
+use Rattle.lz_board.{specs.{Notes.{trace_of}, Seats.{part}}, proofs.Walk.GlanceAnswer.{halt_since}}
+use Rattle.lz_serve.proofs.{Halting.{session_halts}, Seats.{seat_session}}
+use Rattle.lazyset_commands.proofs.Runs.HandedPass.{one_since, one_welcome}
 
 pub returns : goal.returns
 returns g c =

@@ -1,8 +1,7 @@
-use Rattle.std.proofs.Common.{List, ℕ, [], ◌∷◌, Err, subst}
-use Rattle.std.specs.Io.KnownBytes.{Appends}
+use Rattle.lazyset_commands.proofs.serving.send_ended.Goals as goal
+use Rattle.std.{proofs.Common.{List, ℕ, [], ◌∷◌, Err, subst}, specs.Io.KnownBytes.{Appends}}
 use Rattle.lz_proto.specs.Steps.{SendTells}
 use Rattle.lazyset_offline.proofs.SentTexts.{sent_less, sent_more}
-use Rattle.lazyset_commands.proofs.serving.send_ended.Goals as goal
 
 pub returns-in-Err : goal.returns-in-Err
 returns-in-Err g c =

@@ -1,5 +1,5 @@
-use Rattle.std.proofs.Common.{rules, ◌≡◌, inr, false, refl}
 use Rattle.lazyset_commands.proofs.serving.serve_blank.Goals as goal
+use Rattle.std.proofs.Common.{rules, ◌≡◌, inr, false, refl}
 
 pub returns-then-not-tell_place : goal.returns-then-not-tell_place
 returns-then-not-tell_place g c =

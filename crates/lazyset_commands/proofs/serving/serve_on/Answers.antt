@@ -1,5 +1,5 @@
-use Rattle.std.proofs.Common.{inl, inr, ⊎_elim, ◌∙◌, arith}
 use Rattle.lazyset_commands.proofs.serving.serve_on.Goals as goal
+use Rattle.std.proofs.Common.{inl, inr, ⊎_elim, ◌∙◌, arith}
 
 pub returns-in-Ok-clause-ran : goal.returns-in-Ok-clause-ran
 returns-in-Ok-clause-ran g c =

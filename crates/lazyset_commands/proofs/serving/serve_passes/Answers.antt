@@ -1,12 +1,8 @@
-use Rattle.std.proofs.Common.{◌≡◌, ◌≤◌, ◌∙◌, All, ℕ, List, length, map, rules, subst, sym, true, false}
-use Rattle.std.specs.Prelude.{◌==◌}
-use Rattle.std.specs.List.{Any, list_any}
-use Rattle.lz_board.specs.declared.pass.Pass.{Pass}
-use Rattle.lz_board.specs.Seats.{IsOf, part}
-use Rattle.lz_serve.specs.Halts.{IsCalm, SawHalt}
-use Rattle.lazyset_commands.specs.Services.{AreUnused}
-use Rattle.lazyset_commands.proofs.Services.{all_new, new_calm, new_unused, served_passes}
 use Rattle.lazyset_commands.proofs.serving.serve_passes.Goals as goal
+use Rattle.std.{proofs.Common.{◌≡◌, ◌≤◌, ◌∙◌, All, ℕ, List, length, map, rules, subst, sym, true, false}, specs.{Prelude.{◌==◌}, List.{Any, list_any}}}
+use Rattle.lz_board.specs.{declared.pass.Pass.{Pass}, Seats.{IsOf, part}}
+use Rattle.lz_serve.specs.Halts.{IsCalm, SawHalt}
+use Rattle.lazyset_commands.{specs.Services.{AreUnused}, proofs.Services.{all_new, new_calm, new_unused, served_passes}}
 
 pub close_with-disk-requires : goal.close_with-disk-requires
 close_with-disk-requires g c = record { passes = subst (All (IsOf g.N.Named.board)) (sym c.as_mut_slice.ensures.value) (λ k d low. (c.serve_set-passes.ensures.may_call k d low).0) }

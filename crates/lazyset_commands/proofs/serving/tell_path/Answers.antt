@@ -1,7 +1,7 @@
+use Rattle.lazyset_commands.proofs.serving.tell_path.Goals as goal
 use Rattle.std.proofs.Common.{sym, ◌∙◌}
 use Rattle.lazyset_commands.specs.Services.{path_text}
 use Rattle.lazyset_offline.proofs.SentTexts.{flushed_part, flushed_whole}
-use Rattle.lazyset_commands.proofs.serving.tell_path.Goals as goal
 
 pub returns-clause-told : goal.returns-clause-told
 returns-clause-told g c = λ whole.

@@ -1,7 +1,7 @@
+use Rattle.lazyset_commands.proofs.serving.tell_port.Goals as goal
 use Rattle.std.proofs.Common.{◌<◌, sym, ◌∙◌, arith}
 use Rattle.lazyset_commands.specs.Services.{port_text}
 use Rattle.lazyset_offline.proofs.SentTexts.{flushed_part, flushed_whole}
-use Rattle.lazyset_commands.proofs.serving.tell_port.Goals as goal
 
 pub returns-clause-told : goal.returns-clause-told
 returns-clause-told g c = λ whole.

@@ -1,5 +1,5 @@
-use Rattle.lazyset_offline.proofs.SentTexts.{only_failed}
 use Rattle.lazyset_offline.proofs.checking.tell_no_survey.Goals as goal
+use Rattle.lazyset_offline.proofs.SentTexts.{only_failed}
 
 pub returns-in-Read-clause-failed : goal.returns-in-Read-clause-failed
 returns-in-Read-clause-failed g c = only_failed _ c.tell.ensures.told

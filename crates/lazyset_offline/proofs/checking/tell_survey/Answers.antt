@@ -1,7 +1,6 @@
-use Rattle.std.proofs.Common.{inl, inr}
-use Rattle.std.specs.String.{string_bytes}
-use Rattle.lazyset_offline.proofs.Pages.{found_told}
 use Rattle.lazyset_offline.proofs.checking.tell_survey.Goals as goal
+use Rattle.std.{proofs.Common.{inl, inr}, specs.String.{string_bytes}}
+use Rattle.lazyset_offline.proofs.Pages.{found_told}
 
 pub returns-in-Ok-clause-told : goal.returns-in-Ok-clause-told
 returns-in-Ok-clause-told g c =

@@ -1,11 +1,8 @@
+use Rattle.lazyset_offline.proofs.comparing.check_survey.Goals as goal
 use Rattle.std.proofs.Common.{inl, inr, ⊎_elim}
 use Rattle.lz_judge.specs.Renewals.{HoldOneSet}
-use Rattle.lazyset_offline.specs.Checks.{shown_text, survey_status}
-use Rattle.lazyset_offline.specs.Tellings.{Tells}
-use Rattle.lazyset_offline.specs.declared.shown.Shown.TheVariants.{Findings}
-use Rattle.lazyset_offline.specs.declared.status.Status.{Status}
+use Rattle.lazyset_offline.specs.{Checks.{shown_text, survey_status}, Tellings.{Tells}, declared.{shown.Shown.TheVariants.{Findings}, status.Status.{Status}}}
 use Rattle.lazyset_offline.proofs.SurveyEnds.{damaged_holds_none, of_any, told_done}
-use Rattle.lazyset_offline.proofs.comparing.check_survey.Goals as goal
 
 pub returns-in-Done : goal.returns-in-Done
 returns-in-Done g c =

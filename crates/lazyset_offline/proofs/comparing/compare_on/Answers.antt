@@ -1,6 +1,6 @@
+use Rattle.lazyset_offline.proofs.comparing.compare_on.Goals as goal
 use Rattle.std.proofs.Common.{inl, inr, ⊎_elim}
 use Rattle.lazyset_offline.proofs.SurveyEnds.{failed_not_done, failed_not_told, lacks_survey}
-use Rattle.lazyset_offline.proofs.comparing.compare_on.Goals as goal
 
 pub returns-in-Ok : goal.returns-in-Ok
 returns-in-Ok g c =

@@ -1,8 +1,6 @@
-use Rattle.std.proofs.Common.{inl, inr}
-use Rattle.lazyset_offline.proofs.SentTexts.{only_failed}
-use Rattle.lazyset_offline.proofs.SurveyEnds.{failed_not_done, failed_not_told}
-use Rattle.lazyset_offline.proofs.Verdicts.{apart_holds, done_holds, verdict_true}
 use Rattle.lazyset_offline.proofs.comparing.compare_surveys.Goals as goal
+use Rattle.std.proofs.Common.{inl, inr}
+use Rattle.lazyset_offline.proofs.{SentTexts.{only_failed}, SurveyEnds.{failed_not_done, failed_not_told}, Verdicts.{apart_holds, done_holds, verdict_true}}
 
 pub returns-in-Ok : goal.returns-in-Ok
 returns-in-Ok g c =

@@ -1,6 +1,6 @@
+use Rattle.lazyset_offline.proofs.copying.make_copy.Goals as goal
 use Rattle.std.proofs.Common.{arith, inr}
 use Rattle.lazyset_offline.proofs.Copied.{told_members}
-use Rattle.lazyset_offline.proofs.copying.make_copy.Goals as goal
 
 pub make_with-requires : goal.make_with-requires
 make_with-requires g c =

@@ -1,7 +1,6 @@
-use Rattle.std.proofs.Common.{sym, subst, IsTrue}
-use Rattle.std.proofs.lemmas.Result.{err_from_is_err_and}
-use Rattle.lazyset_offline.proofs.Grown.{named_old, named_put, reads_on, refused_late, renewed_still, syncs_then}
 use Rattle.lazyset_offline.proofs.growing.grow.Goals as goal
+use Rattle.std.proofs.{Common.{sym, subst, IsTrue}, lemmas.Result.{err_from_is_err_and}}
+use Rattle.lazyset_offline.proofs.Grown.{named_old, named_put, reads_on, refused_late, renewed_still, syncs_then}
 
 pub returns-in_err-members-clause-named : goal.returns-in_err-members-clause-named
 returns-in_err-members-clause-named g c = λ honest new_honest slots S holds.

@@ -1,12 +1,8 @@
-use Rattle.std.proofs.Common.{◌≡◌, refl, ap, inr, sym, ◌∙◌, true, false, Bool, ℕ, List}
-use Rattle.std.specs.Prelude.{not}
-use Rattle.std.specs.Bool.{Decides}
-use Rattle.std.specs.Cmp.Lexicographic.{pointwise}
-use Rattle.std.proofs.lemmas.Bool.Decides.{Decides-eqb}
-use Rattle.std.proofs.lemmas.Slice.Eq.{slice_eq-Decides}
+use Rattle.lazyset_offline.proofs.growing.read_again.Goals as goal
+use Rattle.std.proofs.{Common.{◌≡◌, refl, ap, inr, sym, ◌∙◌, true, false, Bool, ℕ, List}, lemmas.{Bool.Decides.{Decides-eqb}, Slice.Eq.{slice_eq-Decides}}}
+use Rattle.std.specs.{Prelude.{not}, Bool.{Decides}, Cmp.Lexicographic.{pointwise}}
 use Rattle.lz_vault.proofs.ReadAgain.{one_list}
 use Rattle.lazyset_offline.proofs.Grown.{at_rest_together, new_unread, old_unread}
-use Rattle.lazyset_offline.proofs.growing.read_again.Goals as goal
 
 pub returns-in-Err-clause-unread : goal.returns-in-Err-clause-unread
 returns-in-Err-clause-unread g c = λ ks held held_new.

@@ -1,8 +1,7 @@
-use Rattle.std.proofs.Common.{◌≡◌, inl, inr, ⊎_elim, sym, ◌∙◌}
-use Rattle.lazyset_offline.specs.Judgements.{FoundGood, FoundWrong}
-use Rattle.lazyset_offline.specs.declared.status.Status.TheVariants.{Done, Failed, Damaged}
-use Rattle.lazyset_offline.proofs.SentTexts.{only_failed, told_ends}
 use Rattle.lazyset_offline.proofs.judging.judge_history.Goals as goal
+use Rattle.std.proofs.Common.{◌≡◌, inl, inr, ⊎_elim, sym, ◌∙◌}
+use Rattle.lazyset_offline.specs.{Judgements.{FoundGood, FoundWrong}, declared.status.Status.TheVariants.{Done, Failed, Damaged}}
+use Rattle.lazyset_offline.proofs.SentTexts.{only_failed, told_ends}
 
 pub returns-in-Ok-Ok : goal.returns-in-Ok-Ok
 returns-in-Ok-Ok g c =

@@ -1,7 +1,6 @@
-use Rattle.std.proofs.Common.{◌≡◌, inl, inr, ⊎_elim, sym, ◌∙◌}
-use Rattle.lazyset_offline.specs.declared.status.Status.TheVariants.{Done, Failed, Refused, Damaged}
-use Rattle.lazyset_offline.proofs.SentTexts.{only_failed, told_ends}
 use Rattle.lazyset_offline.proofs.judging.judge_on.Goals as goal
+use Rattle.std.proofs.Common.{◌≡◌, inl, inr, ⊎_elim, sym, ◌∙◌}
+use Rattle.lazyset_offline.{specs.declared.status.Status.TheVariants.{Done, Failed, Refused, Damaged}, proofs.SentTexts.{only_failed, told_ends}}
 
 pub returns-in-Ok-Ok : goal.returns-in-Ok-Ok
 returns-in-Ok-Ok g c =

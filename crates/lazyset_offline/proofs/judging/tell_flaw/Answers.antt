@@ -1,10 +1,8 @@
+use Rattle.lazyset_offline.proofs.judging.tell_flaw.Goals as goal
 use Rattle.std.proofs.Common.{codes, ◌∙◌}
 use Rattle.lz_judge.specs.Flaws.{flaw_number, flaw_subject}
-use Rattle.lazyset_offline.specs.Judgements.{flaw_text}
-use Rattle.lazyset_offline.specs.declared.status.Status.TheVariants.{Damaged}
-use Rattle.lazyset_offline.proofs.SentTexts.{sent_tells}
+use Rattle.lazyset_offline.{specs.{Judgements.{flaw_text}, declared.status.Status.TheVariants.{Damaged}}, proofs.SentTexts.{sent_tells}}
 use Rattle.lazyset_offline.proofs.TwoNumbers.{two_same}
-use Rattle.lazyset_offline.proofs.judging.tell_flaw.Goals as goal
 
 pub returns : goal.returns
 returns g c =

@@ -1,7 +1,7 @@
+use Rattle.lazyset_offline.proofs.list.key_on.Goals as goal
 use Rattle.std.proofs.Common.{◌≡◌, sym, ◌∙◌, ap, false, true, refl}
 use Rattle.lz_slot.specs.Texts.{key_read}
 use Rattle.lazyset_offline.proofs.Listed.{spelled_by, spelled_not, spelled_other}
-use Rattle.lazyset_offline.proofs.list.key_on.Goals as goal
 
 pub returns-in_default-clause-none : goal.returns-in_default-clause-none
 returns-in_default-clause-none c =

@@ -1,6 +1,6 @@
+use Rattle.lazyset_offline.proofs.list.read_list.Goals as goal
 use Rattle.std.proofs.Common.{ℕ, Vec, Global, arith, take, ◌∙◌}
 use Rattle.lazyset_offline.proofs.ListPieces.{input_fails, input_lists, left_fails, left_first, left_more, left_none, same_members}
-use Rattle.lazyset_offline.proofs.list.read_list.Goals as goal
 
 pub pieces-init : goal.pieces-init
 pieces-init g c = record {

@@ -1,8 +1,6 @@
-use Rattle.std.proofs.Common.{◌≡◌, ◌<◌, length}
-use Rattle.std.specs.Prelude.{IfSome}
-use Rattle.lazyset_offline.specs.ListParts.{IsOpenList}
-use Rattle.lazyset_offline.proofs.ListPieces.{IsLeftOf}
 use Rattle.lazyset_offline.proofs.list.read_list.Given as goal
+use Rattle.std.{proofs.Common.{◌≡◌, ◌<◌, length}, specs.Prelude.{IfSome}}
+use Rattle.lazyset_offline.{specs.ListParts.{IsOpenList}, proofs.ListPieces.{IsLeftOf}}
 
 abbrev pub invariant-pieces : goal.invariant-pieces
 invariant-pieces g l = record {

@@ -1,5 +1,5 @@
-use Rattle.std.proofs.Common.{inr}
 use Rattle.lazyset_offline.proofs.listing.make_listed.Goals as goal
+use Rattle.std.proofs.Common.{inr}
 
 pub returns-in-Ok-make_with-clause-any_moment : goal.returns-in-Ok-make_with-clause-any_moment
 returns-in-Ok-make_with-clause-any_moment g c = λ honest.

@@ -1,5 +1,5 @@
-use Rattle.std.proofs.Common.{inl, inr}
 use Rattle.lazyset_offline.proofs.making.make_on.Goals as goal
+use Rattle.std.proofs.Common.{inl, inr}
 
 pub returns-in-Ok-clause-made : goal.returns-in-Ok-clause-made
 returns-in-Ok-clause-made g c = inl (record { fresh = c.in-Ok.ensures.filled; told = c.tell_made.ensures })

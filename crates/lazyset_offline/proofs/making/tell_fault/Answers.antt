@@ -1,8 +1,7 @@
+use Rattle.lazyset_offline.proofs.making.tell_fault.Goals as goal
 use Rattle.std.proofs.Common.{◌∙◌}
 use Rattle.lz_vault.specs.Makes.{make_fault_number}
-use Rattle.lazyset_offline.specs.Ends.{make_status}
-use Rattle.lazyset_offline.proofs.SentTexts.{number_tells}
-use Rattle.lazyset_offline.proofs.making.tell_fault.Goals as goal
+use Rattle.lazyset_offline.{specs.Ends.{make_status}, proofs.SentTexts.{number_tells}}
 
 pub returns : goal.returns
 returns g c = rw (c.status_sent.ensures, c.status_of.ensures)

@@ -1,5 +1,5 @@
-use Rattle.lazyset_offline.proofs.SentTexts.{refusal_ends, sent_tells, told_refused}
 use Rattle.lazyset_offline.proofs.refusal.refuse.Goals as goal
+use Rattle.lazyset_offline.proofs.SentTexts.{refusal_ends, sent_tells, told_refused}
 
 pub returns-clause-told : goal.returns-clause-told
 returns-clause-told g c = rw (c.status_sent.ensures, c.status_of.ensures) (sent_tells _ _ _ _ c.send_refusal.result c.send_refusal.ensures)

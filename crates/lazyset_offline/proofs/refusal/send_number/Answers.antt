@@ -1,6 +1,6 @@
+use Rattle.lazyset_offline.proofs.refusal.send_number.Goals as goal
 use Rattle.std.proofs.Common.{decimal, ◌∙◌}
 use Rattle.lazyset_offline.proofs.SentTexts.{sent_after, sent_less}
-use Rattle.lazyset_offline.proofs.refusal.send_number.Goals as goal
 
 pub returns-in-Err : goal.returns-in-Err
 returns-in-Err g c = sent_less _ _ c.args.words.now _ c.in-Err.fault c.in-Err.ensures

@@ -1,5 +1,5 @@
-use Rattle.lazyset_offline.proofs.TwoNumbers.{two_cut, two_sent}
 use Rattle.lazyset_offline.proofs.refusal.send_two.Goals as goal
+use Rattle.lazyset_offline.proofs.TwoNumbers.{two_cut, two_sent}
 
 pub returns-in-Err : goal.returns-in-Err
 returns-in-Err g c = two_cut c.args.words.now c.args.first c.args.second _ _ c.in-Err.fault c.in-Err.ensures

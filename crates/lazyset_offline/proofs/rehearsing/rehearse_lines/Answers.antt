@@ -1,5 +1,5 @@
-use Rattle.std.proofs.Common.{inl, inr}
 use Rattle.lazyset_offline.proofs.rehearsing.rehearse_lines.Goals as goal
+use Rattle.std.proofs.Common.{inl, inr}
 
 pub returns-in-Ok : goal.returns-in-Ok
 returns-in-Ok g c = inl (c.rehearse_world.ensures _ _ c.in-Ok.ensures)

@@ -1,7 +1,7 @@
+use Rattle.lazyset_offline.proofs.rehearsing.rehearse_world.Goals as goal
 use Rattle.std.proofs.Common.{Err, ap}
 use Rattle.lz_rehearsal.specs.declared.rehearsal.RehearsalFault.{RehearsalFault}
 use Rattle.lazyset_offline.proofs.RehearsalEnds.{fault_told}
-use Rattle.lazyset_offline.proofs.rehearsing.rehearse_world.Goals as goal
 
 pub returns-in-Err : goal.returns-in-Err
 returns-in-Err g c = λ shape format new.

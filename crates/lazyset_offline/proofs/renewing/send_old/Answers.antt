@@ -1,8 +1,7 @@
+use Rattle.lazyset_offline.proofs.renewing.send_old.Goals as goal
 use Rattle.std.proofs.Common.{codes, ◌∙◌}
 use Rattle.lz_vault.specs.Opens.{open_fault_number}
-use Rattle.lazyset_offline.proofs.LineTexts.{old_numbered}
-use Rattle.lazyset_offline.proofs.TwoNumbers.{one_same}
-use Rattle.lazyset_offline.proofs.renewing.send_old.Goals as goal
+use Rattle.lazyset_offline.proofs.{LineTexts.{old_numbered}, TwoNumbers.{one_same}}
 
 pub returns-in-BadKey : goal.returns-in-BadKey
 returns-in-BadKey g c = rw c.in-BadKey.is (one_same (codes "refused old 5 ") c.from.result c.in-BadKey.slot _ _ c.send_line.result (c.from.ensures ∙ c.index.ensures) c.send_line.ensures)

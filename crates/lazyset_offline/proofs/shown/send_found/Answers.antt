@@ -1,12 +1,9 @@
-use Rattle.std.proofs.Common.{ℕ, ◌+◌, List, ◌++◌, Err, ap, subst}
-use Rattle.std.specs.List.{flat_map}
-use Rattle.std.specs.String.{string_bytes}
+use Rattle.lazyset_offline.proofs.shown.send_found.Goals as goal
+use Rattle.std.{proofs.Common.{ℕ, ◌+◌, List, ◌++◌, Err, ap, subst}, specs.{List.{flat_map}, String.{string_bytes}}}
 use Rattle.lz_proto.specs.Steps.{IsCutShort, SendTells}
-use Rattle.lazyset_offline.specs.Checks.{end_text, line_of}
-use Rattle.lazyset_offline.specs.Tellings.{IsSentTo}
+use Rattle.lazyset_offline.specs.{Checks.{end_text, line_of}, Tellings.{IsSentTo}}
 use Rattle.lazyset_offline.proofs.Pages.{cut_tells, lines_all, lines_cut, lines_step, lines_to, page_all, page_cut, page_more, sent_or_cut}
 use Rattle.lazyset_offline.proofs.SentTexts.{sent_more}
-use Rattle.lazyset_offline.proofs.shown.send_found.Goals as goal
 
 pub returns-in-Err : goal.returns-in-Err
 returns-in-Err g c =

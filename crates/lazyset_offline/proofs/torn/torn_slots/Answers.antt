@@ -1,6 +1,6 @@
+use Rattle.lazyset_offline.proofs.torn.torn_slots.Goals as goal
 use Rattle.std.proofs.Common.{arith}
 use Rattle.lazyset_offline.proofs.TornSlots.{gated_has, refused_has}
-use Rattle.lazyset_offline.proofs.torn.torn_slots.Goals as goal
 
 pub returns-in_default : goal.returns-in_default
 returns-in_default g c =

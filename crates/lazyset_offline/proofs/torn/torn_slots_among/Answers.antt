@@ -1,9 +1,7 @@
-use Rattle.std.proofs.Common.{◌≡◌, ◌+◌, ap, sym, ◌∙◌, arith}
-use Rattle.lz_slot.specs.Bytes.{slot_at, slot_read}
-use Rattle.lz_slot.specs.declared.format.Format.TheVariants.{Four}
-use Rattle.lazyset_offline.specs.Torn.{is_torn}
-use Rattle.lazyset_offline.proofs.TornSlots.{says_in_piece, torn_more, torn_same}
 use Rattle.lazyset_offline.proofs.torn.torn_slots_among.Goals as goal
+use Rattle.std.proofs.Common.{◌≡◌, ◌+◌, ap, sym, ◌∙◌, arith}
+use Rattle.lz_slot.specs.{Bytes.{slot_at, slot_read}, declared.format.Format.TheVariants.{Four}}
+use Rattle.lazyset_offline.{specs.Torn.{is_torn}, proofs.TornSlots.{says_in_piece, torn_more, torn_same}}
 use Rattle.lazyset_offline.proofs.torn.torn_slots_among.Goals.{then-is_torn, else-is_torn}
 
 pub loop-index-preserved : goal.loop-index-preserved

@@ -1,9 +1,8 @@
+use Rattle.lazyset_offline.proofs.torn.torn_slots_among.Given as goal
 use Rattle.std.proofs.Common.{◌≡◌, ◌+◌, ◌≤◌, ℕ, List}
-use Rattle.lz_slot.specs.Bytes.{format_of, slot_at}
-use Rattle.lz_slot.specs.declared.format.Format.TheVariants.{Four}
+use Rattle.lz_slot.specs.{Bytes.{format_of, slot_at}, declared.format.Format.TheVariants.{Four}}
 use Rattle.lz_judge.specs.Scans.{IsPieceAt}
 use Rattle.lazyset_offline.specs.Torn.{torn_below}
-use Rattle.lazyset_offline.proofs.torn.torn_slots_among.Given as goal
 
 abbrev pub invariant-loop-index : goal.invariant-loop-index
 invariant-loop-index l = record {

@@ -1,6 +1,6 @@
+use Rattle.lazyset_offline.proofs.torn.torn_slots_behind.Goals as goal
 use Rattle.std.proofs.Common.{rules, ◌≡◌, ◌*◌, length, length-append, drop, arith, length-drop, length-take}
 use Rattle.lazyset_offline.proofs.TornSlots.{counted_all, counted_more, counted_none}
-use Rattle.lazyset_offline.proofs.torn.torn_slots_behind.Goals as goal
 
 pub loop-done-init : goal.loop-done-init
 loop-done-init g c = record {

@@ -1,9 +1,7 @@
-use Rattle.std.proofs.Common.{◌≡◌, ◌-◌, ◌≤◌, ℕ, List, Option, length}
-use Rattle.std.specs.Io.KnownBytes.{Consumes}
-use Rattle.lz_slot.specs.Bytes.{format_of}
-use Rattle.lz_slot.specs.declared.format.Format.TheVariants.{Four}
-use Rattle.lazyset_offline.proofs.TornSlots.{HasCounted}
 use Rattle.lazyset_offline.proofs.torn.torn_slots_behind.Given as goal
+use Rattle.std.{proofs.Common.{◌≡◌, ◌-◌, ◌≤◌, ℕ, List, Option, length}, specs.Io.KnownBytes.{Consumes}}
+use Rattle.lz_slot.specs.{Bytes.{format_of}, declared.format.Format.TheVariants.{Four}}
+use Rattle.lazyset_offline.proofs.TornSlots.{HasCounted}
 
 abbrev pub invariant-loop-done : goal.invariant-loop-done
 invariant-loop-done g l = record {

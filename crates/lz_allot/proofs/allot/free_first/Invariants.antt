@@ -1,8 +1,7 @@
-use Rattle.std.proofs.Common.{◌≡◌, true, take, drop}
-use Rattle.std.specs.VecDeque.{deque_capacity}
-use Rattle.lz_allot.specs.Allots.{set_each}
 use Rattle.lz_allot.specs.declared.kind.Kind.TheVariants as kind
 use Rattle.lz_allot.proofs.allot.free_first.Given as goal
+use Rattle.std.{proofs.Common.{◌≡◌, true, take, drop}, specs.VecDeque.{deque_capacity}}
+use Rattle.lz_allot.specs.Allots.{set_each}
 
 abbrev pub invariant-loop : goal.invariant-loop
 invariant-loop l = record {

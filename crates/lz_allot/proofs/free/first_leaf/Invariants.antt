@@ -1,6 +1,6 @@
+use Rattle.lz_allot.proofs.free.first_leaf.Given as goal
 use Rattle.std.proofs.Common.{◌-◌}
 use Rattle.lz_allot.specs.Trees.{IsStart}
-use Rattle.lz_allot.proofs.free.first_leaf.Given as goal
 
 abbrev pub invariant-loop-first : goal.invariant-loop-first
 invariant-loop-first l = IsStart l.first

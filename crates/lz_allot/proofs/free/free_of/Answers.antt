@@ -1,6 +1,6 @@
+use Rattle.lz_allot.proofs.free.free_of.Goals as goal
 use Rattle.std.proofs.Common.{◌+◌, ◌∙◌, arith}
 use Rattle.lz_allot.proofs.FilledTrees.{filled_shown, filled_tree}
-use Rattle.lz_allot.proofs.free.free_of.Goals as goal
 
 pub invariant_of-result : goal.invariant_of-result
 invariant_of-result c =

@@ -1,6 +1,6 @@
+use Rattle.lz_allot.proofs.free.leaf_words.Goals as goal
 use Rattle.std.proofs.Common.{arith}
 use Rattle.lz_allot.proofs.FilledTrees.{filled_all, filled_more, leaf_inside}
-use Rattle.lz_allot.proofs.free.leaf_words.Goals as goal
 
 pub loop-done-preserved : goal.loop-done-preserved
 loop-done-preserved c =

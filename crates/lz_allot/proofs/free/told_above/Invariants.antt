@@ -1,5 +1,5 @@
-use Rattle.lz_allot.proofs.FilledTrees.{IsToldFrom}
 use Rattle.lz_allot.proofs.free.told_above.Given as goal
+use Rattle.lz_allot.proofs.FilledTrees.{IsToldFrom}
 
 abbrev pub invariant-loop-node : goal.invariant-loop-node
 invariant-loop-node l = IsToldFrom l.initial.told.items l.told.items l.first l.node

@@ -1,7 +1,5 @@
-use Rattle.std.proofs.Common.{◌∙◌}
-use Rattle.std.specs.Int.{w64}
-use Rattle.std.proofs.lemmas.Nat.Bits.{bit_at_set_same, bit_at_set_other, bit_at_clear_same, bit_at_clear_other}
 use Rattle.lz_allot.proofs.free.with_bit.Goals as goal
+use Rattle.std.{proofs.{Common.{◌∙◌}, lemmas.Nat.Bits.{bit_at_set_same, bit_at_set_other, bit_at_clear_same, bit_at_clear_other}}, specs.Int.{w64}}
 
 pub returns-then-is_set-clause-set : goal.returns-then-is_set-clause-set
 returns-then-is_set-clause-set c = bit_at_set_same w64 c.args.word c.args.bit c.requires ∙ rw c.if-is_set.true

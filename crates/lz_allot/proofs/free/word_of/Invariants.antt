@@ -1,7 +1,6 @@
-use Rattle.std.proofs.Common.{◌≡◌, ℕ, ◌+◌, ◌<◌, ◌≤◌, if◌then◌else◌}
-use Rattle.std.specs.Int.{bit_at}
-use Rattle.lz_allot.specs.Allots.{is_free_kind, kind_at}
 use Rattle.lz_allot.proofs.free.word_of.Given as goal
+use Rattle.std.{proofs.Common.{◌≡◌, ℕ, ◌+◌, ◌<◌, ◌≤◌, if◌then◌else◌}, specs.Int.{bit_at}}
+use Rattle.lz_allot.specs.Allots.{is_free_kind, kind_at}
 
 abbrev pub invariant-loop-bit : goal.invariant-loop-bit
 invariant-loop-bit l = record {

@@ -1,7 +1,6 @@
-use Rattle.std.proofs.Common.{arith}
-use Rattle.std.proofs.lemmas.List.{length-replicate, take_all, get_or_read}
-use Rattle.lz_allot.proofs.FilledPlaces.{length-set_each, set_each_more}
 use Rattle.lz_allot.proofs.kind.first_kinds.Goals as goal
+use Rattle.std.proofs.{Common.{arith}, lemmas.List.{length-replicate, take_all, get_or_read}}
+use Rattle.lz_allot.proofs.FilledPlaces.{length-set_each, set_each_more}
 
 pub index_mut-requires : goal.index_mut-requires
 index_mut-requires c = grind (arith, length-set_each, length-replicate)

@@ -1,8 +1,6 @@
-use Rattle.std.proofs.Common.{◌<◌, get_or, length, arith}
-use Rattle.std.proofs.lemmas.List.{get_or_default}
-use Rattle.std.proofs.lemmas.List.Edits.{map_over_more}
-use Rattle.lz_allot.specs.Rows.{row_freed, first_row}
 use Rattle.lz_allot.proofs.row.drop_first.Goals as goal
+use Rattle.std.proofs.{Common.{◌<◌, get_or, length, arith}, lemmas.List.{get_or_default, Edits.{map_over_more}}}
+use Rattle.lz_allot.specs.Rows.{row_freed, first_row}
 
 pub loop-row-preserved : goal.loop-row-preserved
 loop-row-preserved c =

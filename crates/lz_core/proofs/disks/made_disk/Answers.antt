@@ -1,7 +1,6 @@
-use Rattle.std.proofs.Common.{◌≡◌, false, Result, Ok, Err, OnOk, refl, sym, ◌∙◌}
-use Rattle.std.specs.Result.{is_err}
-use Rattle.lz_core.proofs.Opens.SuitedDisk.{suited_fresh}
 use Rattle.lz_core.proofs.disks.made_disk.Goals as goal
+use Rattle.std.{proofs.Common.{◌≡◌, false, Result, Ok, Err, OnOk, refl, sym, ◌∙◌}, specs.Result.{is_err}}
+use Rattle.lz_core.proofs.Opens.SuitedDisk.{suited_fresh}
 
 -- what holds of a result that is no fault
 of_done : {E P : Type 0} (r : Result (Unit {0}) E) → is_err r ≡ false → OnOk r P → P

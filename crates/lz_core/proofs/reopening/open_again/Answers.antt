@@ -1,6 +1,6 @@
+use Rattle.lz_core.proofs.reopening.open_again.Goals as goal
 use Rattle.std.proofs.Common.{refl}
 use Rattle.lz_core.proofs.Members.ShownKeys.{ascend_from, opened_keys}
-use Rattle.lz_core.proofs.reopening.open_again.Goals as goal
 
 pub returns-in-Ok-clause-keys : goal.returns-in-Ok-clause-keys
 returns-in-Ok-clause-keys c =

@@ -1,9 +1,7 @@
-use Rattle.std.proofs.Common.{◌≡◌, ◌≤◌, ℕ, List, Some, slice_get, ap, ◌∙◌, sym, subst}
-use Rattle.std.proofs.lemmas.Bool.{false≢true}
-use Rattle.lz_slot.specs.Sets.{members}
-use Rattle.lz_core.specs.Worlds.{Ascend}
-use Rattle.lz_core.proofs.Members.AscendingKeys.{Below, ascend_insert, members_insert, from_there}
 use Rattle.lz_core.proofs.shown.insert_key.Goals as goal
+use Rattle.std.proofs.{Common.{◌≡◌, ◌≤◌, ℕ, List, Some, slice_get, ap, ◌∙◌, sym, subst}, lemmas.Bool.{false≢true}}
+use Rattle.lz_slot.specs.Sets.{members}
+use Rattle.lz_core.{specs.Worlds.{Ascend}, proofs.Members.AscendingKeys.{Below, ascend_insert, members_insert, from_there}}
 
 pub returns-clause-ascending : goal.returns-clause-ascending
 returns-clause-ascending c =

@@ -1,8 +1,6 @@
-use Rattle.std.proofs.Common.{◌≡◌, ◌↔◌, ℕ, Some, refl, subst}
-use Rattle.lz_core.specs.Worlds.{IsListed}
-use Rattle.lz_core.proofs.Members.AscendingKeys.{put, left}
-use Rattle.lz_core.proofs.shown.members_of.Goals.{in-Some+in_ok-insert_key, in_default}
 use Rattle.lz_core.proofs.shown.members_of.Goals as goal
+use Rattle.std.proofs.Common.{◌≡◌, ◌↔◌, ℕ, Some, refl, subst}
+use Rattle.lz_core.{specs.Worlds.{IsListed}, proofs.{Members.AscendingKeys.{put, left}, shown.members_of.Goals.{in-Some+in_ok-insert_key, in_default}}}
 
 pub loop-index-preserved : goal.loop-index-preserved
 loop-index-preserved c =

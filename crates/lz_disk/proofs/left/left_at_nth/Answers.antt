@@ -1,8 +1,6 @@
-use Rattle.std.proofs.Common.{◌≡◌, ◌<◌, ◌≤◌, length, sym, ◌∙◌, arith}
-use Rattle.std.proofs.lemmas.Grind.{same_number_lists}
-use Rattle.lz_disk.specs.Records.{after}
-use Rattle.lz_disk.proofs.PickImages.{length-with_nth, nth_at}
 use Rattle.lz_disk.proofs.left.left_at_nth.Goals as goal
+use Rattle.std.proofs.{Common.{◌≡◌, ◌<◌, ◌≤◌, length, sym, ◌∙◌, arith}, lemmas.Grind.{same_number_lists}}
+use Rattle.lz_disk.{specs.Records.{after}, proofs.PickImages.{length-with_nth, nth_at}}
 
 pub returns : goal.returns
 returns c = λ bytewise start.

@@ -1,10 +1,9 @@
-use Rattle.std.proofs.Common.{rules, ◌≡◌, ◌≤◌, ◌<◌, ℕ, Bool, true, false, length, get_or, if◌then◌else◌, sym, ◌∙◌, ap, arith}
-use Rattle.std.proofs.lemmas.List.{set-get_or}
-use Rattle.std.proofs.lemmas.Bool.{ltb-false}
-use Rattle.lz_disk.specs.Picks.{is_taken}
-use Rattle.lz_disk.proofs.MaskImages.{masking_begins, masking_pushes, masking_goes_on, masking_stops, masking_ends}
-use Rattle.lz_disk.proofs.left.left_by_mask.Goals.{then-at-len, else-at-len, then-at-len-2+in_ok-push, else-at-len-2+then-is_taken-2, else-at-len-2+else-is_taken-2, then-loop-at-test+else-is_taken, else-loop-at-test}
 use Rattle.lz_disk.proofs.left.left_by_mask.Goals as goal
+use Rattle.std.proofs.{Common.{rules, ◌≡◌, ◌≤◌, ◌<◌, ℕ, Bool, true, false, length, get_or, if◌then◌else◌, sym, ◌∙◌, ap, arith}, lemmas.List.{set-get_or}}
+use Rattle.std.proofs.lemmas.Bool.{ltb-false}
+use Rattle.lz_disk.{specs.Picks.{is_taken}, proofs.MaskImages.{masking_begins, masking_pushes, masking_goes_on, masking_stops, masking_ends}}
+use Rattle.lz_disk.proofs.left.left_by_mask.Goals.{then-at-len, else-at-len, then-at-len-2+in_ok-push, else-at-len-2+then-is_taken-2}
+use Rattle.lz_disk.proofs.left.left_by_mask.Goals.{else-at-len-2+else-is_taken-2, then-loop-at-test+else-is_taken, else-loop-at-test}
 
 pub loop-at-init : goal.loop-at-init
 loop-at-init c = masking_begins c.args.sure.now c.args.seen.now c.args.mask c.in_ok-text.text.items (search rules)

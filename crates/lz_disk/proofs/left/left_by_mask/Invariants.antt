@@ -1,6 +1,6 @@
+use Rattle.lz_disk.proofs.left.left_by_mask.Given as goal
 use Rattle.std.proofs.Common.{◌-◌, length}
 use Rattle.lz_disk.proofs.MaskImages.{IsMasking}
-use Rattle.lz_disk.proofs.left.left_by_mask.Given as goal
 
 abbrev pub invariant-loop-at : goal.invariant-loop-at
 invariant-loop-at l = IsMasking l.sure l.seen l.mask l.at l.text.items

@@ -1,9 +1,7 @@
-use Rattle.std.proofs.Common.{rules, ◌<◌, length, ap}
-use Rattle.lz_disk.specs.Records.{after_record}
-use Rattle.lz_disk.specs.declared.memory.Record.{Record}
-use Rattle.lz_disk.proofs.NthWrites.{choosing_adds, choosing_syncs}
-use Rattle.lz_disk.proofs.left.nth_written.Goals.{in-Wrote, in-Failed, in-Synced}
 use Rattle.lz_disk.proofs.left.nth_written.Goals as goal
+use Rattle.std.proofs.Common.{rules, ◌<◌, length, ap}
+use Rattle.lz_disk.{specs.{Records.{after_record}, declared.memory.Record.{Record}}, proofs.NthWrites.{choosing_adds, choosing_syncs}}
+use Rattle.lz_disk.proofs.left.nth_written.Goals.{in-Wrote, in-Failed, in-Synced}
 
 pub loop-index-preserved : goal.loop-index-preserved
 loop-index-preserved c =

@@ -1,6 +1,6 @@
+use Rattle.lz_disk.proofs.left.nth_written.Given as goal
 use Rattle.std.proofs.Common.{◌-◌, length}
 use Rattle.lz_disk.proofs.NthWrites.{IsChoosing}
-use Rattle.lz_disk.proofs.left.nth_written.Given as goal
 
 abbrev pub invariant-loop-index : goal.invariant-loop-index
 invariant-loop-index l = IsChoosing l.changes l.number l.at l.byte l.index l.choice.times l.choice.byte

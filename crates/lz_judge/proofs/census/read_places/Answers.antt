@@ -1,8 +1,6 @@
-use Rattle.std.proofs.Common.{List, sym, subst, take, reverse, take_all}
-use Rattle.lz_judge.specs.declared.history.Point.{Point}
-use Rattle.lz_judge.specs.Readings.{HasPlaces}
-use Rattle.lz_judge.proofs.Readings.NextMark.{newest_at}
 use Rattle.lz_judge.proofs.census.read_places.Goals as goal
+use Rattle.std.proofs.Common.{List, sym, subst, take, reverse, take_all}
+use Rattle.lz_judge.{specs.{declared.history.Point.{Point}, Readings.{HasPlaces}}, proofs.Readings.NextMark.{newest_at}}
 
 pub loop-point-preserved : goal.loop-point-preserved
 loop-point-preserved c =

@@ -1,8 +1,7 @@
+use Rattle.lz_judge.proofs.census.take_census.Goals as goal
 use Rattle.std.proofs.Common.{List, sym, subst, take, reverse, take_all}
 use Rattle.lz_slot.specs.declared.history.Mark.{Mark}
-use Rattle.lz_judge.specs.Readings.{IsCensus}
-use Rattle.lz_judge.proofs.Readings.NextMark.{newest_more}
-use Rattle.lz_judge.proofs.census.take_census.Goals as goal
+use Rattle.lz_judge.{specs.Readings.{IsCensus}, proofs.Readings.NextMark.{newest_more}}
 
 pub loop-mark-preserved : goal.loop-mark-preserved
 loop-mark-preserved c =

@@ -1,12 +1,9 @@
-use Rattle.std.proofs.Common.{◌∙◌, sym, subst, ℕ, [], reverse}
-use Rattle.lz_slot.specs.Sets.{members}
-use Rattle.lz_slot.specs.Histories.{lives}
-use Rattle.lz_judge.specs.Records.{IsPoint}
-use Rattle.lz_judge.specs.Readings.{IsAt, Ordered}
-use Rattle.lz_judge.proofs.Readings.ReadingTable.{at_point, chain_same, known_all, place_point, places_low, wrong_flaw, wrong_set_flaw}
-use Rattle.lz_judge.proofs.Lives.FirstFlaw.{behind_order, behind_points}
-use Rattle.lz_judge.proofs.Lives.GoodVerdict.{flawless}
 use Rattle.lz_judge.proofs.judging.first_flaw.Goals as goal
+use Rattle.std.proofs.Common.{◌∙◌, sym, subst, ℕ, [], reverse}
+use Rattle.lz_slot.specs.{Sets.{members}, Histories.{lives}}
+use Rattle.lz_judge.specs.{Records.{IsPoint}, Readings.{IsAt, Ordered}}
+use Rattle.lz_judge.proofs.Readings.ReadingTable.{at_point, chain_same, known_all, place_point, places_low, wrong_flaw, wrong_set_flaw}
+use Rattle.lz_judge.proofs.Lives.{FirstFlaw.{behind_order, behind_points}, GoodVerdict.{flawless}}
 
 pub misordered-requires-clause-low : goal.misordered-requires-clause-low
 misordered-requires-clause-low c = places_low (reverse c.args.points.now) c.args.places.now c.requires.places c.requires.low

@@ -1,8 +1,7 @@
-use Rattle.std.proofs.Common.{◌≡◌, ◌∙◌, sym, Some, None, true, false, reverse}
-use Rattle.lz_judge.proofs.Lives.FirstFlaw.{first_refused, first_stranger, first_twin, first_unlisted}
-use Rattle.lz_judge.proofs.Lives.GoodVerdict.{is_made_tells}
-use Rattle.lz_judge.proofs.Readings.ReadingTable.{made_is, only_place, place_point, point_place}
 use Rattle.lz_judge.proofs.judging.flaw_of_points.Goals as goal
+use Rattle.std.proofs.Common.{◌≡◌, ◌∙◌, sym, Some, None, true, false, reverse}
+use Rattle.lz_judge.proofs.Lives.{FirstFlaw.{first_refused, first_stranger, first_twin, first_unlisted}, GoodVerdict.{is_made_tells}}
+use Rattle.lz_judge.proofs.Readings.ReadingTable.{made_is, only_place, place_point, point_place}
 
 pub returns-in-Some-clause-flaw : goal.returns-in-Some-clause-flaw
 returns-in-Some-clause-flaw c =

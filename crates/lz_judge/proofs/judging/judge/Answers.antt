@@ -1,13 +1,8 @@
-use Rattle.std.proofs.Common.{sym, subst, List, [], reverse}
-use Rattle.lz_slot.specs.Sets.{members}
-use Rattle.lz_slot.specs.Histories.{ChainTo, lives}
-use Rattle.lz_slot.specs.declared.history.Mark.{Mark}
-use Rattle.lz_judge.specs.declared.flaw.Flaw.{Flaw}
-use Rattle.lz_judge.specs.declared.history.Point.{Point}
-use Rattle.lz_judge.specs.Records.{ArePlaces, IsLawful, IsPoint, Record}
-use Rattle.lz_judge.specs.Flaws.{IsFlaw, OrderedChain}
-use Rattle.lz_judge.proofs.Readings.ReadingTable.{ordered_chain}
 use Rattle.lz_judge.proofs.judging.judge.Goals as goal
+use Rattle.std.proofs.Common.{sym, subst, List, [], reverse}
+use Rattle.lz_slot.specs.{Sets.{members}, Histories.{ChainTo, lives}, declared.history.Mark.{Mark}}
+use Rattle.lz_judge.specs.{declared.{flaw.Flaw.{Flaw}, history.Point.{Point}}, Records.{ArePlaces, IsLawful, IsPoint, Record}, Flaws.{IsFlaw, OrderedChain}}
+use Rattle.lz_judge.proofs.Readings.ReadingTable.{ordered_chain}
 
 pub first_flaw-requires-clause-lawful : goal.first_flaw-requires-clause-lawful
 first_flaw-requires-clause-lawful c = subst IsLawful c.marks-marks.ensures.marks c.marks-marks.ensures.lawful

@@ -1,8 +1,7 @@
+use Rattle.lz_judge.proofs.listing.with_answered.Goals as goal
 use Rattle.std.proofs.Common.{◌∙◌, sym, subst, ◌∷◌}
 use Rattle.lz_slot.specs.declared.history.Mark.{Mark}
-use Rattle.lz_judge.specs.Readings.{UnlistedOnes}
-use Rattle.lz_judge.proofs.Readings.NextMark.{unlisted_listed, unlisted_more, unlisted_other, some_there, none_there}
-use Rattle.lz_judge.proofs.listing.with_answered.Goals as goal
+use Rattle.lz_judge.{specs.Readings.{UnlistedOnes}, proofs.Readings.NextMark.{unlisted_listed, unlisted_more, unlisted_other, some_there, none_there}}
 
 pub returns-then-contains_key : goal.returns-then-contains_key
 returns-then-contains_key c = λ M before.

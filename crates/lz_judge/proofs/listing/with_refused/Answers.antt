@@ -1,8 +1,7 @@
+use Rattle.lz_judge.proofs.listing.with_refused.Goals as goal
 use Rattle.std.proofs.Common.{◌∙◌, sym, subst, ◌∷◌}
 use Rattle.lz_slot.specs.declared.history.Mark.{Mark}
-use Rattle.lz_judge.specs.Readings.{RefusedOnes}
-use Rattle.lz_judge.proofs.Readings.NextMark.{refused_unlisted, refused_more, some_there, none_there}
-use Rattle.lz_judge.proofs.listing.with_refused.Goals as goal
+use Rattle.lz_judge.{specs.Readings.{RefusedOnes}, proofs.Readings.NextMark.{refused_unlisted, refused_more, some_there, none_there}}
 
 pub returns-then-contains_key : goal.returns-then-contains_key
 returns-then-contains_key c = λ M before.

@@ -1,7 +1,7 @@
-use Rattle.std.proofs.Common.{◌∙◌, sym, ap, ℕ, subst, nat_cmp}
 use Rattle.std.specs.BTreeSet as set
-use Rattle.lz_judge.proofs.Readings.NextMark.{strangers_called, strangers_uncalled, IsLesser}
 use Rattle.lz_judge.proofs.listing.with_stranger.Goals as goal
+use Rattle.std.proofs.Common.{◌∙◌, sym, ap, ℕ, subst, nat_cmp}
+use Rattle.lz_judge.proofs.Readings.NextMark.{strangers_called, strangers_uncalled, IsLesser}
 
 pub returns-then-contains : goal.returns-then-contains
 returns-then-contains c = λ points point is before.

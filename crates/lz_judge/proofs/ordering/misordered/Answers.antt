@@ -1,10 +1,7 @@
+use Rattle.lz_judge.proofs.ordering.misordered.Goals as goal
 use Rattle.std.proofs.Common.{sym, subst, List, take, ◌+◌, reverse}
 use Rattle.lz_slot.specs.declared.history.Mark.{Mark}
-use Rattle.lz_judge.specs.Records.{IsLawful}
-use Rattle.lz_judge.specs.Readings.{Floored}
-use Rattle.lz_judge.proofs.Lives.LawfulHistory.{lawful_so_far}
-use Rattle.lz_judge.proofs.Readings.NextMark.{newest_more}
-use Rattle.lz_judge.proofs.ordering.misordered.Goals as goal
+use Rattle.lz_judge.{specs.{Records.{IsLawful}, Readings.{Floored}}, proofs.{Lives.LawfulHistory.{lawful_so_far}, Readings.NextMark.{newest_more}}}
 
 pub loop-mark-init : goal.loop-mark-init
 loop-mark-init c = c.new-floor.ensures c.args.places.now

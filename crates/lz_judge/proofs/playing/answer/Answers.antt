@@ -1,12 +1,9 @@
-use Rattle.std.proofs.Common.{◌≢◌, ◌⊎◌, inl, inr, refl, ℕ, Bool, nat_cmp}
 use Rattle.std.specs.BTreeMap as tree
-use Rattle.std.specs.Cmp.{booleans_Decides}
-use Rattle.std.proofs.lemmas.Bool.{both_ways}
-use Rattle.lz_slot.specs.Sets.{key_of, reply}
-use Rattle.std.proofs.Common.{◌≡◌, sym, ◌∙◌, Some, None}
-use Rattle.std.proofs.lemmas.Option.{same_Some}
-use Rattle.lz_judge.proofs.Readings.NextMark.{lesser_one, lesser_some}
 use Rattle.lz_judge.proofs.playing.answer.Goals as goal
+use Rattle.std.proofs.{Common.{◌≢◌, ◌⊎◌, inl, inr, refl, ℕ, Bool, nat_cmp, ◌≡◌, sym, ◌∙◌, Some, None}, lemmas.{Bool.{both_ways}, Option.{same_Some}}}
+use Rattle.std.specs.Cmp.{booleans_Decides}
+use Rattle.lz_slot.specs.Sets.{key_of, reply}
+use Rattle.lz_judge.proofs.Readings.NextMark.{lesser_one, lesser_some}
 
 pub returns-then-told-reply-clause-plays : goal.returns-then-told-reply-clause-plays
 returns-then-told-reply-clause-plays c = λ S is.

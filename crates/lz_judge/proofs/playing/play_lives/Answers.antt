@@ -1,11 +1,8 @@
-use Rattle.std.proofs.Common.{sym, subst, arith, ◌∙◌, List, take, ◌+◌, reverse}
-use Rattle.std.proofs.lemmas.List.{length-reverse, length-take, take_all}
-use Rattle.lz_slot.specs.declared.history.Mark.{Mark}
-use Rattle.lz_judge.specs.Plays.{Compared, IsKnown, Played, Ran}
-use Rattle.lz_judge.proofs.Readings.NextMark.{newest_more}
-use Rattle.lz_judge.proofs.Readings.CallTurn.{known_so_far, played_all}
-use Rattle.lz_judge.proofs.Lives.WrongAnswer.{opens_within, wrong_all}
 use Rattle.lz_judge.proofs.playing.play_lives.Goals as goal
+use Rattle.std.proofs.{Common.{sym, subst, arith, ◌∙◌, List, take, ◌+◌, reverse}, lemmas.List.{length-reverse, length-take, take_all}}
+use Rattle.lz_slot.specs.declared.history.Mark.{Mark}
+use Rattle.lz_judge.{specs.Plays.{Compared, IsKnown, Played, Ran}, proofs.Readings.{NextMark.{newest_more}, CallTurn.{known_so_far, played_all}}}
+use Rattle.lz_judge.proofs.Lives.WrongAnswer.{opens_within, wrong_all}
 
 pub loop-mark-preserved : goal.loop-mark-preserved
 loop-mark-preserved c =

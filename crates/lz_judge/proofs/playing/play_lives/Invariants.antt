@@ -1,6 +1,6 @@
+use Rattle.lz_judge.proofs.playing.play_lives.Given as goal
 use Rattle.std.proofs.Common.{take, reverse}
 use Rattle.lz_judge.specs.Plays.{Compared, Played, Ran}
-use Rattle.lz_judge.proofs.playing.play_lives.Given as goal
 
 abbrev pub invariant-loop-mark : goal.invariant-loop-mark
 invariant-loop-mark l = record {

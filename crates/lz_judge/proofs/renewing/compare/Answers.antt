@@ -1,8 +1,7 @@
-use Rattle.std.proofs.Common.{List, ℕ, refl}
-use Rattle.lz_judge.specs.Surveys.{IsSurveyed}
-use Rattle.lz_judge.specs.declared.renewing.RenewFlaw.TheVariants.{Missing, Extra}
-use Rattle.lz_judge.proofs.OneSet.{extra, flaw_parts, missing, none_extra, none_missing}
 use Rattle.lz_judge.proofs.renewing.compare.Goals as goal
+use Rattle.std.proofs.Common.{List, ℕ, refl}
+use Rattle.lz_judge.specs.{Surveys.{IsSurveyed}, declared.renewing.RenewFlaw.TheVariants.{Missing, Extra}}
+use Rattle.lz_judge.proofs.OneSet.{extra, flaw_parts, missing, none_extra, none_missing}
 
 pub returns-in_default-clause-same : goal.returns-in_default-clause-same
 returns-in_default-clause-same c = λ before after old new. (λ never. absurd (cc), λ (S, (N, one), other). absurd (c.in_default.ensures before old (N, S, one)))

@@ -1,7 +1,6 @@
-use Rattle.lz_judge.proofs.KeysOutside.{all_found_within, found_outside, found_within}
-use Rattle.lz_judge.specs.Surveys.{found_keys}
-use Rattle.std.proofs.Common.{sym, ◌∙◌}
 use Rattle.lz_judge.proofs.renewing.first_outside.Goals as goal
+use Rattle.lz_judge.{proofs.KeysOutside.{all_found_within, found_outside, found_within}, specs.Surveys.{found_keys}}
+use Rattle.std.proofs.Common.{sym, ◌∙◌}
 
 pub returns-then-is_some : goal.returns-then-is_some
 returns-then-is_some c = λ table. let S = found_keys c.args.others.now in

@@ -1,10 +1,6 @@
-use Rattle.std.proofs.Common.{List, sym, ◌∙◌, subst}
-use Rattle.lz_judge.specs.Surveys.{IsSurveyed}
-use Rattle.lz_judge.specs.Renewals.{AreHeld}
-use Rattle.lz_judge.specs.declared.finding.Finding.{Finding}
-use Rattle.lz_judge.specs.declared.finding.Survey.{Survey}
-use Rattle.lz_judge.proofs.OneSet.{held_found}
 use Rattle.lz_judge.proofs.renewing.held_findings.Goals as goal
+use Rattle.std.proofs.Common.{List, sym, ◌∙◌, subst}
+use Rattle.lz_judge.{specs.{Surveys.{IsSurveyed}, Renewals.{AreHeld}, declared.finding.{Finding.{Finding}, Survey.{Survey}}}, proofs.OneSet.{held_found}}
 
 pub returns-in-Found : goal.returns-in-Found
 returns-in-Found c = λ t surveyed.

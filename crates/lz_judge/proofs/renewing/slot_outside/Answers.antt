@@ -1,6 +1,6 @@
+use Rattle.lz_judge.proofs.renewing.slot_outside.Goals as goal
 use Rattle.std.proofs.Common.{◌∙◌, Some, ap, sym}
 use Rattle.lz_judge.proofs.KeysOutside.{key_any, key_none}
-use Rattle.lz_judge.proofs.renewing.slot_outside.Goals as goal
 
 pub returns-in-Some : goal.returns-in-Some
 returns-in-Some c = λ table.

@@ -1,7 +1,6 @@
-use Rattle.std.proofs.Common.{rules, ◌-◌, length}
-use Rattle.lz_judge.proofs.Surveys.PieceReads.{fill_kept, fill_more}
 use Rattle.lz_judge.proofs.surveying.fill.Goals as goal
-use Rattle.lz_judge.proofs.surveying.fill.Goals.{in-Ok, in-Err+else-ne}
+use Rattle.std.proofs.Common.{rules, ◌-◌, length}
+use Rattle.lz_judge.proofs.{Surveys.PieceReads.{fill_kept, fill_more}, surveying.fill.Goals.{in-Ok, in-Err+else-ne}}
 
 pub tries-preserved : goal.tries-preserved
 tries-preserved g c =

@@ -1,6 +1,5 @@
-use Rattle.std.proofs.Common.{◌≡◌, ◌≤◌, length, take}
-use Rattle.std.specs.Io.KnownBytes.{Consumes}
 use Rattle.lz_judge.proofs.surveying.fill.Given as goal
+use Rattle.std.{proofs.Common.{◌≡◌, ◌≤◌, length, take}, specs.Io.KnownBytes.{Consumes}}
 
 abbrev pub invariant-tries : goal.invariant-tries
 invariant-tries g l = record {

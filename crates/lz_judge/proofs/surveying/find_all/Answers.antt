@@ -1,7 +1,8 @@
-use Rattle.std.proofs.Common.{◌≡◌, ℕ, ◌+◌, ◌-◌, ◌/◌, ◌++◌, List, [], take, drop, length, ap, sym, ◌∙◌, subst, arith, take_all, append-nil, length-drop, length-take-le, take-append-drop}
+use Rattle.lz_judge.proofs.surveying.find_all.Goals as goal
+use Rattle.std.proofs.Common.{◌≡◌, ℕ, ◌+◌, ◌-◌, ◌/◌, ◌++◌, List, [], take, drop, length, ap, sym, ◌∙◌, subst, arith, take_all, append-nil, length-drop}
+use Rattle.std.proofs.Common.{length-take-le, take-append-drop}
 use Rattle.lz_slot.specs.Bytes.{slot_at}
 use Rattle.lz_judge.specs.Surveys.{AreFindings}
-use Rattle.lz_judge.proofs.surveying.find_all.Goals as goal
 
 pub returns : goal.returns
 returns c =

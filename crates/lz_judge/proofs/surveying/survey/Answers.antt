@@ -1,8 +1,7 @@
-use Rattle.std.proofs.Common.{◌≡◌, Ok, arith, sym, ◌∙◌, length}
-use Rattle.lz_slot.specs.Bytes.{header_read}
-use Rattle.lz_slot.proofs.Files.ExactBytes.{header_counts, header_is_of_its_count}
-use Rattle.lz_judge.proofs.Surveys.SoundFile.{sound_holds, held_head}
 use Rattle.lz_judge.proofs.surveying.survey.Goals as goal
+use Rattle.std.proofs.Common.{◌≡◌, Ok, arith, sym, ◌∙◌, length}
+use Rattle.lz_slot.{specs.Bytes.{header_read}, proofs.Files.ExactBytes.{header_counts, header_is_of_its_count}}
+use Rattle.lz_judge.proofs.Surveys.SoundFile.{sound_holds, held_head}
 
 pub returns-in_ok-find_all-in-Ok-clause-good : goal.returns-in_ok-find_all-in-Ok-clause-good
 returns-in_ok-find_all-in-Ok-clause-good c =

@@ -1,7 +1,6 @@
-use Rattle.std.proofs.Common.{◌≡◌, ◌<◌, length, take, arith, subst, take_all, length-take-le}
-use Rattle.std.specs.Io.KnownBytes.{Consumes}
-use Rattle.lz_judge.proofs.Surveys.PieceReads.{read_fault, read_part}
 use Rattle.lz_judge.proofs.surveying.survey_of.Goals as goal
+use Rattle.std.{proofs.Common.{◌≡◌, ◌<◌, length, take, arith, subst, take_all, length-take-le}, specs.Io.KnownBytes.{Consumes}}
+use Rattle.lz_judge.proofs.Surveys.PieceReads.{read_fault, read_part}
 
 pub returns-then-branch-lt16 : goal.returns-then-branch-lt16
 returns-then-branch-lt16 g c =

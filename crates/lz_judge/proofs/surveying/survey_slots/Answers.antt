@@ -1,7 +1,7 @@
+use Rattle.lz_judge.proofs.surveying.survey_slots.Goals as goal
 use Rattle.std.proofs.Common.{rules, ◌≡◌, ◌*◌, Bool, length, length-append, drop, arith, subst, length-drop, length-take}
 use Rattle.lz_judge.specs.Scans.{EndsWithin, GivesPiece, HadMore, TakesPiece}
 use Rattle.lz_judge.proofs.Surveys.PieceReads.{read_longer, read_more, read_none, read_short, read_whole}
-use Rattle.lz_judge.proofs.surveying.survey_slots.Goals as goal
 
 pub loop-done-init : goal.loop-done-init
 loop-done-init g c = record {

@@ -1,8 +1,6 @@
-use Rattle.std.proofs.Common.{◌≡◌, ◌-◌, ◌≤◌, ℕ, List, Option, length}
-use Rattle.std.specs.Io.KnownBytes.{Consumes}
-use Rattle.lz_judge.specs.Scans.{BeginsWith}
-use Rattle.lz_judge.proofs.Surveys.PieceReads.{HasRead}
 use Rattle.lz_judge.proofs.surveying.survey_slots.Given as goal
+use Rattle.std.{proofs.Common.{◌≡◌, ◌-◌, ◌≤◌, ℕ, List, Option, length}, specs.Io.KnownBytes.{Consumes}}
+use Rattle.lz_judge.{specs.Scans.{BeginsWith}, proofs.Surveys.PieceReads.{HasRead}}
 
 abbrev pub invariant-loop-done : goal.invariant-loop-done
 invariant-loop-done g l = record {

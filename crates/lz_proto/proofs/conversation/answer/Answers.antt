@@ -1,7 +1,6 @@
-use Rattle.std.proofs.Common.{◌∙◌, [], ◌∷◌, ap, rules}
-use Rattle.lz_proto.specs.Sessions.{Answered}
-use Rattle.lz_proto.proofs.Serving.{fault_answered, item_cut, request_answered}
 use Rattle.lz_proto.proofs.conversation.answer.Goals as goal
+use Rattle.std.proofs.Common.{◌∙◌, [], ◌∷◌, ap, rules}
+use Rattle.lz_proto.{specs.Sessions.{Answered}, proofs.Serving.{fault_answered, item_cut, request_answered}}
 use Rattle.lz_proto.proofs.conversation.answer.Goals.{After-send, in-Asks, in-Faulty}
 
 -- the text answers the item

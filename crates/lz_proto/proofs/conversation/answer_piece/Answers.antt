@@ -1,6 +1,6 @@
+use Rattle.lz_proto.proofs.conversation.answer_piece.Goals as goal
 use Rattle.std.proofs.Common.{sym, rules}
 use Rattle.lz_proto.proofs.Serving.{next_done, next_ends, next_fails, piece_fails}
-use Rattle.lz_proto.proofs.conversation.answer_piece.Goals as goal
 
 pub returns-in-Err : goal.returns-in-Err
 returns-in-Err g c =

@@ -1,7 +1,7 @@
-use Rattle.std.proofs.Common.{take}
 use Rattle.lz_proto.specs.declared.end.End.TheVariants as ends
-use Rattle.lz_proto.specs.Sessions.{Answered, Writes}
 use Rattle.lz_proto.proofs.conversation.answer_piece.Given as goal
+use Rattle.std.proofs.Common.{take}
+use Rattle.lz_proto.specs.Sessions.{Answered, Writes}
 
 abbrev pub invariant-items : goal.invariant-items
 invariant-items g l =

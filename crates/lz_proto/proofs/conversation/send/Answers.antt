@@ -1,7 +1,6 @@
-use Rattle.std.proofs.Common.{ℕ, List, ap, Bor}
-use Rattle.lz_proto.proofs.Bytes.{sent_more, sent_kept}
 use Rattle.lz_proto.proofs.conversation.send.Goals as goal
-use Rattle.lz_proto.proofs.conversation.send.Goals.{in-Ok, in-Err+else-ne}
+use Rattle.std.proofs.Common.{ℕ, List, ap, Bor}
+use Rattle.lz_proto.proofs.{Bytes.{sent_more, sent_kept}, conversation.send.Goals.{in-Ok, in-Err+else-ne}}
 
 pub tries-preserved : goal.tries-preserved
 tries-preserved g c =

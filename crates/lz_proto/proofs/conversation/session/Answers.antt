@@ -1,7 +1,7 @@
-use Rattle.std.proofs.Common.{take, Some, None, Ok, arith, rules}
 use Rattle.lz_proto.specs.declared.end.End.TheVariants as ends
-use Rattle.lz_proto.proofs.Begun.{begun_more, begun_ends, begun_fails, begun_end}
 use Rattle.lz_proto.proofs.conversation.session.Goals as goal
+use Rattle.std.proofs.Common.{take, Some, None, Ok, arith, rules}
+use Rattle.lz_proto.proofs.Begun.{begun_more, begun_ends, begun_fails, begun_end}
 
 pub returns-in-Some : goal.returns-in-Some
 returns-in-Some g c =

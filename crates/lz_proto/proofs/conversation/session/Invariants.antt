@@ -1,7 +1,6 @@
-use Rattle.std.proofs.Common.{◌<◌, length}
-use Rattle.lz_proto.specs.Sessions.{Writes}
-use Rattle.lz_proto.proofs.Begun.{Begun}
 use Rattle.lz_proto.proofs.conversation.session.Given as goal
+use Rattle.std.proofs.Common.{◌<◌, length}
+use Rattle.lz_proto.{specs.Sessions.{Writes}, proofs.Begun.{Begun}}
 
 abbrev pub invariant-pieces : goal.invariant-pieces
 invariant-pieces g l =

@@ -1,6 +1,6 @@
+use Rattle.lz_proto.proofs.line.read_request.Goals as goal
 use Rattle.std.proofs.Common.{rules, Ok, Err}
 use Rattle.lz_proto.proofs.LineReads.{add_read, remove_read, has_read}
-use Rattle.lz_proto.proofs.line.read_request.Goals as goal
 
 pub returns-in-Ok : goal.returns-in-Ok
 returns-in-Ok c = add_read c.args.line.now (Ok c.in-Ok.key) (search rules) (search rules) (search rules) c.in-Ok.ensures

@@ -1,6 +1,6 @@
+use Rattle.lz_proto.proofs.lines.add_first.Goals as goal
 use Rattle.std.proofs.Common.{◌∙◌, ◌++◌, rules}
 use Rattle.lz_proto.proofs.Texts.{adds_kept, kept_before}
-use Rattle.lz_proto.proofs.lines.add_first.Goals as goal
 
 pub returns-clause-ok : goal.returns-clause-ok
 returns-clause-ok c =

@@ -1,7 +1,6 @@
-use Rattle.std.proofs.Common.{◌∙◌, List, [], ◌∷◌, ◌++◌, None, ap, append_assoc, refl}
-use Rattle.lz_proto.specs.declared.item.Item.{Item}
-use Rattle.lz_proto.proofs.Texts.{after_end, clear_all, first_line, first_quit, goes_on_more, goes_on_read}
 use Rattle.lz_proto.proofs.lines.add_items.Goals as goal
+use Rattle.std.proofs.Common.{◌∙◌, List, [], ◌∷◌, ◌++◌, None, ap, append_assoc, refl}
+use Rattle.lz_proto.{specs.declared.item.Item.{Item}, proofs.Texts.{after_end, clear_all, first_line, first_quit, goes_on_more, goes_on_read}}
 
 pub returns-then-branch : goal.returns-then-branch
 returns-then-branch c =

@@ -1,6 +1,6 @@
+use Rattle.lz_proto.proofs.lines.keep.Goals as goal
 use Rattle.std.proofs.Common.{[], take}
 use Rattle.lz_proto.proofs.Texts.{extended, take_least}
-use Rattle.lz_proto.proofs.lines.keep.Goals as goal
 
 pub returns-clause-ok : goal.returns-clause-ok
 returns-clause-ok c =

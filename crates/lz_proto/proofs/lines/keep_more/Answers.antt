@@ -1,6 +1,6 @@
+use Rattle.lz_proto.proofs.lines.keep_more.Goals as goal
 use Rattle.std.proofs.Common.{◌-◌, ◌++◌, take, arith}
 use Rattle.lz_proto.proofs.Texts.{extended, kept_more}
-use Rattle.lz_proto.proofs.lines.keep_more.Goals as goal
 
 pub returns-clause-ok : goal.returns-clause-ok
 returns-clause-ok c =

@@ -1,7 +1,6 @@
-use Rattle.std.proofs.Common.{◌+◌, ◌++◌, [], ◌∷◌, None, Some, sym}
-use Rattle.std.proofs.lemmas.List.{append-nil, take_rest}
-use Rattle.lz_proto.proofs.Texts.{first_quit, no_line, read_rest, reads_kept, short_take}
 use Rattle.lz_proto.proofs.lines.read_piece.Goals as goal
+use Rattle.std.proofs.{Common.{◌+◌, ◌++◌, [], ◌∷◌, None, Some, sym}, lemmas.List.{append-nil, take_rest}}
+use Rattle.lz_proto.proofs.Texts.{first_quit, no_line, read_rest, reads_kept, short_take}
 
 pub returns-in_default-clause-ok : goal.returns-in_default-clause-ok
 returns-in_default-clause-ok c = (

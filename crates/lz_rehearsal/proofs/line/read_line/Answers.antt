@@ -1,6 +1,6 @@
+use Rattle.lz_rehearsal.proofs.line.read_line.Goals as goal
 use Rattle.std.proofs.Common.{rules}
 use Rattle.lz_rehearsal.proofs.LineReads.{call_line, turn_line, until_line, finish_line, trip_line, stop_line, crash_line, open_line, show_line}
-use Rattle.lz_rehearsal.proofs.line.read_line.Goals as goal
 
 pub returns-then-starts_with : goal.returns-then-starts_with
 returns-then-starts_with c = call_line c.args.text.now c.read_call.result (search rules) (search rules) c.read_call.ensures

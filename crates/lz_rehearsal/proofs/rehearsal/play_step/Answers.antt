@@ -1,8 +1,7 @@
-use Rattle.std.proofs.Common.{ℕ, Err, refl, ap, ◌∙◌}
-use Rattle.lz_core.proofs.Runs.JoinedPlays.{same_fault}
-use Rattle.lz_core.specs.declared.world.PlayFault.TheVariants.{NotNow}
-use Rattle.lz_rehearsal.proofs.Rehearsed.{step_put, stopped}
 use Rattle.lz_rehearsal.proofs.rehearsal.play_step.Goals as goal
+use Rattle.std.proofs.Common.{ℕ, Err, refl, ap, ◌∙◌}
+use Rattle.lz_core.{proofs.Runs.JoinedPlays.{same_fault}, specs.declared.world.PlayFault.TheVariants.{NotNow}}
+use Rattle.lz_rehearsal.proofs.Rehearsed.{step_put, stopped}
 
 pub returns-in-Ok-clause-ok : goal.returns-in-Ok-clause-ok
 returns-in-Ok-clause-ok c =

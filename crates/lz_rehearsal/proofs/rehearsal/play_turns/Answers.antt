@@ -1,5 +1,5 @@
-use Rattle.lz_rehearsal.proofs.Rehearsed.{going_ends, going_enough, going_on}
 use Rattle.lz_rehearsal.proofs.rehearsal.play_turns.Goals as goal
+use Rattle.lz_rehearsal.proofs.Rehearsed.{going_ends, going_enough, going_on}
 
 pub returns-in-Ok-Some-clause-ok : goal.returns-in-Ok-Some-clause-ok
 returns-in-Ok-Some-clause-ok c =

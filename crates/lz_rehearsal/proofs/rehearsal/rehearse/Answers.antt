@@ -1,9 +1,8 @@
-use Rattle.std.proofs.Common.{sym}
-use Rattle.std.proofs.lemmas.Result.{err_from_is_err_and}
+use Rattle.lz_rehearsal.proofs.rehearsal.rehearse.Goals as goal
+use Rattle.std.proofs.{Common.{sym}, lemmas.Result.{err_from_is_err_and}}
 use Rattle.lz_core.proofs.Runs.JoinedPlays.{same_fault}
 use Rattle.lz_rehearsal.specs.declared.rehearsal.RehearsalFault.TheVariants.{Line, Write, Memory}
 use Rattle.lz_rehearsal.proofs.Rehearsed.{begins, ends_at, ends_cut_short, ends_within, goes_on}
-use Rattle.lz_rehearsal.proofs.rehearsal.rehearse.Goals as goal
 
 pub loop-before-init : goal.loop-before-init
 loop-before-init g c = record {

@@ -1,6 +1,6 @@
+use Rattle.lz_rehearsal.proofs.rehearsal.rehearse.Given as goal
 use Rattle.std.proofs.Common.{take}
 use Rattle.lz_rehearsal.specs.Rehearsals.{Rehearses}
-use Rattle.lz_rehearsal.proofs.rehearsal.rehearse.Given as goal
 
 abbrev pub invariant-loop-before : goal.invariant-loop-before
 invariant-loop-before g l = record {

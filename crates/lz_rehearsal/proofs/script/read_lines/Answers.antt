@@ -1,6 +1,6 @@
+use Rattle.lz_rehearsal.proofs.script.read_lines.Goals as goal
 use Rattle.std.proofs.Common.{rules}
 use Rattle.lz_rehearsal.proofs.Scripting.{fails_last, fault_told, leaves_all, leaves_next, ended_rest}
-use Rattle.lz_rehearsal.proofs.script.read_lines.Goals as goal
 
 pub loop-end-init : goal.loop-end-init
 loop-end-init c = rw c.new-lines.ensures.items (leaves_all c.args.text.now)

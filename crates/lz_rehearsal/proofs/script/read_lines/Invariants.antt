@@ -1,6 +1,6 @@
+use Rattle.lz_rehearsal.proofs.script.read_lines.Given as goal
 use Rattle.std.proofs.Common.{length}
 use Rattle.lz_rehearsal.proofs.Scripting.{Leaves}
-use Rattle.lz_rehearsal.proofs.script.read_lines.Given as goal
 
 abbrev pub invariant-loop-end : goal.invariant-loop-end
 invariant-loop-end l = Leaves l.text l.rest l.lines.items

@@ -1,6 +1,6 @@
+use Rattle.lz_rehearsal.proofs.script.read_text.Goals as goal
 use Rattle.std.proofs.Common.{ap}
 use Rattle.lz_rehearsal.proofs.Scripting.{taken_text}
-use Rattle.lz_rehearsal.proofs.script.read_text.Goals as goal
 
 pub returns-in-Ok-clause-ok : goal.returns-in-Ok-clause-ok
 returns-in-Ok-clause-ok g c =

@@ -1,6 +1,6 @@
+use Rattle.lz_rehearsal.proofs.telling.write_keys.Goals as goal
 use Rattle.std.proofs.Common.{sym}
 use Rattle.lz_rehearsal.proofs.Appending.{keys_next}
-use Rattle.lz_rehearsal.proofs.telling.write_keys.Goals as goal
 
 pub loop-key-preserved : goal.loop-key-preserved
 loop-key-preserved g c =

@@ -1,6 +1,6 @@
+use Rattle.lz_rehearsal.proofs.telling.write_marks.Goals as goal
 use Rattle.std.proofs.Common.{sym}
 use Rattle.lz_rehearsal.proofs.Appending.{marks_next}
-use Rattle.lz_rehearsal.proofs.telling.write_marks.Goals as goal
 
 pub loop-mark-preserved : goal.loop-mark-preserved
 loop-mark-preserved g c =

@@ -1,9 +1,7 @@
-use Rattle.std.proofs.Common.{◌≡◌, ◌≢◌, ◌++◌, All, drop}
-use Rattle.std.specs.Prelude.{map, option_map}
-use Rattle.lz_proto.specs.declared.request.Request.TheVariants.{Quit}
-use Rattle.lz_resp.specs.Commands.{requests_of}
-use Rattle.lz_resp.specs.Keys.{subset_of}
 use Rattle.lz_resp.proofs.asking.requests_of.Given as goal
+use Rattle.std.{proofs.Common.{◌≡◌, ◌≢◌, ◌++◌, All, drop}, specs.Prelude.{map, option_map}}
+use Rattle.lz_proto.specs.declared.request.Request.TheVariants.{Quit}
+use Rattle.lz_resp.specs.{Commands.{requests_of}, Keys.{subset_of}}
 
 abbrev pub invariant-loop-member : goal.invariant-loop-member
 invariant-loop-member l =

@@ -1,6 +1,6 @@
+use Rattle.lz_resp.proofs.digits.read_one.Goals as goal
 use Rattle.std.proofs.Common.{◌∙◌, sym, arith}
 use Rattle.lz_resp.proofs.ShortLines.{line_of_one}
-use Rattle.lz_resp.proofs.digits.read_one.Goals as goal
 
 pub returns-clause-number : goal.returns-clause-number
 returns-clause-number c =

@@ -1,8 +1,6 @@
-use Rattle.std.proofs.Common.{◌≡◌, ◌∙◌, ℕ, List, [], ◌∷◌, ◌++◌, Bor, drop, refl, sym, ap, rules}
-use Rattle.std.specs.Prelude.{map}
-use Rattle.std.proofs.lemmas.List.{append-nil}
-use Rattle.lz_resp.specs.Commands.{shown_all}
 use Rattle.lz_resp.proofs.errors.push_all.Goals as goal
+use Rattle.std.{proofs.{Common.{◌≡◌, ◌∙◌, ℕ, List, [], ◌∷◌, ◌++◌, Bor, drop, refl, sym, ap, rules}, lemmas.List.{append-nil}}, specs.Prelude.{map}}
+use Rattle.lz_resp.specs.Commands.{shown_all}
 
 -- no word is shown where there is no room
 shown_none : (words : List (List ℕ)) → shown_all 0 words ≡ []

@@ -1,7 +1,6 @@
-use Rattle.std.proofs.Common.{◌≡◌, ◌++◌, drop}
-use Rattle.std.specs.Prelude.{map}
-use Rattle.lz_resp.specs.Commands.{shown_all}
 use Rattle.lz_resp.proofs.errors.push_all.Given as goal
+use Rattle.std.{proofs.Common.{◌≡◌, ◌++◌, drop}, specs.Prelude.{map}}
+use Rattle.lz_resp.specs.Commands.{shown_all}
 
 abbrev pub invariant-loop-word : goal.invariant-loop-word
 invariant-loop-word l =

@@ -1,12 +1,8 @@
-use Rattle.std.proofs.Common.{◌≡◌, ◌∙◌, [], ◌∷◌, ℕ, List, Bor, drop, refl, sym, ap, subst}
-use Rattle.std.specs.Prelude.{map}
-use Rattle.std.proofs.lemmas.List.{append-nil}
-use Rattle.std.proofs.lemmas.Result.{IfOk-weaker}
-use Rattle.lz_resp.specs.Pieces.{Adds, step_with, stops}
-use Rattle.lz_resp.specs.Replies.{fault_text}
-use Rattle.lz_resp.specs.declared.item.Item.TheVariants.{Ends}
-use Rattle.lz_resp.proofs.Texts.{first_frame, first_waits, first_wrong}
 use Rattle.lz_resp.proofs.frames.add_any.Goals as goal
+use Rattle.std.proofs.{Common.{◌≡◌, ◌∙◌, [], ◌∷◌, ℕ, List, Bor, drop, refl, sym, ap, subst}, lemmas.{List.{append-nil}, Result.{IfOk-weaker}}}
+use Rattle.std.specs.Prelude.{map}
+use Rattle.lz_resp.specs.{Pieces.{Adds, step_with, stops}, Replies.{fault_text}, declared.item.Item.TheVariants.{Ends}}
+use Rattle.lz_resp.proofs.Texts.{first_frame, first_waits, first_wrong}
 
 pub returns-in-Ok-Some-clause-ok : goal.returns-in-Ok-Some-clause-ok
 returns-in-Ok-Some-clause-ok c =

@@ -1,9 +1,6 @@
-use Rattle.std.proofs.Common.{ℕ, List, Bor, drop, sym, subst}
-use Rattle.std.specs.Prelude.{map}
-use Rattle.std.proofs.lemmas.Result.{IfOk-weaker}
-use Rattle.lz_resp.specs.Pieces.{Adds}
-use Rattle.lz_resp.proofs.Texts.{first_frame}
 use Rattle.lz_resp.proofs.frames.add_first.Goals as goal
+use Rattle.std.{proofs.{Common.{ℕ, List, Bor, drop, sym, subst}, lemmas.Result.{IfOk-weaker}}, specs.Prelude.{map}}
+use Rattle.lz_resp.{specs.Pieces.{Adds}, proofs.Texts.{first_frame}}
 
 pub returns-in-Some-clause-ok : goal.returns-in-Some-clause-ok
 returns-in-Some-clause-ok c =

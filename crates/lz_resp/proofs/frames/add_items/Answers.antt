@@ -1,8 +1,6 @@
-use Rattle.std.proofs.Common.{◌∙◌, ◌++◌, List, drop, ap, subst, append_assoc, arith, length-drop}
-use Rattle.std.proofs.lemmas.List.{drop-drop}
-use Rattle.lz_resp.specs.declared.item.Item.{Item}
-use Rattle.lz_resp.proofs.Texts.{GoesOn, goes_more, goes_stops, goes_waits, step_empty}
 use Rattle.lz_resp.proofs.frames.add_items.Goals as goal
+use Rattle.std.proofs.{Common.{◌∙◌, ◌++◌, List, drop, ap, subst, append_assoc, arith, length-drop}, lemmas.List.{drop-drop}}
+use Rattle.lz_resp.{specs.declared.item.Item.{Item}, proofs.Texts.{GoesOn, goes_more, goes_stops, goes_waits, step_empty}}
 
 pub frames-preserved : goal.frames-preserved
 frames-preserved c =

@@ -1,8 +1,6 @@
-use Rattle.std.proofs.Common.{◌≡◌, ◌-◌, ◌≤◌, List, ◌++◌, length, drop}
-use Rattle.lz_resp.specs.Keys.{IsRoom}
-use Rattle.lz_resp.specs.declared.item.Item.{Item}
-use Rattle.lz_resp.proofs.Texts.{GoesOn}
 use Rattle.lz_resp.proofs.frames.add_items.Given as goal
+use Rattle.std.proofs.Common.{◌≡◌, ◌-◌, ◌≤◌, List, ◌++◌, length, drop}
+use Rattle.lz_resp.{specs.{Keys.{IsRoom}, declared.item.Item.{Item}}, proofs.Texts.{GoesOn}}
 
 abbrev pub invariant-frames : goal.invariant-frames
 invariant-frames l =

@@ -1,7 +1,6 @@
-use Rattle.std.proofs.Common.{◌∙◌, ℕ, List, drop, sym, ap}
-use Rattle.lz_resp.specs.Pieces.{step}
-use Rattle.lz_resp.proofs.Texts.{step_short}
 use Rattle.lz_resp.proofs.frames.read_piece.Goals as goal
+use Rattle.std.proofs.Common.{◌∙◌, ℕ, List, drop, sym, ap}
+use Rattle.lz_resp.{specs.Pieces.{step}, proofs.Texts.{step_short}}
 
 pub returns-in-Ok-Some-clause-waits : goal.returns-in-Ok-Some-clause-waits
 returns-in-Ok-Some-clause-waits c =

@@ -1,7 +1,6 @@
-use Rattle.std.proofs.Common.{◌∙◌, ap}
-use Rattle.lz_resp.specs.Pieces.{step}
-use Rattle.lz_resp.proofs.Texts.{step_short}
 use Rattle.lz_resp.proofs.frames.read_whole.Goals as goal
+use Rattle.std.proofs.Common.{◌∙◌, ap}
+use Rattle.lz_resp.{specs.Pieces.{step}, proofs.Texts.{step_short}}
 
 pub returns-clause-waits : goal.returns-clause-waits
 returns-clause-waits c =

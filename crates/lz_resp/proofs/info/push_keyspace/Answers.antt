@@ -1,7 +1,6 @@
-use Rattle.std.proofs.Common.{◌≡◌, ◌++◌, ◌==◌, List, ℕ, false, ap, codes, decimal, rules, ◌∙◌}
-use Rattle.lz_resp.specs.Queries.{keyspace_text}
-use Rattle.lz_resp.proofs.Joined.{three}
 use Rattle.lz_resp.proofs.info.push_keyspace.Goals as goal
+use Rattle.std.proofs.Common.{◌≡◌, ◌++◌, ◌==◌, List, ℕ, false, ap, codes, decimal, rules, ◌∙◌}
+use Rattle.lz_resp.{specs.Queries.{keyspace_text}, proofs.Joined.{three}}
 
 pub returns : goal.returns
 unfolding keyspace_text

@@ -1,8 +1,6 @@
-use Rattle.std.proofs.Common.{◌≡◌, ◌++◌, List, ℕ, ap, codes, ◌∙◌}
-use Rattle.std.specs.List.{flat_map}
-use Rattle.lz_resp.specs.Queries.{lazyset_rows, lazyset_text, row, version_text}
-use Rattle.lz_resp.proofs.Joined.{three}
 use Rattle.lz_resp.proofs.info.push_lazyset.Goals as goal
+use Rattle.std.{proofs.Common.{◌≡◌, ◌++◌, List, ℕ, ap, codes, ◌∙◌}, specs.List.{flat_map}}
+use Rattle.lz_resp.{specs.Queries.{lazyset_rows, lazyset_text, row, version_text}, proofs.Joined.{three}}
 
 pub returns : goal.returns
 unfolding lazyset_text

@@ -1,7 +1,6 @@
-use Rattle.std.proofs.Common.{◌≡◌, ◌++◌, List, ℕ, ap, codes, decimal, ◌∙◌}
-use Rattle.lz_resp.specs.Queries.{version_text}
-use Rattle.lz_resp.proofs.Joined.{five}
 use Rattle.lz_resp.proofs.info.push_version.Goals as goal
+use Rattle.std.proofs.Common.{◌≡◌, ◌++◌, List, ℕ, ap, codes, decimal, ◌∙◌}
+use Rattle.lz_resp.{specs.Queries.{version_text}, proofs.Joined.{five}}
 
 pub returns : goal.returns
 unfolding version_text

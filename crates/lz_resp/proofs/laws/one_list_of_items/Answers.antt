@@ -1,5 +1,5 @@
-use Rattle.lz_resp.proofs.Texts.{one_list}
 use Rattle.lz_resp.proofs.laws.one_list_of_items.Goals as goal
+use Rattle.lz_resp.proofs.Texts.{one_list}
 
 pub returns : goal.returns
 returns c = one_list

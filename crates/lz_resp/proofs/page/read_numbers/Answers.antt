@@ -1,8 +1,6 @@
-use Rattle.std.proofs.Common.{◌∙◌, ◌-◌, ◌+◌, ℕ, List, sym, ap, arith}
-use Rattle.std.proofs.lemmas.Result.{err_from_is_err_and}
-use Rattle.lz_resp.specs.Pages.{numbers_at}
-use Rattle.lz_resp.proofs.PageFronts.{numbers_fail, numbers_next, numbers_wait, with_numbers}
 use Rattle.lz_resp.proofs.page.read_numbers.Goals as goal
+use Rattle.std.proofs.{Common.{◌∙◌, ◌-◌, ◌+◌, ℕ, List, sym, ap, arith}, lemmas.Result.{err_from_is_err_and}}
+use Rattle.lz_resp.{specs.Pages.{numbers_at}, proofs.PageFronts.{numbers_fail, numbers_next, numbers_wait, with_numbers}}
 
 pub returns-in_err-number-clause-gives : goal.returns-in_err-number-clause-gives
 returns-in_err-number-clause-gives c =

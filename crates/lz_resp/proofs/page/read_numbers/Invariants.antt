@@ -1,7 +1,6 @@
-use Rattle.std.proofs.Common.{◌≡◌, ◌-◌, ◌≤◌, length}
-use Rattle.lz_resp.specs.Pages.{numbers_at}
-use Rattle.lz_resp.proofs.PageFronts.{with_numbers}
 use Rattle.lz_resp.proofs.page.read_numbers.Given as goal
+use Rattle.std.proofs.Common.{◌≡◌, ◌-◌, ◌≤◌, length}
+use Rattle.lz_resp.{specs.Pages.{numbers_at}, proofs.PageFronts.{with_numbers}}
 
 abbrev pub invariant-bulks : goal.invariant-bulks
 invariant-bulks l =

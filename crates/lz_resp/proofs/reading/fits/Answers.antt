@@ -1,10 +1,7 @@
-use Rattle.std.proofs.Common.{◌≡◌, ◌∙◌, ℕ, List, Bor, length, nat_le, true, sym, arith}
-use Rattle.std.specs.Prelude.{map}
-use Rattle.std.proofs.lemmas.Bool.Decides.{nat_tests}
-use Rattle.std.proofs.lemmas.List.{length-map}
-use Rattle.std.proofs.lemmas.List.Folds.{list_all-map}
-use Rattle.lz_resp.specs.Limits.{most_word, most_words}
 use Rattle.lz_resp.proofs.reading.fits.Goals as goal
+use Rattle.std.proofs.{Common.{◌≡◌, ◌∙◌, ℕ, List, Bor, length, nat_le, true, sym, arith}, lemmas.{Bool.Decides.{nat_tests}, List.{length-map}}}
+use Rattle.std.{proofs.lemmas.List.Folds.{list_all-map}, specs.Prelude.{map}}
+use Rattle.lz_resp.specs.Limits.{most_word, most_words}
 
 pub returns-then-words-le-MOST_WORDS : goal.returns-then-words-le-MOST_WORDS
 returns-then-words-le-MOST_WORDS c =

@@ -1,9 +1,7 @@
-use Rattle.std.proofs.Common.{◌∙◌, ℕ, List, Bor, take, ap}
-use Rattle.std.specs.Prelude.{map}
-use Rattle.std.proofs.lemmas.Result.{err_from_is_err_and}
+use Rattle.lz_resp.proofs.reading.read_first.Goals as goal
+use Rattle.std.{proofs.{Common.{◌∙◌, ℕ, List, Bor, take, ap}, lemmas.Result.{err_from_is_err_and}}, specs.Prelude.{map}}
 use Rattle.lz_proto.proofs.Texts.{take_least}
 use Rattle.lz_resp.proofs.Fronts.{first_found, first_long, first_none, first_stops}
-use Rattle.lz_resp.proofs.reading.read_first.Goals as goal
 
 pub returns-then-text-gt-MOST_FRAME-clause-gives : goal.returns-then-text-gt-MOST_FRAME-clause-gives
 returns-then-text-gt-MOST_FRAME-clause-gives c =

@@ -1,9 +1,7 @@
-use Rattle.std.proofs.Common.{◌∙◌, ℕ, List, Bor, sym, ap}
-use Rattle.std.specs.Prelude.{map}
-use Rattle.lz_proto.proofs.Texts.{after_end}
-use Rattle.lz_resp.specs.Frames.{fits}
-use Rattle.lz_resp.proofs.Fronts.{words_found, words_none, words_quoted, words_unfit}
 use Rattle.lz_resp.proofs.reading.read_inline.Goals as goal
+use Rattle.std.{proofs.Common.{◌∙◌, ℕ, List, Bor, sym, ap}, specs.Prelude.{map}}
+use Rattle.lz_proto.proofs.Texts.{after_end}
+use Rattle.lz_resp.{specs.Frames.{fits}, proofs.Fronts.{words_found, words_none, words_quoted, words_unfit}}
 
 pub returns-in_default-clause-gives : goal.returns-in_default-clause-gives
 returns-in_default-clause-gives c = words_none c.args.text.now c.in_default.ensures

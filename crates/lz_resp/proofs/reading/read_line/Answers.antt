@@ -1,7 +1,6 @@
-use Rattle.std.proofs.Common.{Some, None, Ok, Err}
-use Rattle.std.proofs.lemmas.Result.{err_from_is_err_and}
-use Rattle.lz_resp.proofs.Fronts.{line_found, line_none}
 use Rattle.lz_resp.proofs.reading.read_line.Goals as goal
+use Rattle.std.proofs.{Common.{Some, None, Ok, Err}, lemmas.Result.{err_from_is_err_and}}
+use Rattle.lz_resp.proofs.Fronts.{line_found, line_none}
 
 pub returns-in_default-clause-gives : goal.returns-in_default-clause-gives
 returns-in_default-clause-gives c = line_none c.args.fault c.args.text.now c.in_default.ensures

@@ -1,10 +1,7 @@
-use Rattle.std.proofs.Common.{◌≡◌, ◌∙◌, ◌-◌, ◌+◌, ◌++◌, [], ◌∷◌, ℕ, List, Bor, sym, ap, arith}
-use Rattle.std.specs.Prelude.{map}
-use Rattle.std.proofs.lemmas.Result.{err_from_is_err_and}
-use Rattle.std.proofs.lemmas.List.{map-append}
-use Rattle.lz_resp.specs.Reading.{words_at}
-use Rattle.lz_resp.proofs.Fronts.{with_front, words_fail, words_next, words_wait}
 use Rattle.lz_resp.proofs.reading.read_words.Goals as goal
+use Rattle.std.proofs.{Common.{◌≡◌, ◌∙◌, ◌-◌, ◌+◌, ◌++◌, [], ◌∷◌, ℕ, List, Bor, sym, ap, arith}, lemmas.{Result.{err_from_is_err_and}, List.{map-append}}}
+use Rattle.std.specs.Prelude.{map}
+use Rattle.lz_resp.{specs.Reading.{words_at}, proofs.Fronts.{with_front, words_fail, words_next, words_wait}}
 
 pub returns-in_err-word-clause-gives : goal.returns-in_err-word-clause-gives
 returns-in_err-word-clause-gives c =

@@ -1,8 +1,6 @@
-use Rattle.std.proofs.Common.{◌≡◌, ◌-◌, ◌≤◌, length}
-use Rattle.std.specs.Prelude.{map}
-use Rattle.lz_resp.specs.Reading.{words_at}
-use Rattle.lz_resp.proofs.Fronts.{with_front}
 use Rattle.lz_resp.proofs.reading.read_words.Given as goal
+use Rattle.std.{proofs.Common.{◌≡◌, ◌-◌, ◌≤◌, length}, specs.Prelude.{map}}
+use Rattle.lz_resp.{specs.Reading.{words_at}, proofs.Fronts.{with_front}}
 
 abbrev pub invariant-bulks : goal.invariant-bulks
 invariant-bulks l =

@@ -1,9 +1,7 @@
-use Rattle.std.proofs.Common.{arith, rules, nat_lt, length}
-use Rattle.std.proofs.lemmas.Bool.Decides.{nat_tests}
-use Rattle.std.proofs.lemmas.Iterator.Consumers.{YieldsList-at, YieldsList-from_filter, map_from_collect}
-use Rattle.std.proofs.lemmas.Iterator.Splits.{YieldsList-from_slice_split}
-use Rattle.lz_resp.specs.Frames.{is_blank}
 use Rattle.lz_resp.proofs.reading.words_of.Goals as goal
+use Rattle.std.proofs.{Common.{arith, rules, nat_lt, length}, lemmas.Bool.Decides.{nat_tests}}
+use Rattle.std.proofs.lemmas.Iterator.{Consumers.{YieldsList-at, YieldsList-from_filter, map_from_collect}, Splits.{YieldsList-from_slice_split}}
+use Rattle.lz_resp.specs.Frames.{is_blank}
 
 pub returns : goal.returns
 returns c =

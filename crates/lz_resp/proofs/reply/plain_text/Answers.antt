@@ -1,11 +1,7 @@
-use Rattle.std.proofs.Common.{◌≡◌, [], ◌∷◌, codes, true, refl, sym, ap, ◌∙◌}
-use Rattle.std.specs.Fmt.{digits}
-use Rattle.lz_proto.specs.declared.reply.Reply.{Reply}
-use Rattle.lz_proto.specs.declared.reply.Reply.TheVariants.{Yes, No}
-use Rattle.lz_resp.specs.Replies.{is_sum, text_of}
-use Rattle.lz_resp.specs.declared.form.Form.{Form}
-use Rattle.lz_resp.specs.declared.form.Form.TheVariants.{Added, Removed, Found, Each, Stored}
 use Rattle.lz_resp.proofs.reply.plain_text.Goals as goal
+use Rattle.std.{proofs.Common.{◌≡◌, [], ◌∷◌, codes, true, refl, sym, ap, ◌∙◌}, specs.Fmt.{digits}}
+use Rattle.lz_proto.specs.declared.reply.Reply.{Reply, TheVariants.{Yes, No}}
+use Rattle.lz_resp.specs.{Replies.{is_sum, text_of}, declared.form.Form.{Form, TheVariants.{Added, Removed, Found, Each, Stored}}}
 
 one_done : (form : Form) → is_sum form ≡ true → text_of form (Yes ∷ []) ≡ codes ":1\r\n"
 unfolding digits

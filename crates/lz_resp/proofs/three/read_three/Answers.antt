@@ -1,7 +1,7 @@
+use Rattle.lz_resp.proofs.three.read_three.Goals as goal
 use Rattle.std.proofs.Common.{◌∙◌, ℕ, take, ap, arith}
 use Rattle.lz_proto.proofs.Texts.{take_least}
 use Rattle.lz_resp.proofs.ShortLines.{three_found}
-use Rattle.lz_resp.proofs.three.read_three.Goals as goal
 
 pub returns-clause-gives : goal.returns-clause-gives
 returns-clause-gives c =

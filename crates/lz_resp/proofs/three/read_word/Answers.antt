@@ -1,6 +1,6 @@
+use Rattle.lz_resp.proofs.three.read_word.Goals as goal
 use Rattle.std.proofs.Common.{arith}
 use Rattle.lz_resp.proofs.ShortLines.{short_word}
-use Rattle.lz_resp.proofs.three.read_word.Goals as goal
 
 pub returns-clause-gives : goal.returns-clause-gives
 returns-clause-gives c =

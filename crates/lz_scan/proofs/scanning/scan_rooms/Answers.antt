@@ -1,5 +1,5 @@
-use Rattle.lz_scan.proofs.Reached.{at_first}
 use Rattle.lz_scan.proofs.scanning.scan_rooms.Goals as goal
+use Rattle.lz_scan.proofs.Reached.{at_first}
 
 pub rooms-init : goal.rooms-init
 rooms-init g c =

@@ -1,8 +1,7 @@
-use Rattle.std.proofs.Common.{Some}
-use Rattle.std.specs.Prelude.{map}
+use Rattle.lz_scan.proofs.scanning.scan_rooms.Given as goal
+use Rattle.std.{proofs.Common.{Some}, specs.Prelude.{map}}
 use Rattle.lz_judge.specs.Places.{IsTable}
 use Rattle.lz_scan.specs.Scanning.{IsAt, unread}
-use Rattle.lz_scan.proofs.scanning.scan_rooms.Given as goal
 
 abbrev pub invariant-rooms : goal.invariant-rooms
 invariant-rooms g l = record {

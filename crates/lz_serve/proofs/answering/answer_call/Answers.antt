@@ -1,12 +1,8 @@
-use Rattle.std.proofs.Common.{◌≡◌, IfSome, inl, inr, option_map, refl, rules, sym, subst}
-use Rattle.lz_list.specs.Traces.{Trace, Begins}
-use Rattle.lz_list.proofs.Traces.WalkEnd.{begins_before}
-use Rattle.lz_board.specs.declared.pass.Pass.{Pass}
-use Rattle.lz_board.specs.Seats.{part}
-use Rattle.lz_serve.specs.Grants.{Posed}
-use Rattle.lz_serve.proofs.Meetings.{reply_seen, some_mapped}
-use Rattle.lz_serve.proofs.Seats.{grows}
 use Rattle.lz_serve.proofs.answering.answer_call.Goals as goal
+use Rattle.std.proofs.Common.{◌≡◌, IfSome, inl, inr, option_map, refl, rules, sym, subst}
+use Rattle.lz_list.{specs.Traces.{Trace, Begins}, proofs.Traces.WalkEnd.{begins_before}}
+use Rattle.lz_board.specs.{declared.pass.Pass.{Pass}, Seats.{part}}
+use Rattle.lz_serve.{specs.Grants.{Posed}, proofs.{Meetings.{reply_seen, some_mapped}, Seats.{grows}}}
 
 pub reply-requires-2-clause-seen : goal.reply-requires-2-clause-seen
 reply-requires-2-clause-seen g c =

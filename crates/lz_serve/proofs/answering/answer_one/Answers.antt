@@ -1,11 +1,8 @@
-use Rattle.std.proofs.Common.{sym, subst, ◌∙◌}
-use Rattle.lz_list.specs.Traces.{Begins}
-use Rattle.lz_list.proofs.Traces.Absence.{begins_itself}
-use Rattle.lz_board.specs.declared.pass.Pass.{Pass}
-use Rattle.lz_board.specs.Seats.{part}
-use Rattle.lz_serve.specs.Clients.{HaveSeenIn}
-use Rattle.lz_serve.proofs.Joins.{seen_later}
 use Rattle.lz_serve.proofs.answering.answer_one.Goals as goal
+use Rattle.std.proofs.Common.{sym, subst, ◌∙◌}
+use Rattle.lz_list.{specs.Traces.{Begins}, proofs.Traces.Absence.{begins_itself}}
+use Rattle.lz_board.specs.{declared.pass.Pass.{Pass}, Seats.{part}}
+use Rattle.lz_serve.{specs.Clients.{HaveSeenIn}, proofs.Joins.{seen_later}}
 
 pub reply-requires-2-clause-seen : goal.reply-requires-2-clause-seen
 reply-requires-2-clause-seen g c =

@@ -1,6 +1,6 @@
+use Rattle.lz_serve.proofs.answering.play_call.Goals as goal
 use Rattle.std.proofs.Common.{inl, inr}
 use Rattle.lz_serve.proofs.Askings.{same_anew, same_made, same_replied, same_told}
-use Rattle.lz_serve.proofs.answering.play_call.Goals as goal
 
 pub returns-in-Some-Answers-clause-waits : goal.returns-in-Some-Answers-clause-waits
 returns-in-Some-Answers-clause-waits g c = λ is.

@@ -1,13 +1,10 @@
-use Rattle.std.proofs.Common.{◌≡◌, Bool, false, Some, Result, refl, sym, ◌∙◌, subst, arith}
-use Rattle.lz_slot.specs.declared.command.Command.{Command}
-use Rattle.lz_slot.specs.declared.format.Format.{Format}
-use Rattle.lz_proto.specs.declared.request.Request.{Request}
-use Rattle.lz_board.specs.declared.pass.Pass.{Pass}
-use Rattle.lz_board.specs.Seats.{BoardId}
-use Rattle.lz_set.specs.declared.fault.Fault.{Fault}
-use Rattle.lz_serve.specs.Replies.{IsCallAnswered, SeatAnswers, command_of}
-use Rattle.lz_serve.proofs.Seats.{asked_more, seat_told}
 use Rattle.lz_serve.proofs.asking.grant.Goals as goal
+use Rattle.std.proofs.Common.{◌≡◌, Bool, false, Some, Result, refl, sym, ◌∙◌, subst, arith}
+use Rattle.lz_slot.specs.declared.{command.Command.{Command}, format.Format.{Format}}
+use Rattle.lz_proto.specs.declared.request.Request.{Request}
+use Rattle.lz_board.specs.{declared.pass.Pass.{Pass}, Seats.{BoardId}}
+use Rattle.lz_set.specs.declared.fault.Fault.{Fault}
+use Rattle.lz_serve.{specs.Replies.{IsCallAnswered, SeatAnswers, command_of}, proofs.Seats.{asked_more, seat_told}}
 
 -- a request asks for one command
 of_asked : (b : BoardId) (F : Format) (request : Request) (d : Command) (answer : Result Bool Fault) (old new : Pass) → command_of request ≡ Some d → IsCallAnswered b F d answer old new

@@ -1,9 +1,8 @@
+use Rattle.lz_serve.proofs.asking.grant.Given as goal
 use Rattle.std.specs.Prelude.{◌≡◌, ◌≤◌, ◌-◌, Some}
 use Rattle.lz_slot.specs.declared.command.Command.{Command}
 use Rattle.lz_set.specs.Names.{MayCall}
-use Rattle.lz_serve.specs.Replies.{command_of, most_tries}
-use Rattle.lz_serve.proofs.Seats.{AskedUpTo}
-use Rattle.lz_serve.proofs.asking.grant.Given as goal
+use Rattle.lz_serve.{specs.Replies.{command_of, most_tries}, proofs.Seats.{AskedUpTo}}
 
 abbrev pub invariant-calls : goal.invariant-calls
 invariant-calls g l = record {

@@ -1,6 +1,6 @@
+use Rattle.lz_serve.proofs.desk.answer_each.Given as goal
 use Rattle.lz_board.specs.Seats.{part}
 use Rattle.lz_serve.specs.Clients.{HaveSeenIn, KeepsAwaited}
-use Rattle.lz_serve.proofs.desk.answer_each.Given as goal
 
 abbrev pub invariant-places : goal.invariant-places
 invariant-places g l = record {

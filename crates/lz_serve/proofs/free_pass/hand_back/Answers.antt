@@ -1,11 +1,8 @@
-use Rattle.std.proofs.Common.{◌≡◌, ◌⊎◌, ◌∷◌, ◌||◌, Bool, inl, inr, true, false, map, rules, sym, ap, ◌∙◌}
-use Rattle.std.specs.List.{list_any}
-use Rattle.std.specs.Vec.Iter.{into_iter_items}
+use Rattle.lz_serve.proofs.free_pass.hand_back.Goals as goal
+use Rattle.std.{proofs.Common.{◌≡◌, ◌⊎◌, ◌∷◌, ◌||◌, Bool, inl, inr, true, false, map, rules, sym, ap, ◌∙◌}, specs.{List.{list_any}, Vec.Iter.{into_iter_items}}}
 use mathlib.Core.Bool.{true≢false}
 use Rattle.lz_set.specs.Names.{MayCall}
-use Rattle.lz_serve.specs.Halts.{IsCalmAfter, SawHalt}
-use Rattle.lz_serve.proofs.JoinedPasses.{all_back, found_on, handed_on, one_back}
-use Rattle.lz_serve.proofs.free_pass.hand_back.Goals as goal
+use Rattle.lz_serve.{specs.Halts.{IsCalmAfter, SawHalt}, proofs.JoinedPasses.{all_back, found_on, handed_on, one_back}}
 use Rattle.lz_serve.proofs.free_pass.hand_back.Goals.{then-halted, else-halted}
 
 pub loop-pass-preserved : goal.loop-pass-preserved

@@ -1,9 +1,8 @@
-use Rattle.std.specs.Prelude.{◌≡◌, ◌+◌, ◌≤◌, ◌++◌, ◌||◌, true, false, All, map, vec_capacity, vec_items, vec_len}
-use Rattle.std.specs.List.{Any, list_any}
+use Rattle.lz_serve.proofs.free_pass.hand_back.Given as goal
+use Rattle.std.specs.{Prelude.{◌≡◌, ◌+◌, ◌≤◌, ◌++◌, ◌||◌, true, false, All, map, vec_capacity, vec_items, vec_len}, List.{Any, list_any}}
 use Rattle.std.specs.Vec.Iter.{into_iter_items, into_iter_len}
 use Rattle.lz_set.specs.Names.{MayCall}
 use Rattle.lz_serve.specs.Halts.{IsCalmAfter, SawHalt}
-use Rattle.lz_serve.proofs.free_pass.hand_back.Given as goal
 
 abbrev pub invariant-loop-pass : goal.invariant-loop-pass
 invariant-loop-pass g l =

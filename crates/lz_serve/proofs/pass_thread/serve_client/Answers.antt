@@ -1,11 +1,8 @@
-use Rattle.std.proofs.Common.{◌≡◌, ap, sym, subst, ◌∙◌}
-use Rattle.lz_list.specs.Traces.{Trace, Begins}
-use Rattle.lz_list.proofs.Traces.Absence.{begins_itself}
-use Rattle.lz_list.proofs.Traces.WalkEnd.{begins_before}
-use Rattle.lz_board.specs.declared.pass.Pass.{Pass}
-use Rattle.lz_board.specs.Seats.{part}
-use Rattle.lz_serve.specs.Clients.{Asker}
 use Rattle.lz_serve.proofs.pass_thread.serve_client.Goals as goal
+use Rattle.std.proofs.Common.{◌≡◌, ap, sym, subst, ◌∙◌}
+use Rattle.lz_list.{specs.Traces.{Trace, Begins}, proofs.Traces.{Absence.{begins_itself}, WalkEnd.{begins_before}}}
+use Rattle.lz_board.specs.{declared.pass.Pass.{Pass}, Seats.{part}}
+use Rattle.lz_serve.specs.Clients.{Asker}
 
 pub reply-requires-in-Some-question-clause-seen : goal.reply-requires-in-Some-question-clause-seen
 reply-requires-in-Some-question-clause-seen g c =

@@ -1,7 +1,6 @@
-use Rattle.std.proofs.Common.{◌++◌, ◌∷◌, [], option_to_list, sym, ap, ◌∙◌, append_assoc}
-use Rattle.lz_serve.specs.Exchanges.{Pending, adding, of_line}
-use Rattle.lz_serve.proofs.ExchangesMore.{adding_one}
 use Rattle.lz_serve.proofs.reader.put_lines.Goals as goal
+use Rattle.std.proofs.Common.{◌++◌, ◌∷◌, [], option_to_list, sym, ap, ◌∙◌, append_assoc}
+use Rattle.lz_serve.{specs.Exchanges.{Pending, adding, of_line}, proofs.ExchangesMore.{adding_one}}
 
 pub loop-item-preserved : goal.loop-item-preserved
 loop-item-preserved c =

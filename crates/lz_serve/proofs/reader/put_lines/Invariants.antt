@@ -1,7 +1,7 @@
+use Rattle.lz_serve.proofs.reader.put_lines.Given as goal
 use Rattle.std.proofs.Common.{◌≡◌, ◌++◌, List, map, length}
 use Rattle.lz_proto.specs.declared.item.Item.{Item}
 use Rattle.lz_serve.specs.Exchanges.{adding, of_line}
-use Rattle.lz_serve.proofs.reader.put_lines.Given as goal
 
 abbrev pub invariant-loop-item : goal.invariant-loop-item
 invariant-loop-item l = (done : List Item) × (l.fn.items.items ≡ done ++ l.items.items) × (l.exchanges ≡ adding (map of_line done) l.fn.exchanges)

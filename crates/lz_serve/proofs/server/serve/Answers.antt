@@ -1,8 +1,7 @@
+use Rattle.lz_serve.proofs.server.serve.Goals as goal
 use Rattle.std.proofs.lemmas.List.Elements.{All-map}
 use Rattle.lz_board.specs.Seats.{part}
-use Rattle.lz_serve.specs.Halts.{IsCalm}
-use Rattle.lz_serve.proofs.JoinedPasses.{each_part}
-use Rattle.lz_serve.proofs.server.serve.Goals as goal
+use Rattle.lz_serve.{specs.Halts.{IsCalm}, proofs.JoinedPasses.{each_part}}
 
 pub serve_hosts-requires-clause-calm : goal.serve_hosts-requires-clause-calm
 serve_hosts-requires-clause-calm g c = λ κs lives k d low calm. each_part IsCalm c.args.passes.items calm k d low

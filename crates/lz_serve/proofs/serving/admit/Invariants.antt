@@ -1,5 +1,5 @@
-use Rattle.lz_serve.specs.Clients.{Keeps}
 use Rattle.lz_serve.proofs.serving.admit.Given as goal
+use Rattle.lz_serve.specs.Clients.{Keeps}
 
 abbrev pub invariant-loop : goal.invariant-loop
 invariant-loop g l = Keeps l.fn.crowd l.crowd

@@ -1,5 +1,5 @@
-use Rattle.std.specs.Prelude.{◌≡◌}
 use Rattle.lz_serve.proofs.serving.run.Given as goal
+use Rattle.std.specs.Prelude.{◌≡◌}
 
 abbrev pub invariant-turns : goal.invariant-turns
 invariant-turns g l = l.desk.given ≡ l.fn.desk.given

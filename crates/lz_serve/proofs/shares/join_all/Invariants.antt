@@ -1,7 +1,6 @@
-use Rattle.std.specs.Prelude.{◌≡◌, ◌+◌, ◌≤◌, vec_capacity, vec_len}
-use Rattle.std.specs.Vec.Iter.{into_iter_items}
-use Rattle.lz_serve.specs.Promised.{promised}
 use Rattle.lz_serve.proofs.shares.join_all.Given as goal
+use Rattle.std.specs.{Prelude.{◌≡◌, ◌+◌, ◌≤◌, vec_capacity, vec_len}, Vec.Iter.{into_iter_items}}
+use Rattle.lz_serve.specs.Promised.{promised}
 
 abbrev pub invariant-loop-thread : goal.invariant-loop-thread
 invariant-loop-thread g l =

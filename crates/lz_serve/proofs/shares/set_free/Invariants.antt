@@ -1,7 +1,7 @@
+use Rattle.lz_serve.proofs.shares.set_free.Given as goal
 use Rattle.std.specs.Prelude.{◌≡◌, ◌+◌, ◌≤◌, All, vec_capacity, vec_items, vec_len}
 use Rattle.lz_set.specs.Names.{MayCall}
 use Rattle.lz_serve.specs.Halts.{IsCalmAfter}
-use Rattle.lz_serve.proofs.shares.set_free.Given as goal
 
 abbrev pub invariant-loop-pass : goal.invariant-loop-pass
 invariant-loop-pass g l =

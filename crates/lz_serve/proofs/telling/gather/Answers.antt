@@ -1,9 +1,7 @@
+use Rattle.lz_serve.proofs.telling.gather.Goals as goal
 use Rattle.std.proofs.Common.{◌≡◌, ℕ, ◌∷◌, [], ◌++◌, ◌+◌, suc, List, Some, arith, take, rules, sym, ap, ◌∙◌, subst}
 use Rattle.lz_proto.specs.declared.reply.Reply.{Reply}
-use Rattle.lz_serve.specs.declared.line.Line.{Line}
-use Rattle.lz_serve.specs.Lines.{replies_of}
-use Rattle.lz_serve.proofs.LineReplies.{replies_more, replies_none, taken, there}
-use Rattle.lz_serve.proofs.telling.gather.Goals as goal
+use Rattle.lz_serve.{specs.{declared.line.Line.{Line}, Lines.{replies_of}}, proofs.LineReplies.{replies_more, replies_none, taken, there}}
 
 pub returns-in_default-clause-none : goal.returns-in_default-clause-none
 returns-in_default-clause-none c so few =

@@ -1,7 +1,6 @@
-use Rattle.std.specs.Prelude.{◌≡◌, ◌++◌, take}
-use Rattle.std.specs.List.{flat_map}
-use Rattle.lz_proto.specs.Sessions.{reply_text}
 use Rattle.lz_serve.proofs.telling.push_lines.Given as goal
+use Rattle.std.specs.{Prelude.{◌≡◌, ◌++◌, take}, List.{flat_map}}
+use Rattle.lz_proto.specs.Sessions.{reply_text}
 
 abbrev pub invariant-loop-reply : goal.invariant-loop-reply
 invariant-loop-reply l = l.text.items ≡ l.initial.text.items ++ flat_map reply_text (take l.reply-index l.replies)

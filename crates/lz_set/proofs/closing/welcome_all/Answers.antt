@@ -1,14 +1,8 @@
-use Rattle.std.proofs.Common.{◌≡◌, ◌<◌, ◌+◌, arith, ℕ, suc, List, length, map, slice_set, slice_index_or, refl, sym, ap, ◌∙◌, subst}
-use Rattle.std.proofs.lemmas.List.Elements.{All-set}
-use Rattle.std.proofs.lemmas.List.{length-map}
-use Rattle.lz_board.specs.declared.pass.Pass.{Pass}
-use Rattle.lz_board.specs.declared.view.Note.{Note}
-use Rattle.lz_board.specs.Notes.{Extends, trace_of}
-use Rattle.lz_board.specs.Plays.{knowing}
-use Rattle.lz_board.specs.Seats.{IsOf, part}
-use Rattle.lz_set.specs.Left.{IsWelcome}
-use Rattle.lz_set.proofs.Welcome.{Welcomed, none_yet, one_more, all_seen, all_own, all_since}
 use Rattle.lz_set.proofs.closing.welcome_all.Goals as goal
+use Rattle.std.proofs.{Common.{◌≡◌, ◌<◌, ◌+◌, arith, ℕ, suc, List, length, map, slice_set, slice_index_or, refl, sym, ap, ◌∙◌, subst}, lemmas.List.{length-map}}
+use Rattle.std.proofs.lemmas.List.Elements.{All-set}
+use Rattle.lz_board.specs.{declared.{pass.Pass.{Pass}, view.Note.{Note}}, Notes.{Extends, trace_of}, Plays.{knowing}, Seats.{IsOf, part}}
+use Rattle.lz_set.{specs.Left.{IsWelcome}, proofs.Welcome.{Welcomed, none_yet, one_more, all_seen, all_own, all_since}}
 
 pub loop-i-init : goal.loop-i-init
 loop-i-init g c = record {

@@ -1,8 +1,7 @@
-use Rattle.std.proofs.Common.{◌≡◌, All, map}
-use Rattle.lz_board.specs.Notes.{trace_of}
-use Rattle.lz_board.specs.Seats.{IsOf, part}
-use Rattle.lz_set.proofs.Welcome.{Welcomed}
 use Rattle.lz_set.proofs.closing.welcome_all.Given as goal
+use Rattle.std.proofs.Common.{◌≡◌, All, map}
+use Rattle.lz_board.specs.{Notes.{trace_of}, Seats.{IsOf, part}}
+use Rattle.lz_set.proofs.Welcome.{Welcomed}
 
 abbrev pub invariant-loop-i : goal.invariant-loop-i
 invariant-loop-i g l = record {

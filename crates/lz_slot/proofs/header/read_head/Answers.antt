@@ -1,9 +1,6 @@
-use Rattle.std.proofs.Common.{◌≡◌, ◌+◌, ◌*◌, ◌∷◌, Ok, ap, ◌∙◌, sym, arith}
-use Rattle.std.proofs.lemmas.Grind.{common_steps}
-use Rattle.lz_slot.specs.Bytes.{header_body, header_read, open_byte}
-use Rattle.lz_slot.specs.declared.format.Format.{Format}
-use Rattle.lz_slot.proofs.Files.ExactBytes.{header_is_of_its_count}
 use Rattle.lz_slot.proofs.header.read_head.Goals as goal
+use Rattle.std.proofs.{Common.{◌≡◌, ◌+◌, ◌*◌, ◌∷◌, Ok, ap, ◌∙◌, sym, arith}, lemmas.Grind.{common_steps}}
+use Rattle.lz_slot.{specs.{Bytes.{header_body, header_read, open_byte}, declared.format.Format.{Format}}, proofs.Files.ExactBytes.{header_is_of_its_count}}
 
 pub returns-clause-bytes : goal.returns-clause-bytes
 returns-clause-bytes c =

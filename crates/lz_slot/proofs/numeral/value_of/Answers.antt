@@ -1,9 +1,6 @@
-use Rattle.std.proofs.Common.{◌+◌, ◌∙◌, ℕ, arith, ap}
-use Rattle.std.specs.Str.Parse.{digits_value}
-use Rattle.std.proofs.lemmas.List.{take_all}
-use Rattle.lz_slot.specs.Numerals.{largest_read, within}
-use Rattle.lz_slot.proofs.Texts.Numerals.{digits_next, too_large, fits}
 use Rattle.lz_slot.proofs.numeral.value_of.Goals as goal
+use Rattle.std.{proofs.{Common.{◌+◌, ◌∙◌, ℕ, arith, ap}, lemmas.List.{take_all}}, specs.Str.Parse.{digits_value}}
+use Rattle.lz_slot.{specs.Numerals.{largest_read, within}, proofs.Texts.Numerals.{digits_next, too_large, fits}}
 
 pub returns-in_err-checked_mul : goal.returns-in_err-checked_mul
 returns-in_err-checked_mul c =

@@ -1,7 +1,6 @@
-use Rattle.std.proofs.Common.{ℕ, ◌+◌, ◌-◌, ◌∙◌, List, length, take, drop, ap, Option}
-use Rattle.lz_slot.specs.Texts.{key_behind}
-use Rattle.lz_slot.proofs.Texts.Spellings.{with_colon, without_colon}
 use Rattle.lz_slot.proofs.spelling.read_parts.Goals as goal
+use Rattle.std.proofs.Common.{ℕ, ◌+◌, ◌-◌, ◌∙◌, List, length, take, drop, ap, Option}
+use Rattle.lz_slot.{specs.Texts.{key_behind}, proofs.Texts.Spellings.{with_colon, without_colon}}
 
 pub returns-in-Some-read_room : goal.returns-in-Some-read_room
 returns-in-Some-read_room c =

@@ -1,7 +1,5 @@
-use Rattle.lz_tie.proofs.Vocabulary.{id_of, part, shape_with}
-use Rattle.lz_tie.proofs.Calls.CallLoad.{load_place}
-use Rattle.lz_tie.proofs.Calls.CountedMoves.{takes_value, counted_load}
 use Rattle.lz_tie.proofs.moves.load_next.Goals as goal
+use Rattle.lz_tie.proofs.{Vocabulary.{id_of, part, shape_with}, Calls.{CallLoad.{load_place}, CountedMoves.{takes_value, counted_load}}}
 
 pub load-requires-clause-loading : goal.load-requires-clause-loading
 load-requires-clause-loading c = load_place (shape_with c.args.caller.now) c.args.caller.now.command c.args.caller.now.progress c.args.word c.requires.event

@@ -1,10 +1,9 @@
-use Rattle.std.proofs.Common.{◌≤◌, ℕ, sym, ap, ◌∙◌, subst}
-use Rattle.lz_tie.proofs.Vocabulary.{told, progress_after, Calling, IsLoading, MayTake, shape_with, id_of, part, with_look}
-use Rattle.lz_machine.specs.declared.event.Event.TheVariants.{Hop}
-use Rattle.lz_machine.specs.declared.event.Outcome.TheVariants.{Value}
-use Rattle.lz_tie.proofs.Calls.CountedMoves.{counted_load, shared_word, takes_value}
 use Rattle.lz_tie.proofs.Calls.WalkedLoad as walked
 use Rattle.lz_tie.proofs.moves.walk_on.Goals as goal
+use Rattle.std.proofs.Common.{◌≤◌, ℕ, sym, ap, ◌∙◌, subst}
+use Rattle.lz_tie.proofs.Vocabulary.{told, progress_after, Calling, IsLoading, MayTake, shape_with, id_of, part, with_look}
+use Rattle.lz_tie.proofs.Calls.CountedMoves.{counted_load, shared_word, takes_value}
+use Rattle.lz_machine.specs.declared.event.{Event.TheVariants.{Hop}, Outcome.TheVariants.{Value}}
 
 pub wants-requires : goal.wants-requires
 wants-requires c =

@@ -1,17 +1,11 @@
-use Rattle.std.proofs.Common.{◌≡◌, ◌≢◌, ℕ, ◌<◌, sym, ap, ◌∙◌, subst, rules}
-use Rattle.lz_tie.proofs.Vocabulary.{Device, Pen, Pass, Note, note_by, stamped, noted, IsAtHand, carried, id_of, notes}
-use Rattle.lz_list.specs.declared.word.Word.TheVariants.{Pin as pin_at}
-use Rattle.lz_tie.specs.Holds.{InHold, HoldNotes, what_of}
-use Rattle.lz_tie.proofs.Hold.CoveredSync.{spares}
-use Rattle.lz_tie.proofs.Hold.Exchanges.{of_none, of_pin, of_word}
-use Rattle.lz_tie.proofs.Hold.Joining.{hand_noted, hand_moved}
 use Rattle.lz_tie.proofs.Hold.JoinedStep as joined
-use Rattle.lz_tie.proofs.Moments.HeldMoments.{step_left}
-use Rattle.lz_tie.proofs.Moments.StayingReplies.{stamp_now}
-use Rattle.lz_tie.proofs.Lives.HeldLives.{held_keeps}
-use Rattle.lz_tie.proofs.playing.play_joined.Given.{Over}
-use Rattle.lz_tie.proofs.playing.play_joined.Goals.{After-of, in-Some-Pin, in-Some, in-None}
 use Rattle.lz_tie.proofs.playing.play_joined.Goals as goal
+use Rattle.std.proofs.Common.{◌≡◌, ◌≢◌, ℕ, ◌<◌, sym, ap, ◌∙◌, subst, rules}
+use Rattle.lz_tie.proofs.{Vocabulary.{Device, Pen, Pass, Note, note_by, stamped, noted, IsAtHand, carried, id_of, notes}, Hold.CoveredSync.{spares}}
+use Rattle.lz_tie.proofs.{Hold.{Exchanges.{of_none, of_pin, of_word}, Joining.{hand_noted, hand_moved}}, Moments.HeldMoments.{step_left}}
+use Rattle.lz_tie.proofs.{Moments.StayingReplies.{stamp_now}, Lives.HeldLives.{held_keeps}, playing.play_joined.Given.{Over}}
+use Rattle.lz_tie.{proofs.playing.play_joined.Goals.{After-of, in-Some-Pin, in-Some, in-None}, specs.Holds.{InHold, HoldNotes, what_of}}
+use Rattle.lz_list.specs.declared.word.Word.TheVariants.{Pin as pin_at}
 
 pub step-requires-clause-event : goal.step-requires-clause-event
 step-requires-clause-event g c =

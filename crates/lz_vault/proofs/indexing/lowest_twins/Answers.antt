@@ -1,7 +1,6 @@
-use Rattle.std.proofs.Common.{◌+◌, ◌-◌, ◌∙◌, arith, subst, sym}
-use Rattle.lz_vault.specs.Members.{IsLowest, lower_twins}
-use Rattle.lz_vault.proofs.Members.{all_lowest, next_lowest, same_place}
 use Rattle.lz_vault.proofs.indexing.lowest_twins.Goals as goal
+use Rattle.std.proofs.Common.{◌+◌, ◌-◌, ◌∙◌, arith, subst, sym}
+use Rattle.lz_vault.{specs.Members.{IsLowest, lower_twins}, proofs.Members.{all_lowest, next_lowest, same_place}}
 
 pub loop-index-preserved : goal.loop-index-preserved
 loop-index-preserved c =

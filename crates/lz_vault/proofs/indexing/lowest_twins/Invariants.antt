@@ -1,6 +1,6 @@
+use Rattle.lz_vault.proofs.indexing.lowest_twins.Given as goal
 use Rattle.std.proofs.Common.{◌+◌, ◌-◌, ◌≤◌, length}
 use Rattle.lz_vault.specs.Members.{IsLowest}
-use Rattle.lz_vault.proofs.indexing.lowest_twins.Given as goal
 
 abbrev pub invariant-loop-index : goal.invariant-loop-index
 invariant-loop-index l = record {

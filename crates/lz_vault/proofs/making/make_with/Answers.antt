@@ -1,12 +1,8 @@
-use Rattle.std.proofs.Common.{◌⊎◌, inl, inr, ℕ, List, IsTrue}
-use Rattle.std.proofs.lemmas.Result.{err_from_is_err_and}
-use Rattle.lz_slot.specs.Sets.{members}
-use Rattle.lz_disk.specs.Images.{IsImage}
-use Rattle.lz_disk.specs.Devices.{Device, LeavesOnly}
-use Rattle.lz_disk.proofs.Moments.{leaves_more, leaves_then, quiet}
-use Rattle.lz_vault.specs.Makes.{IsPart, IsUnmadeOrHolds}
-use Rattle.lz_vault.proofs.MakingParts.{still_honest}
 use Rattle.lz_vault.proofs.making.make_with.Goals as goal
+use Rattle.std.proofs.{Common.{◌⊎◌, inl, inr, ℕ, List, IsTrue}, lemmas.Result.{err_from_is_err_and}}
+use Rattle.lz_slot.specs.Sets.{members}
+use Rattle.lz_disk.{specs.{Images.{IsImage}, Devices.{Device, LeavesOnly}}, proofs.Moments.{leaves_more, leaves_then, quiet}}
+use Rattle.lz_vault.{specs.Makes.{IsPart, IsUnmadeOrHolds}, proofs.MakingParts.{still_honest}}
 
 -- what was looked at, and then written
 made_leaves : (P : List ℕ → Type 0) (old mid new : Device) (F G : Type 0) → IsPart (IsImage old.medium) old mid F → IsPart P mid new G → IsTrue old.honest → LeavesOnly old new (λ t. IsImage old.medium t ⊎ P t)

@@ -1,8 +1,7 @@
-use Rattle.std.proofs.Common.{◌≡◌, get_or, sym, ◌∙◌, ap}
-use Rattle.std.proofs.lemmas.List.{get_or_read}
+use Rattle.lz_vault.proofs.making.slot_bytes.Goals as goal
+use Rattle.std.proofs.{Common.{◌≡◌, get_or, sym, ◌∙◌, ap}, lemmas.List.{get_or_read}}
 use Rattle.lz_slot.specs.Bytes.{member_bytes}
 use Rattle.lz_vault.proofs.FilledTexts.{text_blank, text_open}
-use Rattle.lz_vault.proofs.making.slot_bytes.Goals as goal
 
 pub returns-in-Some : goal.returns-in-Some
 returns-in-Some c =

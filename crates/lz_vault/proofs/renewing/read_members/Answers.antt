@@ -1,9 +1,7 @@
+use Rattle.lz_vault.proofs.renewing.read_members.Goals as goal
 use Rattle.std.proofs.Common.{refl, sym, subst, List, ℕ, length}
 use Rattle.lz_slot.specs.declared.format.Format.TheVariants.{Three}
-use Rattle.lz_vault.specs.Makes.{MayBeMembers}
-use Rattle.lz_vault.specs.Renewals.{AreHeldBy}
-use Rattle.lz_vault.proofs.HeldKeys.{are_held, are_members}
-use Rattle.lz_vault.proofs.renewing.read_members.Goals as goal
+use Rattle.lz_vault.{specs.{Makes.{MayBeMembers}, Renewals.{AreHeldBy}}, proofs.HeldKeys.{are_held, are_members}}
 
 pub returns-clause-held : goal.returns-clause-held
 returns-clause-held g c = λ honest.

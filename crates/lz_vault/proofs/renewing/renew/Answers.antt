@@ -1,15 +1,8 @@
-use Rattle.std.proofs.Common.{◌≡◌, ◌⊎◌, inl, inr, ⊎_elim, ℕ, List, IsTrue, sym, subst, arith}
-use Rattle.std.specs.Cmp.{both_ways}
-use Rattle.lz_slot.specs.Sets.{Keys, Same, members}
-use Rattle.lz_slot.specs.declared.format.Format.{Format}
-use Rattle.lz_slot.specs.Bytes.{Holds}
-use Rattle.lz_slot.proofs.Files.HeldSets.{holds_same_set}
-use Rattle.lz_disk.specs.Images.{IsImage}
-use Rattle.lz_disk.specs.Devices.{Device, IsTimely, LeavesOnly}
-use Rattle.lz_disk.proofs.Moments.{leaves_more, quiet}
-use Rattle.lz_vault.specs.Makes.{IsUnmadeOrHolds}
-use Rattle.lz_vault.specs.Renewals.{AreHeldBy}
 use Rattle.lz_vault.proofs.renewing.renew.Goals as goal
+use Rattle.std.{proofs.Common.{◌≡◌, ◌⊎◌, inl, inr, ⊎_elim, ℕ, List, IsTrue, sym, subst, arith}, specs.Cmp.{both_ways}}
+use Rattle.lz_slot.{specs.{Sets.{Keys, Same, members}, declared.format.Format.{Format}, Bytes.{Holds}}, proofs.Files.HeldSets.{holds_same_set}}
+use Rattle.lz_disk.{specs.{Images.{IsImage}, Devices.{Device, IsTimely, LeavesOnly}}, proofs.Moments.{leaves_more, quiet}}
+use Rattle.lz_vault.specs.{Makes.{IsUnmadeOrHolds}, Renewals.{AreHeldBy}}
 
 -- a text holds one set
 one_set : (t : List ℕ) (N M : ℕ) (S T : Keys) → Holds t N S → Holds t M T → Same S T

@@ -1,12 +1,7 @@
-use Rattle.std.proofs.Common.{◌≡◌, ◌+◌, ◌<◌, ℕ, length, get_or, rules, sym, ap, ◌∙◌, arith}
-use Rattle.std.specs.Prelude.{slice_get}
-use Rattle.std.proofs.lemmas.List.Sums.{count_by_more_no, count_by_more_yes}
-use Rattle.std.proofs.lemmas.Option.{slice_get-get_or}
-use Rattle.lz_vault.specs.Members.{no_cell}
-use Rattle.lz_vault.specs.Opens.{is_open}
-use Rattle.lz_vault.specs.Stages.{Cell}
-use Rattle.lz_vault.proofs.table.count_open.Goals.{then-is_open, else-is_open}
 use Rattle.lz_vault.proofs.table.count_open.Goals as goal
+use Rattle.std.proofs.{Common.{◌≡◌, ◌+◌, ◌<◌, ℕ, length, get_or, rules, sym, ap, ◌∙◌, arith}, lemmas.List.Sums.{count_by_more_no, count_by_more_yes}}
+use Rattle.std.{proofs.lemmas.Option.{slice_get-get_or}, specs.Prelude.{slice_get}}
+use Rattle.lz_vault.{specs.{Members.{no_cell}, Opens.{is_open}, Stages.{Cell}}, proofs.table.count_open.Goals.{then-is_open, else-is_open}}
 
 pub loop-index-preserved : goal.loop-index-preserved
 loop-index-preserved c =

@@ -1,15 +1,9 @@
-use Rattle.std.proofs.Common.{◌≡◌, ◌+◌, ◌<◌, ◌∙◌, Bool, List, [], ◌∷◌, ◌++◌, ℕ, Some, length, get_or, take, ap, arith, rules, subst, sym}
-use Rattle.std.specs.Prelude.{cond, slice_get, slice_set}
-use Rattle.std.proofs.lemmas.List.{take_more}
-use Rattle.std.proofs.lemmas.Option.{slice_get-get_or}
-use Rattle.lz_vault.specs.Members.{no_cell}
-use Rattle.lz_vault.specs.Opens.{is_open, open_count}
-use Rattle.lz_vault.specs.Stages.{Cell, cell_synced, stage_synced}
-use Rattle.lz_vault.specs.Tables.{AreMoved, is_opening}
-use Rattle.lz_vault.specs.declared.vault.Stage.{Stage}
-use Rattle.lz_vault.proofs.Tables.{counted, moved_more, opened_synced}
-use Rattle.lz_vault.proofs.table.move_on.Goals.{then-is_opening, else-is_opening}
 use Rattle.lz_vault.proofs.table.move_on.Goals as goal
+use Rattle.std.proofs.Common.{◌≡◌, ◌+◌, ◌<◌, ◌∙◌, Bool, List, [], ◌∷◌, ◌++◌, ℕ, Some, length, get_or, take, ap, arith, rules, subst, sym}
+use Rattle.std.{proofs.lemmas.{List.{take_more}, Option.{slice_get-get_or}}, specs.Prelude.{cond, slice_get, slice_set}}
+use Rattle.lz_vault.specs.{Members.{no_cell}, Opens.{is_open, open_count}, Stages.{Cell, cell_synced, stage_synced}, Tables.{AreMoved, is_opening}}
+use Rattle.lz_vault.{specs.declared.vault.Stage.{Stage}, proofs.Tables.{counted, moved_more, opened_synced}}
+use Rattle.lz_vault.proofs.table.move_on.Goals.{then-is_opening, else-is_opening}
 
 pub loop-index-preserved : goal.loop-index-preserved
 loop-index-preserved c =

@@ -1,9 +1,7 @@
-use Rattle.std.proofs.Common.{◌≡◌, [], ◌∷◌, ◌++◌, sym, ap, ◌∙◌}
-use Rattle.std.specs.Prelude.{is_some}
-use Rattle.lz_vault.specs.Members.{member_at}
-use Rattle.lz_yard.proofs.Opening.TakenSlots.{taken_more, taken_same}
-use Rattle.lz_yard.proofs.filling.taken_slots.Goals.{then-holds_member+in_ok-push, else-holds_member}
 use Rattle.lz_yard.proofs.filling.taken_slots.Goals as goal
+use Rattle.std.{proofs.Common.{◌≡◌, [], ◌∷◌, ◌++◌, sym, ap, ◌∙◌}, specs.Prelude.{is_some}}
+use Rattle.lz_vault.specs.Members.{member_at}
+use Rattle.lz_yard.proofs.{Opening.TakenSlots.{taken_more, taken_same}, filling.taken_slots.Goals.{then-holds_member+in_ok-push, else-holds_member}}
 
 pub loop-index-preserved : goal.loop-index-preserved
 loop-index-preserved g c =

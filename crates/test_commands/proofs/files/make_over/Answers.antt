@@ -1,10 +1,8 @@
-use Rattle.std.proofs.Common.{◌⊎◌, ◌∙◌, IsTrue, ℕ, [], subst, sym}
-use Rattle.lz_slot.specs.declared.format.Format.TheVariants.{One}
-use Rattle.lz_slot.specs.Sets.{members}
-use Rattle.lz_disk.specs.Images.{Medium, IsImage}
-use Rattle.lz_disk.specs.FileDisks.{device_over, waiting_of}
-use Rattle.lz_vault.specs.Makes.{IsUnmadeOrHolds}
 use Rattle.test_commands.proofs.files.make_over.Goals as goal
+use Rattle.std.proofs.Common.{◌⊎◌, ◌∙◌, IsTrue, ℕ, [], subst, sym}
+use Rattle.lz_slot.specs.{declared.format.Format.TheVariants.{One}, Sets.{members}}
+use Rattle.lz_disk.specs.{Images.{Medium, IsImage}, FileDisks.{device_over, waiting_of}}
+use Rattle.lz_vault.specs.Makes.{IsUnmadeOrHolds}
 
 pub returns : goal.returns
 returns g c = λ honest t left.

@@ -1,7 +1,7 @@
+use Rattle.test_threads.proofs.boards.halt.Goals as goal
 use Rattle.std.proofs.Common.{refl}
 use Rattle.lz_board.specs.Seats.{id_of}
 use Rattle.test_threads.proofs.TwoSlots.{writes_halt, lawful_halt}
-use Rattle.test_threads.proofs.boards.halt.Goals as goal
 
 pub publish-requires-clause-writes : goal.publish-requires-clause-writes
 publish-requires-clause-writes c =

@@ -1,8 +1,8 @@
+use Rattle.test_threads.proofs.boards.link.Goals as goal
 use Rattle.std.proofs.Common.{◌∷◌, ◌∙◌}
 use Rattle.lz_list.specs.declared.publishing.Publishing.TheVariants.{Linked as linked}
 use Rattle.lz_board.specs.Seats.{id_of}
 use Rattle.test_threads.proofs.TwoSlots.{writes_linked, lawful_linked}
-use Rattle.test_threads.proofs.boards.link.Goals as goal
 
 pub publish-requires-clause-writes : goal.publish-requires-clause-writes
 publish-requires-clause-writes c =

@@ -1,17 +1,8 @@
-use Rattle.std.proofs.Common.{◌≡◌, ◌%◌, sym, ap, ◌∙◌, subst}
-use Rattle.std.specs.Prelude.{IfSome}
-use Rattle.std.proofs.lemmas.List.Elements.{All-pop, All-weaker}
-use Rattle.lz_list.specs.declared.word.Word.TheVariants.{Head, Link, Key}
-use Rattle.lz_list.specs.Words.{set}
-use Rattle.lz_board.specs.declared.view.Part.{Part}
-use Rattle.lz_board.specs.Kept.{is_calling}
-use Rattle.lz_board.specs.Notes.{trace_of}
-use Rattle.lz_list.specs.Addresses.{sizes_in}
-use Rattle.lz_board.specs.Opened.{opened_by, AreOpened}
-use Rattle.lz_board.specs.Seats.{id_of, IsNew}
-use Rattle.test_threads.specs.NineFound.{nine_words, MayLook}
-use Rattle.test_threads.proofs.TwoSlots.{nine_opened}
 use Rattle.test_threads.proofs.boards.new_board.Goals as goal
+use Rattle.std.{proofs.{Common.{◌≡◌, ◌%◌, sym, ap, ◌∙◌, subst}, lemmas.List.Elements.{All-pop, All-weaker}}, specs.Prelude.{IfSome}}
+use Rattle.lz_list.specs.{declared.word.Word.TheVariants.{Head, Link, Key}, Words.{set}, Addresses.{sizes_in}}
+use Rattle.lz_board.specs.{declared.view.Part.{Part}, Kept.{is_calling}, Notes.{trace_of}, Opened.{opened_by, AreOpened}, Seats.{id_of, IsNew}}
+use Rattle.test_threads.{specs.NineFound.{nine_words, MayLook}, proofs.TwoSlots.{nine_opened}}
 
 pub new-requires-4-clause-opened : goal.new-requires-4-clause-opened
 new-requires-4-clause-opened c =

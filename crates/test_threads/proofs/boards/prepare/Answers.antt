@@ -1,8 +1,8 @@
+use Rattle.test_threads.proofs.boards.prepare.Goals as goal
 use Rattle.std.proofs.Common.{◌∷◌, ◌∙◌}
 use Rattle.lz_list.specs.declared.publishing.Publishing.TheVariants.{KeyPrepared as key_prepared, LinkPrepared as link_prepared}
 use Rattle.lz_board.specs.Seats.{id_of}
 use Rattle.test_threads.proofs.TwoSlots.{writes_key, lawful_key, leaves_key, writes_link, lawful_link, leaves_link}
-use Rattle.test_threads.proofs.boards.prepare.Goals as goal
 
 pub publish-requires-clause-writes : goal.publish-requires-clause-writes
 publish-requires-clause-writes c =

@@ -1,9 +1,6 @@
-use Rattle.std.proofs.Common.{◌∷◌, ◌%◌, ap, ◌∙◌, arith, rules}
-use Rattle.lz_board.specs.declared.view.Part.{Part}
-use Rattle.lz_board.specs.Notes.{trace_of}
-use Rattle.lz_board.specs.Seats.{id_of, notes, carried}
-use Rattle.lz_board.proofs.Upkeep.Splice.{trace_splice}
 use Rattle.test_threads.proofs.boards.publish.Goals as goal
+use Rattle.std.proofs.Common.{◌∷◌, ◌%◌, ap, ◌∙◌, arith, rules}
+use Rattle.lz_board.{specs.{declared.view.Part.{Part}, Notes.{trace_of}, Seats.{id_of, notes, carried}}, proofs.Upkeep.Splice.{trace_splice}}
 
 pub returns-clause-trace : goal.returns-clause-trace
 returns-clause-trace c =

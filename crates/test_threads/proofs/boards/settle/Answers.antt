@@ -1,9 +1,8 @@
+use Rattle.test_threads.proofs.boards.settle.Goals as goal
 use Rattle.std.proofs.Common.{◌∷◌, refl, ◌∙◌}
-use Rattle.lz_list.specs.declared.publishing.Change.TheVariants.{Added}
-use Rattle.lz_list.specs.declared.publishing.Publishing.TheVariants.{Settled as settled}
+use Rattle.lz_list.specs.declared.publishing.{Change.TheVariants.{Added}, Publishing.TheVariants.{Settled as settled}}
 use Rattle.lz_board.specs.Seats.{id_of}
 use Rattle.test_threads.proofs.TwoSlots.{writes_settled, lawful_settled}
-use Rattle.test_threads.proofs.boards.settle.Goals as goal
 
 pub publish-requires-clause-writes : goal.publish-requires-clause-writes
 publish-requires-clause-writes c =

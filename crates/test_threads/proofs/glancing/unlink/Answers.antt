@@ -1,10 +1,9 @@
+use Rattle.test_threads.proofs.glancing.unlink.Goals as goal
 use Rattle.std.proofs.Common.{◌∷◌, sym, ap, ◌∙◌}
-use Rattle.lz_list.specs.declared.publishing.Change.TheVariants.{Removed}
-use Rattle.lz_list.specs.declared.publishing.Publishing.TheVariants.{Marked as marked, Settled as settled}
+use Rattle.lz_list.specs.declared.publishing.{Change.TheVariants.{Removed}, Publishing.TheVariants.{Marked as marked, Settled as settled}}
 use Rattle.lz_board.specs.Seats.{id_of}
 use Rattle.test_threads.specs.NineFound.{when_settled}
 use Rattle.test_threads.proofs.TwoSlots.{writes_marked, lawful_marked, writes_removed, lawful_removed, writes_unlinked, lawful_unlinked}
-use Rattle.test_threads.proofs.glancing.unlink.Goals as goal
 
 pub publish-requires-clause-writes : goal.publish-requires-clause-writes
 publish-requires-clause-writes c =

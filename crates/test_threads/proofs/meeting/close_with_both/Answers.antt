@@ -1,8 +1,6 @@
-use Rattle.std.proofs.Common.{[], ◌∷◌}
-use Rattle.std.proofs.lemmas.List.Elements.{All-cons, All-nil}
-use Rattle.lz_board.specs.declared.pass.Pass.{Pass}
-use Rattle.lz_board.specs.Seats.{IsOf}
 use Rattle.test_threads.proofs.meeting.close_with_both.Goals as goal
+use Rattle.std.proofs.{Common.{[], ◌∷◌}, lemmas.List.Elements.{All-cons, All-nil}}
+use Rattle.lz_board.specs.{declared.pass.Pass.{Pass}, Seats.{IsOf}}
 
 pub close_with-requires : goal.close_with-requires
 close_with-requires g c =

@@ -1,5 +1,5 @@
-use Rattle.lz_set.specs.Names.{MayCall}
 use Rattle.test_threads.proofs.partners.fill.Given as goal
+use Rattle.lz_set.specs.Names.{MayCall}
 
 abbrev pub invariant-loop-number : goal.invariant-loop-number
 invariant-loop-number g l = MayCall g.N.Named.board l.pass

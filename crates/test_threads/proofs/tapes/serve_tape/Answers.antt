@@ -1,10 +1,8 @@
+use Rattle.test_threads.proofs.tapes.serve_tape.Goals as goal
 use Rattle.std.proofs.Common.{ap, subst, sym}
 use Rattle.lz_list.specs.Traces.{Begins, Trace}
 use Rattle.lz_board.specs.Seats.{part}
-use Rattle.lz_serve.specs.Clients.{Asker}
-use Rattle.lz_serve.proofs.Crowds.{from_nothing}
-use Rattle.lz_serve.proofs.InTurn.{granted_promises}
-use Rattle.test_threads.proofs.tapes.serve_tape.Goals as goal
+use Rattle.lz_serve.{specs.Clients.{Asker}, proofs.{Crowds.{from_nothing}, InTurn.{granted_promises}}}
 
 pub serve_client-requires-clause-promised : goal.serve_client-requires-clause-promised
 serve_client-requires-clause-promised g c = granted_promises g.N.Named.board g.N.Named.format

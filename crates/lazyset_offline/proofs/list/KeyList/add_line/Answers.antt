@@ -1,6 +1,6 @@
+use Rattle.lazyset_offline.proofs.list.KeyList.add_line.Goals as goal
 use Rattle.std.proofs.Common.{sym, ◌∙◌}
 use Rattle.lz_scan.proofs.OneEach.{member_found}
-use Rattle.lazyset_offline.proofs.list.KeyList.add_line.Goals as goal
 
 pub returns-then-is_some-clause-err : goal.returns-then-is_some-clause-err
 returns-then-is_some-clause-err c =

@@ -1,7 +1,6 @@
-use Rattle.std.proofs.Common.{rules}
-use Rattle.lazyset_offline.proofs.Listed.{are_members}
-use Rattle.lazyset_offline.proofs.ListPieces.{list_ends, list_fails}
 use Rattle.lazyset_offline.proofs.list.KeyList.end.Goals as goal
+use Rattle.std.proofs.Common.{rules}
+use Rattle.lazyset_offline.proofs.{Listed.{are_members}, ListPieces.{list_ends, list_fails}}
 
 pub returns-then-is_empty-clause-ok : goal.returns-then-is_empty-clause-ok
 returns-then-is_empty-clause-ok c = list_ends c.args.self (search rules)

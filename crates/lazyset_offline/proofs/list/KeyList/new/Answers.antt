@@ -1,6 +1,6 @@
+use Rattle.lazyset_offline.proofs.list.KeyList.new.Goals as goal
 use Rattle.std.proofs.Common.{refl}
 use Rattle.lazyset_offline.proofs.ListPieces.{begins, opens}
-use Rattle.lazyset_offline.proofs.list.KeyList.new.Goals as goal
 
 pub returns-clause-kept : goal.returns-clause-kept
 returns-clause-kept c = opens _ c.new-2.ensures c.new.ensures.items c.new-3.ensures.items

@@ -1,7 +1,7 @@
+use Rattle.lazyset_offline.proofs.list.KeyList.take.Goals as goal
 use Rattle.std.proofs.Common.{rules}
 use Rattle.lz_slot.proofs.Texts.Cuts.{lacks_all, lacks_first}
 use Rattle.lazyset_offline.proofs.ListPieces.{last_fails, within_fails, within_next}
-use Rattle.lazyset_offline.proofs.list.KeyList.take.Goals as goal
 
 pub take_line-requires-clause-clear : goal.take_line-requires-clause-clear
 take_line-requires-clause-clear c = rw c.split_at.ensures.front (lacks_first 10 c.loop-end.rest.now c.in-Some.end c.in-Some.ensures)

@@ -1,6 +1,6 @@
+use Rattle.lazyset_offline.proofs.list.KeyList.take.Given as goal
 use Rattle.std.proofs.Common.{length}
 use Rattle.lazyset_offline.proofs.ListPieces.{Within}
-use Rattle.lazyset_offline.proofs.list.KeyList.take.Given as goal
 
 abbrev pub invariant-loop-end : goal.invariant-loop-end
 invariant-loop-end l = Within l.initial.self l.piece l.self l.rest

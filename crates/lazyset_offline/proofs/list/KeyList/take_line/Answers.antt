@@ -1,5 +1,5 @@
-use Rattle.lazyset_offline.proofs.ListPieces.{line_at_fault, line_kept, line_read}
 use Rattle.lazyset_offline.proofs.list.KeyList.take_line.Goals as goal
+use Rattle.lazyset_offline.proofs.ListPieces.{line_at_fault, line_kept, line_read}
 
 pub returns-in-Err-clause-err : goal.returns-in-Err-clause-err
 returns-in-Err-clause-err c =

@@ -1,12 +1,8 @@
-use Rattle.std.proofs.Common.{◌≡◌, ◌∙◌, sym, ap, length, take, drop, ◌++◌, arith, deque_len}
-use Rattle.std.proofs.lemmas.List.{get_or_default, length-map}
-use Rattle.std.proofs.lemmas.Bool.{eqb-true}
 use Rattle.lz_allot.specs.declared.kind.Kind.TheVariants as kind
-use Rattle.lz_allot.specs.Rows.{least_left, rows_freed, first_row}
-use Rattle.lz_allot.specs.Allots.{set_each}
-use Rattle.lz_allot.proofs.FilledPlaces.{length-set_each, written_whole}
-use Rattle.lz_allot.proofs.CallEffects.{least, least_few, total, in_limbo, told_freed, limbo_freed, allot_freed, none_left, rows_stay, uses_stay}
 use Rattle.lz_allot.proofs.allot.Allot.collect.Goals as goal
+use Rattle.std.proofs.{Common.{◌≡◌, ◌∙◌, sym, ap, length, take, drop, ◌++◌, arith, deque_len}, lemmas.{List.{get_or_default, length-map}, Bool.{eqb-true}}}
+use Rattle.lz_allot.{specs.{Rows.{least_left, rows_freed, first_row}, Allots.{set_each}}, proofs.FilledPlaces.{length-set_each, written_whole}}
+use Rattle.lz_allot.proofs.CallEffects.{least, least_few, total, in_limbo, told_freed, limbo_freed, allot_freed, none_left, rows_stay, uses_stay}
 
 pub returns-then-is_empty : goal.returns-then-is_empty
 returns-then-is_empty c =

@@ -1,8 +1,6 @@
-use Rattle.std.proofs.Common.{ap, length, arith}
-use Rattle.std.proofs.lemmas.List.{length-map}
-use Rattle.lz_allot.specs.Allots.{is_free_kind}
-use Rattle.lz_allot.proofs.CallEffects.{taken_low, total, told_given_back, allot_given_back}
 use Rattle.lz_allot.proofs.allot.Allot.give_back.Goals as goal
+use Rattle.std.proofs.{Common.{ap, length, arith}, lemmas.List.{length-map}}
+use Rattle.lz_allot.{specs.Allots.{is_free_kind}, proofs.CallEffects.{taken_low, total, told_given_back, allot_given_back}}
 
 pub set-requires : goal.set-requires
 set-requires c =

@@ -1,8 +1,7 @@
-use Rattle.std.proofs.Common.{arith}
-use Rattle.std.proofs.lemmas.Bool.{false≢true}
+use Rattle.lz_allot.proofs.allot.Allot.is_taken.Goals as goal
+use Rattle.std.proofs.{Common.{arith}, lemmas.Bool.{false≢true}}
 use borrow.Author.Tests.{true-ltb, false-ltb}
 use Rattle.lz_allot.proofs.CallEffects.{taken_low, tells_taken}
-use Rattle.lz_allot.proofs.allot.Allot.is_taken.Goals as goal
 
 pub returns-in-Some : goal.returns-in-Some
 returns-in-Some c =

@@ -1,11 +1,7 @@
-use Rattle.std.proofs.Common.{◌≡◌, ap, map, replicate, ◌∙◌, arith, rules}
-use Rattle.std.specs.List.{count_by}
-use Rattle.std.specs.VecDeque.{deque_capacity}
-use Rattle.std.proofs.lemmas.List.Sums.{count_by-le-length}
-use Rattle.lz_allot.specs.Rows.{first_row}
-use Rattle.lz_allot.specs.Allots.{is_free_kind}
-use Rattle.lz_allot.proofs.CallEffects.{first_length, told_first, allot_first}
 use Rattle.lz_allot.proofs.allot.Allot.new.Goals as goal
+use Rattle.std.{proofs.{Common.{◌≡◌, ap, map, replicate, ◌∙◌, arith, rules}, lemmas.List.Sums.{count_by-le-length}}, specs.List.{count_by}}
+use Rattle.std.specs.VecDeque.{deque_capacity}
+use Rattle.lz_allot.{specs.{Rows.{first_row}, Allots.{is_free_kind}}, proofs.CallEffects.{first_length, told_first, allot_first}}
 
 pub free_of-requires : goal.free_of-requires
 free_of-requires c = grind (arith, first_length)

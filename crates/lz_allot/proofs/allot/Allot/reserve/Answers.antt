@@ -1,6 +1,6 @@
+use Rattle.lz_allot.proofs.allot.Allot.reserve.Goals as goal
 use Rattle.std.proofs.Common.{◌∙◌, sym, arith}
 use Rattle.lz_allot.proofs.CallEffects.{lowest_is, some_free, total, told_reserved, allot_reserved}
-use Rattle.lz_allot.proofs.allot.Allot.reserve.Goals as goal
 
 pub returns-in_default-clause-slot : goal.returns-in_default-clause-slot
 returns-in_default-clause-slot c = rw (← c.self.view_is) (sym c.in_default.is ∙ c.lowest.ensures ∙ lowest_is _ _ _ _ _ _ c.self.invariant)

@@ -1,6 +1,6 @@
+use Rattle.lz_allot.proofs.allot.Allot.retire.Goals as goal
 use Rattle.std.proofs.Common.{arith}
 use Rattle.lz_allot.proofs.CallEffects.{taken_low, has_room, total, told_retired, allot_retired}
-use Rattle.lz_allot.proofs.allot.Allot.retire.Goals as goal
 
 pub push_back_reserved-requires : goal.push_back_reserved-requires
 push_back_reserved-requires c =

@@ -1,12 +1,7 @@
-use Rattle.std.proofs.Common.{◌≡◌, ◌-◌, ◌∙◌, sym, ap, subst, set, length, arith, List}
-use Rattle.std.proofs.lemmas.List.{get_or_read}
-use Rattle.std.specs.VecDeque.{deque_capacity}
-use Rattle.lz_allot.specs.declared.row.Row.{Row}
-use Rattle.lz_allot.specs.Rows.{rows_seen}
-use Rattle.lz_allot.specs.Allots.{IsAllot, uses_told}
-use Rattle.lz_allot.proofs.SightChanges.{rows_seen_is}
-use Rattle.lz_allot.proofs.CallEffects.{allot_seen, told_pin, limbo_is}
 use Rattle.lz_allot.proofs.allot.Allot.see_pin.Goals as goal
+use Rattle.std.{proofs.{Common.{◌≡◌, ◌-◌, ◌∙◌, sym, ap, subst, set, length, arith, List}, lemmas.List.{get_or_read}}, specs.VecDeque.{deque_capacity}}
+use Rattle.lz_allot.{specs.{declared.row.Row.{Row}, Rows.{rows_seen}, Allots.{IsAllot, uses_told}}, proofs.SightChanges.{rows_seen_is}}
+use Rattle.lz_allot.proofs.CallEffects.{allot_seen, told_pin, limbo_is}
 
 rows_are : (c : goal.After-self-1) → set c.self.inside.rows.items (c.args.pass - 1) c.see.new.self ≡ rows_seen c.args.pass c.args.pin (length c.self.inside.limbo.items) c.self.inside.rows.items
 rows_are c = grind (arith, get_or_read, rows_seen_is)

@@ -1,9 +1,6 @@
-use Rattle.std.proofs.Common.{◌≡◌, ℕ, ◌+◌, ◌*◌, ◌<◌, ◌^◌, sym, ◌∙◌, subst, rules}
-use Rattle.std.specs.Int.{trailing_zeros, w64}
-use Rattle.std.proofs.lemmas.List.{get_or_read}
-use Rattle.lz_allot.specs.Trees.{word_at}
-use Rattle.lz_allot.proofs.LowestSlot.{IsLowest, inside_words, lowest_at_root, lowest_child, lowest_leaf, none_below, root_inside}
 use Rattle.lz_allot.proofs.free.FreeSlots.lowest.Goals as goal
+use Rattle.std.{proofs.{Common.{◌≡◌, ℕ, ◌+◌, ◌*◌, ◌<◌, ◌^◌, sym, ◌∙◌, subst, rules}, lemmas.List.{get_or_read}}, specs.Int.{trailing_zeros, w64}}
+use Rattle.lz_allot.{specs.Trees.{word_at}, proofs.LowestSlot.{IsLowest, inside_words, lowest_at_root, lowest_child, lowest_leaf, none_below, root_inside}}
 
 pub returns-then-index-eq0 : goal.returns-then-index-eq0
 returns-then-index-eq0 c =

@@ -1,6 +1,6 @@
+use Rattle.lz_allot.proofs.free.FreeSlots.lowest.Given as goal
 use Rattle.std.proofs.Common.{◌-◌}
 use Rattle.lz_allot.proofs.LowestSlot.{IsLowest}
-use Rattle.lz_allot.proofs.free.FreeSlots.lowest.Given as goal
 
 abbrev pub invariant-loop-node : goal.invariant-loop-node
 invariant-loop-node l = IsLowest l.self-inside.words.items l.self-inside.first l.node

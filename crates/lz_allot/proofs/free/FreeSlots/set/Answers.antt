@@ -1,11 +1,7 @@
-use Rattle.std.proofs.Common.{◌≡◌, ◌≢◌, ℕ, ◌-◌, ◌/◌, ◌∙◌, refl, ap, arith, subst}
-use Rattle.std.specs.Int.{bit_at}
-use Rattle.std.specs.Prelude.{nat_lt}
-use Rattle.std.proofs.lemmas.List.{get_or_read}
-use Rattle.lz_allot.specs.Trees.{word_at}
-use Rattle.lz_allot.proofs.SetSlots.{changed_by, half_above, half_begins, half_done, inside, kept_by, shows_set, whole}
-use Rattle.lz_allot.proofs.Trees.{slot_low}
 use Rattle.lz_allot.proofs.free.FreeSlots.set.Goals as goal
+use Rattle.std.{proofs.{Common.{◌≡◌, ◌≢◌, ℕ, ◌-◌, ◌/◌, ◌∙◌, refl, ap, arith, subst}, lemmas.List.{get_or_read}}, specs.{Int.{bit_at}, Prelude.{nat_lt}}}
+use Rattle.lz_allot.{specs.Trees.{word_at}, proofs.SetSlots.{changed_by, half_above, half_begins, half_done, inside, kept_by, shows_set, whole}}
+use Rattle.lz_allot.proofs.Trees.{slot_low}
 
 pub loop-node-init : goal.loop-node-init
 loop-node-init c =

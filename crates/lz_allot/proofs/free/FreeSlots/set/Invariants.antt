@@ -1,6 +1,6 @@
+use Rattle.lz_allot.proofs.free.FreeSlots.set.Given as goal
 use Rattle.std.proofs.Common.{◌≡◌}
 use Rattle.lz_allot.proofs.SetSlots.{IsHalfSet}
-use Rattle.lz_allot.proofs.free.FreeSlots.set.Given as goal
 
 abbrev pub invariant-loop-node : goal.invariant-loop-node
 invariant-loop-node l = record {

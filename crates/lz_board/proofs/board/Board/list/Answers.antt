@@ -1,10 +1,6 @@
-use Rattle.std.proofs.Common.{◌≡◌, ℕ, suc, IfOk, ap, ◌∙◌, subst}
-use Rattle.lz_board.specs.Notes.{Since}
-use Rattle.lz_board.specs.Plays.{knowing, IsShownTo}
-use Rattle.lz_board.specs.Seats.{id_of, part}
-use Rattle.lz_board.specs.Listings.{IsPage}
-use Rattle.lz_board.proofs.Walk.ListAnswer.{list_rows}
 use Rattle.lz_board.proofs.board.Board.list.Goals as goal
+use Rattle.std.proofs.Common.{◌≡◌, ℕ, suc, IfOk, ap, ◌∙◌, subst}
+use Rattle.lz_board.{specs.{Notes.{Since}, Plays.{knowing, IsShownTo}, Seats.{id_of, part}, Listings.{IsPage}}, proofs.Walk.ListAnswer.{list_rows}}
 
 pub returns-clause-lists : goal.returns-clause-lists
 returns-clause-lists c =

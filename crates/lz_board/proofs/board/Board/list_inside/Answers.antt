@@ -1,9 +1,6 @@
-use Rattle.std.proofs.Common.{◌∙◌, subst}
-use Rattle.lz_board.specs.Notes.{Since}
-use Rattle.lz_board.specs.Seats.{part}
-use Rattle.lz_board.proofs.Walk.WalkerLemma.{since_trans}
-use Rattle.lz_board.proofs.Walk.GlanceAnswer.{unhalted_before}
 use Rattle.lz_board.proofs.board.Board.list_inside.Goals as goal
+use Rattle.std.proofs.Common.{◌∙◌, subst}
+use Rattle.lz_board.{specs.{Notes.{Since}, Seats.{part}}, proofs.Walk.{WalkerLemma.{since_trans}, GlanceAnswer.{unhalted_before}}}
 
 pub returns-clause-shown : goal.returns-clause-shown
 returns-clause-shown c =

@@ -1,19 +1,11 @@
+use Rattle.lz_board.proofs.board.Board.list_slot.Goals as goal
 use Rattle.std.proofs.Common.{◌≡◌, ◌⊎◌, ◌≤◌, ℕ, inl, inr, Some, IfSome, true, sym, ap, ◌∙◌, subst}
 use mathlib.Core.Bool.{false≢true}
 use Rattle.lz_slot.specs.Limits.{largest_key}
-use Rattle.lz_list.specs.Traces.{Lawful}
-use Rattle.lz_list.specs.Pinned.{IsQuiet}
+use Rattle.lz_list.{specs.{Traces.{Lawful}, Pinned.{IsQuiet}}, proofs.Traces.Absence.{begins_itself}}
 use Rattle.lz_machine.specs.Yards.{IsInside}
-use Rattle.lz_board.specs.Plays.{IsShownTo}
-use Rattle.lz_board.specs.Seats.{id_of, part}
-use Rattle.lz_board.specs.Glances.{Glanced}
-use Rattle.lz_board.specs.Listings.{WasAway}
-use Rattle.lz_board.specs.Walkers.{glance_of, MeetsAtEnd}
-use Rattle.lz_list.proofs.Traces.Absence.{begins_itself}
-use Rattle.lz_board.proofs.Walk.WalkerLemma.{shown_on}
-use Rattle.lz_board.proofs.Walk.GlanceAnswer.{told}
-use Rattle.lz_board.proofs.Walk.ListedSlot.{by_link, by_key, told_if, others_if, not_true, all_shown}
-use Rattle.lz_board.proofs.board.Board.list_slot.Goals as goal
+use Rattle.lz_board.specs.{Plays.{IsShownTo}, Seats.{id_of, part}, Glances.{Glanced}, Listings.{WasAway}, Walkers.{glance_of, MeetsAtEnd}}
+use Rattle.lz_board.proofs.Walk.{WalkerLemma.{shown_on}, GlanceAnswer.{told}, ListedSlot.{by_link, by_key, told_if, others_if, not_true, all_shown}}
 use Rattle.lz_board.proofs.board.Board.list_slot.Goals.{then-flags-via-then-flags, then-flags-via-else-flags+then-not-flags}
 
 pub returns-then-flags-clause-others : goal.returns-then-flags-clause-others

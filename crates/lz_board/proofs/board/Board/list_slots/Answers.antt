@@ -1,15 +1,9 @@
+use Rattle.lz_board.proofs.board.Board.list_slots.Goals as goal
 use Rattle.std.proofs.Common.{◌≡◌, ◌⊎◌, inl, inr, ℕ, ◌+◌, ◌≤◌, Some, None, List, vec_capacity, vec_len, true, sym, ap, ◌∙◌, subst, arith}
 use Rattle.lz_slot.specs.Limits.{largest_key}
 use Rattle.lz_machine.specs.Yards.{IsInside}
-use Rattle.lz_board.specs.Plays.{knowing, IsShownTo}
-use Rattle.lz_board.specs.Seats.{part}
-use Rattle.lz_board.specs.Glances.{Glanced}
-use Rattle.lz_board.specs.Listings.{Listed, WasAway}
-use Rattle.lz_board.proofs.Upkeep.Growth.{begins_of}
-use Rattle.lz_board.proofs.Walk.WalkerLemma.{shown_on}
-use Rattle.lz_board.proofs.Walk.ListedMore.{listed_some, listed_next}
-use Rattle.lz_board.proofs.board.Board.list_slots.Goals as goal
-use Rattle.lz_board.proofs.board.Board.list_slots.Goals.{in-Some, in_default}
+use Rattle.lz_board.{specs.{Plays.{knowing, IsShownTo}, Seats.{part}, Glances.{Glanced}, Listings.{Listed, WasAway}}, proofs.Upkeep.Growth.{begins_of}}
+use Rattle.lz_board.proofs.{Walk.{WalkerLemma.{shown_on}, ListedMore.{listed_some, listed_next}}, board.Board.list_slots.Goals.{in-Some, in_default}}
 
 pub loop-index-preserved : goal.loop-index-preserved
 loop-index-preserved c =

@@ -1,10 +1,7 @@
+use Rattle.lz_board.proofs.board.Board.list_slots.Given as goal
 use Rattle.std.proofs.Common.{◌≡◌, ◌⊎◌, ◌≤◌, ◌+◌, vec_capacity, vec_len}
 use Rattle.lz_machine.specs.Yards.{IsInside}
-use Rattle.lz_board.specs.Notes.{Since}
-use Rattle.lz_board.specs.Plays.{knowing}
-use Rattle.lz_board.specs.Seats.{id_of, part, IsOf}
-use Rattle.lz_board.specs.Listings.{Listed}
-use Rattle.lz_board.proofs.board.Board.list_slots.Given as goal
+use Rattle.lz_board.specs.{Notes.{Since}, Plays.{knowing}, Seats.{id_of, part, IsOf}, Listings.{Listed}}
 
 abbrev pub invariant-loop-index : goal.invariant-loop-index
 invariant-loop-index l = record {

@@ -1,5 +1,4 @@
-use denote.Param.Send.{IsSync, cell_keyless}
-use denote.Memory.{part_of, raw_all}
+use denote.{Param.Send.{IsSync, cell_keyless}, Memory.{part_of, raw_all}}
 use Rattle.lz_board.specs.contracts.moment.Moment.{the_row}
 
 pub sync : IsSync the_row

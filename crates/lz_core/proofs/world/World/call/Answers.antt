@@ -1,12 +1,7 @@
-use Rattle.std.proofs.Common.{◌≤◌, ◌+◌, arith, refl, rules}
-use Rattle.lz_slot.specs.Numerals.{largest_read}
-use Rattle.lz_slot.specs.Limits.{largest_key}
-use Rattle.lz_slot.specs.Sets.{key_of}
-use Rattle.lz_core.specs.Worlds.{MayCall}
-use Rattle.lz_core.proofs.Runs.PlayedStep.{leads}
-use Rattle.lz_core.proofs.Callers.ShownCallers.{lawful_call}
-use Rattle.lz_core.proofs.Callers.Invoke.{may_invoke, call_runs, call_world}
 use Rattle.lz_core.proofs.world.World.call.Goals as goal
+use Rattle.std.proofs.Common.{◌≤◌, ◌+◌, arith, refl, rules}
+use Rattle.lz_slot.specs.{Numerals.{largest_read}, Limits.{largest_key}, Sets.{key_of}}
+use Rattle.lz_core.{specs.Worlds.{MayCall}, proofs.{Runs.PlayedStep.{leads}, Callers.{ShownCallers.{lawful_call}, Invoke.{may_invoke, call_runs, call_world}}}}
 
 pub invariant_of-self : goal.invariant_of-self
 invariant_of-self c =

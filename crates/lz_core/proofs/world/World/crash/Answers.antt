@@ -1,19 +1,12 @@
+use Rattle.lz_core.proofs.world.World.crash.Goals as goal
 use Rattle.std.proofs.Common.{◌≡◌, ◌∙◌, ℕ, Bool, List, [], ◌∷◌, Option, false, sym, ap, subst, refl}
 use Rattle.lz_slot.specs.declared.history.Mark.TheVariants.{Crash as crashed}
-use Rattle.lz_disk.specs.declared.memory.Pick.{Pick}
-use Rattle.lz_disk.specs.Images.{Medium, IsImage, at_rest}
-use Rattle.lz_disk.specs.Picks.{left_by}
-use Rattle.lz_disk.specs.Records.{Past}
-use Rattle.lz_core.specs.declared.play.Step.TheVariants.{Crash}
-use Rattle.lz_core.specs.declared.open_calls.OpenCall.{OpenCall}
-use Rattle.lz_machine.specs.Yards.{Shape}
-use Rattle.lz_yard.specs.Parts.{YardOver}
-use Rattle.lz_machine.specs.Runs.{Down, Crashes, disk_of}
-use Rattle.lz_machine.specs.Points.{IsBetweenLooks}
-use Rattle.lz_core.specs.Worlds.{Goes, WorldOver, IsWorld, HasOne, state_shown, world_shown, disk_shown}
-use Rattle.lz_core.proofs.Runs.PlayedStep.{leads}
+use Rattle.lz_disk.specs.{declared.memory.Pick.{Pick}, Images.{Medium, IsImage, at_rest}, Picks.{left_by}, Records.{Past}}
+use Rattle.lz_core.specs.declared.{play.Step.TheVariants.{Crash}, open_calls.OpenCall.{OpenCall}}
+use Rattle.lz_core.{specs.Worlds.{Goes, WorldOver, IsWorld, HasOne, state_shown, world_shown, disk_shown}, proofs.Runs.PlayedStep.{leads}}
 use Rattle.lz_core.proofs.Runs.Endings.{crashes, now_at, disk_is}
-use Rattle.lz_core.proofs.world.World.crash.Goals as goal
+use Rattle.lz_machine.specs.{Yards.{Shape}, Runs.{Down, Crashes, disk_of}, Points.{IsBetweenLooks}}
+use Rattle.lz_yard.specs.Parts.{YardOver}
 
 module _ (shape : Shape) (yard yard' : Option (YardOver Past)) (disk disk' : Option Past) (callers : List (Option OpenCall)) (calls : ℕ) (tripped now : Bool) (pick : Pick) where
   abbrev IsDown : Type 0

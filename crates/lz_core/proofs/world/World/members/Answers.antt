@@ -1,5 +1,5 @@
-use Rattle.lz_core.proofs.Members.ShownKeys.{world_members, if_ok}
 use Rattle.lz_core.proofs.world.World.members.Goals as goal
+use Rattle.lz_core.proofs.Members.ShownKeys.{world_members, if_ok}
 
 pub returns-in-Some-clause-members : goal.returns-in-Some-clause-members
 returns-in-Some-clause-members c =

@@ -1,6 +1,6 @@
+use Rattle.lz_core.proofs.world.World.new.Goals as goal
 use Rattle.std.proofs.Common.{arith}
 use Rattle.lz_core.proofs.Opens.OpenedWorld.{new_is, new_world}
-use Rattle.lz_core.proofs.world.World.new.Goals as goal
 
 pub invariant_of-result : goal.invariant_of-result
 invariant_of-result c =

@@ -1,9 +1,8 @@
+use Rattle.lz_core.proofs.world.World.next_event.Goals as goal
 use Rattle.std.proofs.Common.{◌≡◌, IfSome, List, Option, None, ap, ◌∙◌, sym, subst}
 use Rattle.lz_slot.specs.Counted.{of_pass}
-use Rattle.lz_core.specs.declared.open_calls.OpenCall.{OpenCall}
-use Rattle.lz_core.specs.Worlds.{WorldOver, event_asked, event_loaded, next_of}
+use Rattle.lz_core.specs.{declared.open_calls.OpenCall.{OpenCall}, Worlds.{WorldOver, event_asked, event_loaded, next_of}}
 use Rattle.lz_core.proofs.Callers.LoadedEvent.{has_passes, next_loaded}
-use Rattle.lz_core.proofs.world.World.next_event.Goals as goal
 
 pub next_on-requires : goal.next_on-requires
 next_on-requires c =

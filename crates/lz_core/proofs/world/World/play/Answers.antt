@@ -1,15 +1,10 @@
-use Rattle.std.proofs.Common.{◌+◌, ◌++◌, List, Option, length, arith, subst, sym, ◌∙◌, ap, take, refl}
-use Rattle.std.proofs.lemmas.Result.{err_from_is_err_and}
-use Rattle.std.proofs.lemmas.Option.{slice_get_read}
-use Rattle.lz_core.specs.declared.world.PlayFault.TheVariants.{NotNow, Memory}
-use Rattle.std.proofs.lemmas.List.{take_all, append-nil}
-use Rattle.lz_slot.specs.declared.history.Mark.{Mark}
-use Rattle.lz_core.specs.declared.play.Step.{Step as PlayStep}
-use Rattle.lz_core.specs.Worlds.{PlaysOn, mark_list}
-use Rattle.lz_core.proofs.Runs.PlayedStep.{stays}
-use Rattle.lz_core.proofs.Runs.JoinedPlays.{chains, goes_on, early_on, stops_at, same_fault, no_mark}
 use Rattle.lz_core.proofs.world.World.play.Goals as goal
+use Rattle.std.proofs.{Common.{◌+◌, ◌++◌, List, Option, length, arith, subst, sym, ◌∙◌, ap, take, refl}, lemmas.Result.{err_from_is_err_and}}
+use Rattle.std.proofs.lemmas.{Option.{slice_get_read}, List.{take_all, append-nil}}
+use Rattle.lz_core.specs.{declared.{world.PlayFault.TheVariants.{NotNow, Memory}, play.Step.{Step as PlayStep}}, Worlds.{PlaysOn, mark_list}}
+use Rattle.lz_core.proofs.Runs.{PlayedStep.{stays}, JoinedPlays.{chains, goes_on, early_on, stops_at, same_fault, no_mark}}
 use Rattle.lz_core.proofs.world.World.play.Goals.{in-Some, in_default}
+use Rattle.lz_slot.specs.declared.history.Mark.{Mark}
 
 pub loop-before-init : goal.loop-before-init
 loop-before-init c = record {

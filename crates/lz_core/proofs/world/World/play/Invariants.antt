@@ -1,6 +1,6 @@
+use Rattle.lz_core.proofs.world.World.play.Given as goal
 use Rattle.std.proofs.Common.{◌≡◌, take}
 use Rattle.lz_core.specs.Worlds.{PlaysOn}
-use Rattle.lz_core.proofs.world.World.play.Given as goal
 
 abbrev pub invariant-loop-before : goal.invariant-loop-before
 invariant-loop-before l = record {

@@ -1,8 +1,7 @@
+use Rattle.lz_core.proofs.world.World.play_event.Goals as goal
 use Rattle.std.proofs.Common.{◌≡◌, ◌≢◌, true, false, sym, ap, ◌∙◌, rules}
 use Rattle.lz_machine.specs.declared.event.Outcome.TheVariants.{Fault}
-use Rattle.lz_core.specs.Worlds.{WorldOver}
-use Rattle.lz_core.proofs.Callers.TrippedTurn.{done_plays, failed_plays}
-use Rattle.lz_core.proofs.world.World.play_event.Goals as goal
+use Rattle.lz_core.{specs.Worlds.{WorldOver}, proofs.Callers.TrippedTurn.{done_plays, failed_plays}}
 
 pub returns-then-not-is_fault-clause-plays : goal.returns-then-not-is_fault-clause-plays
 returns-then-not-is_fault-clause-plays c =

@@ -1,10 +1,9 @@
+use Rattle.lz_core.proofs.world.World.reopen.Goals as goal
 use Rattle.std.proofs.Common.{◌∙◌, subst, sym}
 use Rattle.lz_disk.specs.Records.{Past, device_of}
 use Rattle.lz_vault.specs.Opens.{MayOpen}
 use Rattle.lz_judge.specs.MarkLines.{AscendFrom}
-use Rattle.lz_core.proofs.Opens.OpenedWorld.{may_reopen, reopened_world, reopened_on}
-use Rattle.lz_core.proofs.Opens.RefusedOpen.{refused_world, told_fault, told_none}
-use Rattle.lz_core.proofs.world.World.reopen.Goals as goal
+use Rattle.lz_core.proofs.Opens.{OpenedWorld.{may_reopen, reopened_world, reopened_on}, RefusedOpen.{refused_world, told_fault, told_none}}
 
 pub open_again-requires-clause-disk : goal.open_again-requires-clause-disk
 open_again-requires-clause-disk c =

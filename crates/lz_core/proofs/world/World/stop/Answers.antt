@@ -1,15 +1,10 @@
-use Rattle.std.proofs.Common.{◌≡◌, ◌∙◌, List, Option, sym, ap, subst, refl}
-use Rattle.lz_disk.specs.Images.{Medium}
-use Rattle.lz_disk.specs.Records.{Past}
-use Rattle.lz_core.specs.declared.open_calls.OpenCall.{OpenCall}
-use Rattle.lz_machine.specs.Yards.{Shape}
-use Rattle.lz_yard.specs.Parts.{YardOver}
-use Rattle.lz_machine.specs.Runs.{Down, disk_of}
-use Rattle.lz_machine.specs.Points.{IsBetweenLooks}
-use Rattle.lz_core.specs.Worlds.{state_shown, disk_shown}
-use Rattle.lz_core.proofs.Runs.PlayedStep.{leads}
-use Rattle.lz_core.proofs.Runs.Endings.{stops, now_at, disk_is}
 use Rattle.lz_core.proofs.world.World.stop.Goals as goal
+use Rattle.std.proofs.Common.{◌≡◌, ◌∙◌, List, Option, sym, ap, subst, refl}
+use Rattle.lz_disk.specs.{Images.{Medium}, Records.{Past}}
+use Rattle.lz_core.{specs.{declared.open_calls.OpenCall.{OpenCall}, Worlds.{state_shown, disk_shown}}, proofs.Runs.PlayedStep.{leads}}
+use Rattle.lz_core.proofs.Runs.Endings.{stops, now_at, disk_is}
+use Rattle.lz_machine.specs.{Yards.{Shape}, Runs.{Down, disk_of}, Points.{IsBetweenLooks}}
+use Rattle.lz_yard.specs.Parts.{YardOver}
 
 -- a world whose service ended shows what its disk was
 down_by : (shape : Shape) (yard yard' : Option (YardOver Past)) (disk disk' : Option Past) (callers : List (Option OpenCall))

@@ -1,12 +1,10 @@
+use Rattle.lz_core.proofs.world.World.take_turn.Goals as goal
 use Rattle.std.proofs.Common.{◌≡◌, ◌-◌, IfSome, IsSome, Option, Some, None, subst, sym}
 use Rattle.lz_disk.specs.Records.{Past}
 use Rattle.lz_yard.specs.Parts.{YardOver}
-use Rattle.lz_core.specs.declared.open_calls.OpenCall.{OpenCall}
-use Rattle.lz_machine.specs.Orders.{MayTake}
-use Rattle.lz_machine.specs.Runs.{marks_of_turn}
-use Rattle.lz_core.specs.Worlds.{WorldOver, IsCallOn, MayStepOn, call_after, call_shown, mark_list, next_of}
+use Rattle.lz_core.specs.{declared.open_calls.OpenCall.{OpenCall}, Worlds.{WorldOver, IsCallOn, MayStepOn, call_after, call_shown, mark_list, next_of}}
 use Rattle.lz_core.proofs.Callers.TurnOfWorld.{may_on, takes, kept, tells, ranged, taken_at, tells_outcome, turns_on}
-use Rattle.lz_core.proofs.world.World.take_turn.Goals as goal
+use Rattle.lz_machine.specs.{Orders.{MayTake}, Runs.{marks_of_turn}}
 
 pub step_on-outcome-requires : goal.step_on-outcome-requires
 step_on-outcome-requires c =

@@ -1,7 +1,6 @@
-use Rattle.std.proofs.Common.{Option, subst}
-use Rattle.lz_disk.specs.FileDisks.{KeepsFile, waiting_of}
-use Rattle.lz_disk.proofs.OverFiles.{gathered_keeps, gathered_medium, gathered_part}
 use Rattle.lz_disk.proofs.file.FileDisk.gathers.Goals as goal
+use Rattle.std.proofs.Common.{Option, subst}
+use Rattle.lz_disk.{specs.FileDisks.{KeepsFile, waiting_of}, proofs.OverFiles.{gathered_keeps, gathered_medium, gathered_part}}
 
 pub invariant_of-self-2 : goal.invariant_of-self-2
 invariant_of-self-2 g c =

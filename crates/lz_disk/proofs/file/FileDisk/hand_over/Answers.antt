@@ -1,7 +1,6 @@
-use Rattle.std.proofs.Common.{Option, refl, subst}
-use Rattle.lz_disk.specs.FileDisks.{KeepsFile, waiting_of}
-use Rattle.lz_disk.proofs.OverFiles.{handed_keeps, handed_part, waits_part}
 use Rattle.lz_disk.proofs.file.FileDisk.hand_over.Goals as goal
+use Rattle.std.proofs.Common.{Option, refl, subst}
+use Rattle.lz_disk.{specs.FileDisks.{KeepsFile, waiting_of}, proofs.OverFiles.{handed_keeps, handed_part, waits_part}}
 
 pub returns-in_err-write-clause-part : goal.returns-in_err-write-clause-part
 returns-in_err-write-clause-part g c =

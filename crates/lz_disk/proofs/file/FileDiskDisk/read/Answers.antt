@@ -1,8 +1,6 @@
-use Rattle.std.proofs.Common.{◌≡◌, ◌+◌, ◌∙◌, IsTrue, List, ℕ, ap, length, subst, sym}
-use Rattle.std.specs.Prelude.{OnOk, slice_range}
-use Rattle.lz_disk.specs.Images.{Medium}
-use Rattle.lz_disk.proofs.OverFiles.{nothing_waits}
 use Rattle.lz_disk.proofs.file.FileDiskDisk.read.Goals as goal
+use Rattle.std.{proofs.Common.{◌≡◌, ◌+◌, ◌∙◌, IsTrue, List, ℕ, ap, length, subst, sym}, specs.Prelude.{OnOk, slice_range}}
+use Rattle.lz_disk.{specs.Images.{Medium}, proofs.OverFiles.{nothing_waits}}
 
 pub returns-clause-bytes : goal.returns-clause-bytes
 returns-clause-bytes g c = λ honest.

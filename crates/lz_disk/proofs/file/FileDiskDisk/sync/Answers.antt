@@ -1,7 +1,6 @@
-use Rattle.std.proofs.Common.{IsTrue, [], subst, sym}
-use Rattle.lz_disk.specs.FileDisks.{device_over, waiting_of}
-use Rattle.lz_disk.proofs.OverFiles.{call_then, durable_part, nothing_waits}
 use Rattle.lz_disk.proofs.file.FileDiskDisk.sync.Goals as goal
+use Rattle.std.proofs.Common.{IsTrue, [], subst, sym}
+use Rattle.lz_disk.{specs.FileDisks.{device_over, waiting_of}, proofs.OverFiles.{call_then, durable_part, nothing_waits}}
 
 pub returns-clause-call : goal.returns-clause-call
 returns-clause-call g c =

@@ -1,14 +1,9 @@
-use Rattle.std.proofs.Common.{◌≡◌, ◌⊎◌, ◌∙◌, ◌++◌, IsTrue, List, ℕ, [], length, subst, sym, take}
-use Rattle.std.specs.Prelude.{◌+◌, ◌-◌, IsErr, OnErr, OnOk}
-use Rattle.lz_disk.specs.Devices.{Device, IsCall, IsTimely}
-use Rattle.lz_disk.specs.Gathers.{Waiting}
-use Rattle.lz_disk.specs.Images.{Medium, WriteFailed, written}
-use Rattle.lz_disk.specs.FileDisks.{IsPart, KeepsFile, device_over, medium_over, waiting_of}
-use Rattle.lz_disk.specs.TimelyOver.{timely as timely_over}
-use Rattle.lz_disk.proofs.OverFiles.{call_then, part_then, through_faulted, through_over, through_part, through_written}
-use Rattle.lz_disk.proofs.file.FileDiskDisk.write.Given.{Over}
-use Rattle.lz_disk.proofs.file.FileDiskDisk.write.Goals.{After-and_of-self}
 use Rattle.lz_disk.proofs.file.FileDiskDisk.write.Goals as goal
+use Rattle.std.{proofs.Common.{◌≡◌, ◌⊎◌, ◌∙◌, ◌++◌, IsTrue, List, ℕ, [], length, subst, sym, take}, specs.Prelude.{◌+◌, ◌-◌, IsErr, OnErr, OnOk}}
+use Rattle.lz_disk.specs.{Devices.{Device, IsCall, IsTimely}, Gathers.{Waiting}, Images.{Medium, WriteFailed, written}}
+use Rattle.lz_disk.specs.{FileDisks.{IsPart, KeepsFile, device_over, medium_over, waiting_of}, TimelyOver.{timely as timely_over}}
+use Rattle.lz_disk.proofs.{OverFiles.{call_then, part_then, through_faulted, through_over, through_part, through_written}, file.FileDiskDisk.write.Given.{Over}}
+use Rattle.lz_disk.proofs.file.FileDiskDisk.write.Goals.{After-and_of-self}
 
 module _ (g : Over) (c : After-and_of-self g) where
   -- the disk before the call, once it has counted so many calls

@@ -1,5 +1,5 @@
-use Rattle.std.specs.Prelude.{◌-◌, ◌++◌, length, take}
 use Rattle.lz_disk.proofs.unsynced.Unsynced.and_of.Given as goal
+use Rattle.std.specs.Prelude.{◌-◌, ◌++◌, length, take}
 
 abbrev pub ghost-of_values : goal.ghost-of_values
 ghost-of_values g a =

@@ -1,10 +1,7 @@
-use Rattle.std.proofs.Common.{◌≡◌, ℕ, ◌+◌, ◌-◌, length, take, drop, sym, subst, arith, rules}
-use Rattle.std.proofs.lemmas.Bool.Decides.{nat_tests}
-use Rattle.lz_judge.specs.Records.{Record}
-use Rattle.lz_judge.specs.Readers.{seen_by}
-use Rattle.lz_judge.specs.TextsRead.{HasRead, with_line}
-use Rattle.lz_judge.proofs.Texts.TextLine.{few_bytes, few_lines, line_read_on, line_refused, line_too_far, nothing_read, rest_unread}
 use Rattle.lz_judge.proofs.history.History.read.Goals as goal
+use Rattle.std.proofs.{Common.{◌≡◌, ℕ, ◌+◌, ◌-◌, length, take, drop, sym, subst, arith, rules}, lemmas.Bool.Decides.{nat_tests}}
+use Rattle.lz_judge.specs.{Records.{Record}, Readers.{seen_by}, TextsRead.{HasRead, with_line}}
+use Rattle.lz_judge.proofs.Texts.TextLine.{few_bytes, few_lines, line_read_on, line_refused, line_too_far, nothing_read, rest_unread}
 
 pub loop-end-init : goal.loop-end-init
 loop-end-init c = record {

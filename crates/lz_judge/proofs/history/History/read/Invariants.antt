@@ -1,7 +1,6 @@
-use Rattle.std.proofs.Common.{◌+◌, ◌≤◌, length}
-use Rattle.lz_judge.specs.Readers.{IsReader, seen_by}
-use Rattle.lz_judge.specs.TextsRead.{HasRead}
 use Rattle.lz_judge.proofs.history.History.read.Given as goal
+use Rattle.std.proofs.Common.{◌+◌, ◌≤◌, length}
+use Rattle.lz_judge.specs.{Readers.{IsReader, seen_by}, TextsRead.{HasRead}}
 
 abbrev pub invariant-loop-end : goal.invariant-loop-end
 invariant-loop-end l =

@@ -1,8 +1,6 @@
-use Rattle.std.proofs.Common.{◌∙◌, sym}
-use Rattle.std.proofs.lemmas.Bool.{not-true}
-use Rattle.lz_judge.proofs.Readings.NextMark.{none_there, some_there}
-use Rattle.lz_judge.proofs.Readings.LedgerMark.{ledger_begun, may_begin}
 use Rattle.lz_judge.proofs.ledger.Ledger.begin.Goals as goal
+use Rattle.std.proofs.{Common.{◌∙◌, sym}, lemmas.Bool.{not-true}}
+use Rattle.lz_judge.proofs.Readings.{NextMark.{none_there, some_there}, LedgerMark.{ledger_begun, may_begin}}
 
 pub returns-then-contains_key-clause-refuses : goal.returns-then-contains_key-clause-refuses
 returns-then-contains_key-clause-refuses c = λ M d before no may.

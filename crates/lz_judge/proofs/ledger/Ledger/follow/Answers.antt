@@ -1,7 +1,7 @@
+use Rattle.lz_judge.proofs.ledger.Ledger.follow.Goals as goal
 use Rattle.std.proofs.Common.{◌≡◌, sym, subst, false, IfOk}
 use Rattle.lz_slot.specs.declared.history.Mark.{Mark}
 use Rattle.lz_judge.specs.Records.{MayFollow}
-use Rattle.lz_judge.proofs.ledger.Ledger.follow.Goals as goal
 
 pub returns-in-Call-clause-refuses : goal.returns-in-Call-clause-refuses
 returns-in-Call-clause-refuses c = λ M before.

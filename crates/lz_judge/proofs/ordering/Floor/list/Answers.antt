@@ -1,8 +1,7 @@
-use Rattle.std.proofs.Common.{inl, inr, arith, sym, ◌∙◌}
-use Rattle.std.proofs.lemmas.Bool.{not-false, not-true}
+use Rattle.lz_judge.proofs.ordering.Floor.list.Goals as goal
+use Rattle.std.proofs.{Common.{inl, inr, arith, sym, ◌∙◌}, lemmas.Bool.{not-false, not-true}}
 use Rattle.lz_judge.proofs.Readings.CallFloor.{floored_fine, floored_bad}
 use Rattle.lz_judge.proofs.ordering.Floor.list.Goals.{then-not-is_new-via-then-not-is_new, then-not-is_new-via-else-not-is_new+then-place-self}
-use Rattle.lz_judge.proofs.ordering.Floor.list.Goals as goal
 
 pub returns-then-not-is_new : goal.returns-then-not-is_new
 returns-then-not-is_new c = λ M places actor d at before.

@@ -1,10 +1,8 @@
+use Rattle.lz_judge.proofs.ordering.Floor.note.Goals as goal
 use Rattle.std.proofs.Common.{◌∷◌, sym, subst}
 use Rattle.lz_slot.specs.declared.history.Mark.{Mark}
-use Rattle.lz_judge.specs.Readings.{Floored}
-use Rattle.lz_judge.specs.Records.{IsLawful}
-use Rattle.lz_judge.proofs.Lives.CurrentLife.{answered_made}
+use Rattle.lz_judge.{specs.{Readings.{Floored}, Records.{IsLawful}}, proofs.Lives.CurrentLife.{answered_made}}
 use Rattle.lz_judge.proofs.Readings.CallFloor.{floored_opened, floored_rest, floored_told, floored_unlisted, floored_untold}
-use Rattle.lz_judge.proofs.ordering.Floor.note.Goals as goal
 
 pub returns-in_ok-list-in-Call : goal.returns-in_ok-list-in-Call
 returns-in_ok-list-in-Call c = λ M lawful before.

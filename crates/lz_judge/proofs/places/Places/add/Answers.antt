@@ -1,7 +1,6 @@
-use Rattle.std.proofs.Common.{ℕ, ◌++◌, ◌∷◌, [], List, Option, arith, ◌∙◌, subst, sym, OnOk}
-use Rattle.lz_judge.specs.Places.{IsTable}
-use Rattle.lz_judge.proofs.PlaceTables.{last_key, one_longer}
 use Rattle.lz_judge.proofs.places.Places.add.Goals as goal
+use Rattle.std.proofs.Common.{ℕ, ◌++◌, ◌∷◌, [], List, Option, arith, ◌∙◌, subst, sym, OnOk}
+use Rattle.lz_judge.{specs.Places.{IsTable}, proofs.PlaceTables.{last_key, one_longer}}
 
 pub returns-then-len-count : goal.returns-then-len-count
 returns-then-len-count g c = λ ks k is table.

@@ -1,7 +1,6 @@
-use Rattle.std.proofs.Common.{◌≡◌, ℕ, length, arith, rules, ap, sym, ◌∙◌, slice_index, map}
-use Rattle.lz_judge.specs.Places.{place_of}
-use Rattle.lz_judge.proofs.PlaceTables.{absent_all, absent_free}
 use Rattle.lz_judge.proofs.places.Places.find.Goals as goal
+use Rattle.std.proofs.Common.{◌≡◌, ℕ, length, arith, rules, ap, sym, ◌∙◌, slice_index, map}
+use Rattle.lz_judge.{specs.Places.{place_of}, proofs.PlaceTables.{absent_all, absent_free}}
 
 pub returns-then-row-eq0-clause-found : goal.returns-then-row-eq0-clause-found
 returns-then-row-eq0-clause-found g c = λ table.

@@ -1,7 +1,6 @@
-use Rattle.std.proofs.Common.{ℕ, ◌+◌, ◌++◌, ◌∷◌, [], set, Option, ap, subst, sym}
-use Rattle.lz_judge.specs.Places.{IsTable}
-use Rattle.lz_judge.proofs.PlaceTables.{table_keyless, table_put}
 use Rattle.lz_judge.proofs.places.Places.note.Goals as goal
+use Rattle.std.proofs.Common.{ℕ, ◌+◌, ◌++◌, ◌∷◌, [], set, Option, ap, subst, sym}
+use Rattle.lz_judge.{specs.Places.{IsTable}, proofs.PlaceTables.{table_keyless, table_put}}
 
 pub returns-in_default : goal.returns-in_default
 returns-in_default c = λ ks is table. subst (λ (o : Option ℕ). IsTable (ks ++ o ∷ []) c.args.self.now) (sym c.in_default.is) (table_keyless ks c.args.self.now table)

@@ -1,8 +1,7 @@
+use Rattle.lz_judge.proofs.playing.Play.finish.Goals as goal
 use Rattle.std.proofs.Common.{sym, subst, refl, List, inl, inr, ⊎_elim}
 use Rattle.lz_slot.specs.Sets.{after}
-use Rattle.lz_judge.specs.Plays.{Follows, Plays, WrongAt}
-use Rattle.lz_judge.specs.declared.playing.Listed.{Listed}
-use Rattle.lz_judge.proofs.playing.Play.finish.Goals as goal
+use Rattle.lz_judge.specs.{Plays.{Follows, Plays, WrongAt}, declared.playing.Listed.{Listed}}
 
 pub loop-listed-preserved : goal.loop-listed-preserved
 loop-listed-preserved c = record {

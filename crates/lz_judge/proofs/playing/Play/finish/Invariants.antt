@@ -1,7 +1,7 @@
+use Rattle.lz_judge.proofs.playing.Play.finish.Given as goal
 use Rattle.std.proofs.Common.{◌≡◌, ◌⊎◌, ℕ, None, Some}
 use Rattle.lz_slot.specs.Sets.{Keys}
 use Rattle.lz_judge.specs.Plays.{Follows, IsSet, Plays, WrongAt}
-use Rattle.lz_judge.proofs.playing.Play.finish.Given as goal
 
 abbrev pub invariant-loop-listed : goal.invariant-loop-listed
 invariant-loop-listed l = record {

@@ -1,6 +1,6 @@
+use Rattle.lz_judge.proofs.playing.Play.list.Goals as goal
 use Rattle.std.proofs.Common.{sym}
 use Rattle.lz_judge.proofs.Readings.CallTurn.{played_listed, played_unlisted}
-use Rattle.lz_judge.proofs.playing.Play.list.Goals as goal
 
 pub returns-in_ok-insert-clause-played : goal.returns-in_ok-insert-clause-played
 returns-in_ok-insert-clause-played c = λ M actor answers known before.

@@ -1,7 +1,6 @@
-use Rattle.std.proofs.Common.{refl}
-use Rattle.lz_judge.proofs.Readings.CallTurn.{played_none}
-use Rattle.lz_judge.proofs.Lives.WrongAnswer.{compared_none, ran_none}
 use Rattle.lz_judge.proofs.playing.Play.new.Goals as goal
+use Rattle.std.proofs.Common.{refl}
+use Rattle.lz_judge.proofs.{Readings.CallTurn.{played_none}, Lives.WrongAnswer.{compared_none, ran_none}}
 
 pub returns-clause-played : goal.returns-clause-played
 returns-clause-played c = λ places. played_none places c.new.result c.new-2.result c.new.ensures.empty c.new-2.ensures.empty

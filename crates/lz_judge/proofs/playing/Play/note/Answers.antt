@@ -1,14 +1,9 @@
-use Rattle.std.proofs.Common.{◌≡◌, ◌∙◌, inl, inr, ⊎_elim, sym, subst, List, ◌∷◌, Option, ℕ, suc, arith, OnOk, BTreeMap, BTreeSet}
-use Rattle.lz_slot.specs.Sets.{Same, members}
-use Rattle.lz_slot.specs.declared.history.Mark.{Mark}
-use Rattle.lz_slot.specs.declared.history.Mark.TheVariants.{Call, Opened}
-use Rattle.lz_judge.specs.Plays.{Compared, IsKnown, Played, Ran}
-use Rattle.lz_judge.specs.Flaws.{opens}
-use Rattle.lz_judge.specs.declared.playing.Listed.{Listed}
-use Rattle.lz_judge.proofs.Readings.CallTurn.{known_rest, played_opened, played_rest}
-use Rattle.lz_judge.proofs.Readings.NextMark.{on_ok}
-use Rattle.lz_judge.proofs.Lives.WrongAnswer.{compared_opened, compared_rest, ran_opened, ran_rest}
 use Rattle.lz_judge.proofs.playing.Play.note.Goals as goal
+use Rattle.std.proofs.Common.{◌≡◌, ◌∙◌, inl, inr, ⊎_elim, sym, subst, List, ◌∷◌, Option, ℕ, suc, arith, OnOk, BTreeMap, BTreeSet}
+use Rattle.lz_slot.specs.{Sets.{Same, members}, declared.history.Mark.{Mark, TheVariants.{Call, Opened}}}
+use Rattle.lz_judge.specs.{Plays.{Compared, IsKnown, Played, Ran}, Flaws.{opens}, declared.playing.Listed.{Listed}}
+use Rattle.lz_judge.proofs.Readings.{CallTurn.{known_rest, played_opened, played_rest}, NextMark.{on_ok}}
+use Rattle.lz_judge.proofs.Lives.WrongAnswer.{compared_opened, compared_rest, ran_opened, ran_rest}
 
 pub returns-in-Call-clause-played : goal.returns-in-Call-clause-played
 returns-in-Call-clause-played c = λ M known before.

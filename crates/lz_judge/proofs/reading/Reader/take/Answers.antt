@@ -1,15 +1,8 @@
-use Rattle.std.proofs.Common.{◌≡◌, ◌≤◌, [], ◌∷◌, None, Option, Some, sym, refl, ap, subst, ◌∙◌, IfSome, reverse}
-use Rattle.std.proofs.lemmas.List.{reverse-append}
-use Rattle.std.proofs.lemmas.Result.{IfOk-weaker}
-use Rattle.lz_judge.specs.Limits.{largest_place}
-use Rattle.lz_judge.specs.Lines.{IsLow}
-use Rattle.lz_judge.specs.LinesRead.{line_read}
-use Rattle.lz_judge.specs.Readers.{seen_by}
-use Rattle.lz_judge.specs.Records.{ArePlaces}
-use Rattle.lz_judge.specs.TextsRead.{MayCome}
-use Rattle.lz_judge.specs.declared.line.Line.{Line}
-use Rattle.lz_judge.specs.declared.line.Line.TheVariants.{Seen, Placed, Other}
 use Rattle.lz_judge.proofs.reading.Reader.take.Goals as goal
+use Rattle.std.proofs.{Common.{◌≡◌, ◌≤◌, [], ◌∷◌, None, Option, Some, sym, refl, ap, subst, ◌∙◌, IfSome, reverse}, lemmas.List.{reverse-append}}
+use Rattle.std.proofs.lemmas.Result.{IfOk-weaker}
+use Rattle.lz_judge.specs.{Limits.{largest_place}, Lines.{IsLow}, LinesRead.{line_read}, Readers.{seen_by}, Records.{ArePlaces}, TextsRead.{MayCome}}
+use Rattle.lz_judge.specs.declared.line.Line.{Line, TheVariants.{Seen, Placed, Other}}
 
 pub returns-in-Some-Seen-clause-reads : goal.returns-in-Some-Seen-clause-reads
 returns-in-Some-Seen-clause-reads c =

@@ -1,9 +1,6 @@
-use Rattle.std.proofs.Common.{List, ◌∷◌, [], ◌∙◌, ap, subst, OnOk, map}
-use Rattle.std.proofs.lemmas.List.{map-append}
-use Rattle.lz_judge.specs.Places.{IsTable}
-use Rattle.lz_judge.specs.Surveys.{finding_key}
-use Rattle.lz_judge.specs.declared.finding.Finding.{Finding}
 use Rattle.lz_judge.proofs.scan.Scan.add.Goals as goal
+use Rattle.std.proofs.{Common.{List, ◌∷◌, [], ◌∙◌, ap, subst, OnOk, map}, lemmas.List.{map-append}}
+use Rattle.lz_judge.specs.{Places.{IsTable}, Surveys.{finding_key}, declared.finding.Finding.{Finding}}
 
 pub returns-clause-table : goal.returns-clause-table
 returns-clause-table c = λ table.

@@ -1,9 +1,6 @@
-use Rattle.std.proofs.Common.{◌≡◌, ◌<◌, List, ◌∙◌, None, Some, ap, get_or, length, refl, subst, sym, map}
-use Rattle.lz_judge.specs.Places.{IsTable}
-use Rattle.lz_judge.specs.Surveys.{finding_key}
-use Rattle.lz_judge.specs.declared.finding.Finding.{Finding}
-use Rattle.lz_judge.proofs.Surveys.SlotFinding.{found_again, found_first}
 use Rattle.lz_judge.proofs.scan.Scan.found.Goals as goal
+use Rattle.std.proofs.Common.{◌≡◌, ◌<◌, List, ◌∙◌, None, Some, ap, get_or, length, refl, subst, sym, map}
+use Rattle.lz_judge.{specs.{Places.{IsTable}, Surveys.{finding_key}, declared.finding.Finding.{Finding}}, proofs.Surveys.SlotFinding.{found_again, found_first}}
 
 pub returns-in-Some : goal.returns-in-Some
 returns-in-Some c = λ says is scanned.

@@ -1,7 +1,6 @@
-use Rattle.std.proofs.Common.{◌∙◌, ⊎_elim, refl, sym, ap, subst}
-use Rattle.lz_judge.specs.Surveys.{open_slot}
-use Rattle.lz_judge.proofs.Surveys.SlotFinding.{IsOpened, scanned_closed, scanned_more}
 use Rattle.lz_judge.proofs.scan.Scan.note.Goals as goal
+use Rattle.std.proofs.Common.{◌∙◌, ⊎_elim, refl, sym, ap, subst}
+use Rattle.lz_judge.{specs.Surveys.{open_slot}, proofs.Surveys.SlotFinding.{IsOpened, scanned_closed, scanned_more}}
 
 pub returns-in-Closed : goal.returns-in-Closed
 returns-in-Closed c = λ says is before.

@@ -1,9 +1,7 @@
-use Rattle.std.proofs.Common.{◌≡◌, ℕ, ◌+◌, ◌*◌, ap, sym, ◌∙◌, subst, arith, add_assoc, slice_range}
-use Rattle.lz_slot.specs.declared.format.Format.{Format}
-use Rattle.lz_slot.specs.Bytes.{slot_at, slot_read}
-use Rattle.lz_judge.specs.Scans.{Scanned}
-use Rattle.lz_judge.proofs.Surveys.PieceReads.{slot_in_piece}
 use Rattle.lz_judge.proofs.scan.Scan.note_piece.Goals as goal
+use Rattle.std.proofs.Common.{◌≡◌, ℕ, ◌+◌, ◌*◌, ap, sym, ◌∙◌, subst, arith, add_assoc, slice_range}
+use Rattle.lz_slot.specs.{declared.format.Format.{Format}, Bytes.{slot_at, slot_read}}
+use Rattle.lz_judge.{specs.Scans.{Scanned}, proofs.Surveys.PieceReads.{slot_in_piece}}
 
 pub loop-index-preserved : goal.loop-index-preserved
 loop-index-preserved c = λ t format piece before.

@@ -1,10 +1,7 @@
-use Rattle.std.proofs.Common.{◌≡◌, ◌≢◌, ◌<◌, inl, length, subst, sym, arith}
-use Rattle.lz_list.specs.declared.word.Word.TheVariants.{Key}
-use Rattle.lz_list.specs.Words.{get}
-use Rattle.lz_list.specs.Lists.{Listed, IsTable}
-use Rattle.lz_list.proofs.Changes.NodeLink.{place_in}
-use Rattle.lz_list.proofs.Searches.KeySearch.{next_slot, next_in_range, found, passed, none_there}
 use Rattle.lz_list.proofs.list.List.find.Goals as goal
+use Rattle.std.proofs.Common.{◌≡◌, ◌≢◌, ◌<◌, inl, length, subst, sym, arith}
+use Rattle.lz_list.{specs.{declared.word.Word.TheVariants.{Key}, Words.{get}, Lists.{Listed, IsTable}}, proofs.Changes.NodeLink.{place_in}}
+use Rattle.lz_list.proofs.Searches.KeySearch.{next_slot, next_in_range, found, passed, none_there}
 
 pub behind-requires-clause-place : goal.behind-requires-clause-place
 behind-requires-clause-place c =

@@ -1,7 +1,7 @@
+use Rattle.lz_list.proofs.list.List.link.Goals as goal
 use Rattle.std.proofs.Common.{sym, ◌∙◌, suc}
 use Rattle.lz_list.proofs.Tables.Redirect.{heads_redirect, links_redirect, table_redirect}
 use Rattle.lz_list.proofs.Changes.NodeLink.{link_place, link_sorted, link_member, link_others}
-use Rattle.lz_list.proofs.list.List.link.Goals as goal
 
 pub redirect-requires : goal.redirect-requires
 redirect-requires c =

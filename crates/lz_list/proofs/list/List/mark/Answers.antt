@@ -1,7 +1,6 @@
-use Rattle.std.proofs.Common.{sym, ◌∙◌}
-use Rattle.lz_list.specs.declared.word.Word.TheVariants.{Link}
-use Rattle.lz_list.proofs.Changes.WordStore.{set_table, mark_sorted, mark_others, mark_member, links_set}
 use Rattle.lz_list.proofs.list.List.mark.Goals as goal
+use Rattle.std.proofs.Common.{sym, ◌∙◌}
+use Rattle.lz_list.{specs.declared.word.Word.TheVariants.{Link}, proofs.Changes.WordStore.{set_table, mark_sorted, mark_others, mark_member, links_set}}
 
 pub invariant_of-self : goal.invariant_of-self
 invariant_of-self c =

@@ -1,8 +1,7 @@
+use Rattle.lz_list.proofs.list.List.member.Goals as goal
 use Rattle.std.proofs.Common.{arith}
 use mathlib.Core.Bool.{false≢true}
-use Rattle.lz_list.proofs.Chains.SortedChain.{node_slot}
-use Rattle.lz_list.proofs.Searches.KeySearch.{node_tells}
-use Rattle.lz_list.proofs.list.List.member.Goals as goal
+use Rattle.lz_list.proofs.{Chains.SortedChain.{node_slot}, Searches.KeySearch.{node_tells}}
 
 pub is_marked-requires : goal.is_marked-requires
 is_marked-requires c = grind (arith, node_slot)

@@ -1,9 +1,6 @@
-use Rattle.std.proofs.Common.{◌-◌}
-use Rattle.lz_list.specs.declared.word.Word.TheVariants.{Key}
-use Rattle.lz_list.specs.Words.{get, place_number}
-use Rattle.lz_list.specs.Traces.{rank_at}
-use Rattle.lz_list.specs.Lists.{IsPredecessor}
 use Rattle.lz_list.proofs.list.List.place_before.Given as goal
+use Rattle.std.proofs.Common.{◌-◌}
+use Rattle.lz_list.specs.{declared.word.Word.TheVariants.{Key}, Words.{get, place_number}, Traces.{rank_at}, Lists.{IsPredecessor}}
 
 abbrev pub invariant-loop-slot : goal.invariant-loop-slot
 invariant-loop-slot l = IsPredecessor l.self.words l.place l.key

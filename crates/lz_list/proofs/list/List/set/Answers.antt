@@ -1,6 +1,6 @@
+use Rattle.lz_list.proofs.list.List.set.Goals as goal
 use Rattle.std.proofs.Common.{sym, ◌∙◌}
 use Rattle.lz_list.proofs.Changes.WordStore.{set_sorted, set_members, set_table, heads_set, links_set}
-use Rattle.lz_list.proofs.list.List.set.Goals as goal
 
 pub invariant_of-self : goal.invariant_of-self
 invariant_of-self c =

@@ -1,9 +1,7 @@
-use Rattle.std.proofs.Common.{sym, ◌∙◌}
-use Rattle.lz_list.specs.declared.place.Place.TheVariants.{Node}
-use Rattle.lz_list.specs.Words.{next_at}
-use Rattle.lz_list.proofs.Tables.Redirect.{heads_redirect, links_redirect, table_redirect}
-use Rattle.lz_list.proofs.Changes.NodeUnlink.{unlink_place, unlink_slot, unlink_sorted, unlink_member, unlink_others}
 use Rattle.lz_list.proofs.list.List.unlink.Goals as goal
+use Rattle.std.proofs.Common.{sym, ◌∙◌}
+use Rattle.lz_list.{specs.{declared.place.Place.TheVariants.{Node}, Words.{next_at}}, proofs.Tables.Redirect.{heads_redirect, links_redirect, table_redirect}}
+use Rattle.lz_list.proofs.Changes.NodeUnlink.{unlink_place, unlink_slot, unlink_sorted, unlink_member, unlink_others}
 
 pub next-after-requires : goal.next-after-requires
 next-after-requires c =

@@ -1,7 +1,6 @@
-use Rattle.std.proofs.Common.{length, sym, ap, ◌∙◌, subst}
-use Rattle.lz_list.specs.Lists.{IsTable}
-use Rattle.lz_list.proofs.Tables.WordRow.{row_table, sizes_are}
 use Rattle.lz_list.proofs.table.Words.buckets.Goals as goal
+use Rattle.std.proofs.Common.{length, sym, ap, ◌∙◌, subst}
+use Rattle.lz_list.{specs.Lists.{IsTable}, proofs.Tables.WordRow.{row_table, sizes_are}}
 
 pub returns-clause-count : goal.returns-clause-count
 returns-clause-count c = ap (λ z. z.buckets) (sym (sizes_are c.self.invariant c.self.inside.halt)) ∙ ap (λ w. length w.heads) c.self.view_is

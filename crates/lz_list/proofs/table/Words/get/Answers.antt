@@ -1,9 +1,6 @@
-use Rattle.std.proofs.Common.{ap, ◌∙◌, arith}
-use Rattle.std.specs.Prelude.{slice_index}
-use Rattle.std.proofs.lemmas.List.{get_or_default}
-use Rattle.lz_list.specs.Words.{get}
-use Rattle.lz_list.proofs.Tables.WordRow.{got, in_row, word_placed}
 use Rattle.lz_list.proofs.table.Words.get.Goals as goal
+use Rattle.std.{proofs.{Common.{ap, ◌∙◌, arith}, lemmas.List.{get_or_default}}, specs.Prelude.{slice_index}}
+use Rattle.lz_list.{specs.Words.{get}, proofs.Tables.WordRow.{got, in_row, word_placed}}
 
 pub place-requires : goal.place-requires
 place-requires c = record { word = word_placed c.self.invariant c.self.inside.halt c.self.view_is c.args.word c.requires; room = c.self.invariant.room }

@@ -1,7 +1,6 @@
-use Rattle.std.proofs.Common.{sym, ap, ◌∙◌, subst}
-use Rattle.lz_list.specs.Addresses.{row_of, sizes_in, words_in, IsAtRest}
-use Rattle.lz_list.proofs.Tables.WordRow.{laid, sizes_are}
 use Rattle.lz_list.proofs.table.Words.row.Goals as goal
+use Rattle.std.proofs.Common.{sym, ap, ◌∙◌, subst}
+use Rattle.lz_list.{specs.Addresses.{row_of, sizes_in, words_in, IsAtRest}, proofs.Tables.WordRow.{laid, sizes_are}}
 
 pub returns : goal.returns
 returns c =

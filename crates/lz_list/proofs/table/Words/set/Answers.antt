@@ -1,9 +1,6 @@
-use Rattle.std.proofs.Common.{sym, ap, ◌∙◌, subst, arith}
-use Rattle.std.specs.Prelude.{slice_set}
-use Rattle.lz_list.specs.Words.{set}
-use Rattle.lz_list.specs.Addresses.{words_in, IsRow}
-use Rattle.lz_list.proofs.Tables.WordRow.{in_row, still_row, stored, word_placed}
 use Rattle.lz_list.proofs.table.Words.set.Goals as goal
+use Rattle.std.{proofs.Common.{sym, ap, ◌∙◌, subst, arith}, specs.Prelude.{slice_set}}
+use Rattle.lz_list.{specs.{Words.{set}, Addresses.{words_in, IsRow}}, proofs.Tables.WordRow.{in_row, still_row, stored, word_placed}}
 
 pub place-requires : goal.place-requires
 place-requires c = record { word = word_placed c.self.invariant c.self.inside.halt c.self.view_is c.args.word c.requires; room = c.self.invariant.room }

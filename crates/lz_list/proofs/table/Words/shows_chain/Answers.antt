@@ -1,5 +1,5 @@
-use Rattle.lz_list.proofs.Searches.ChainSearch.{reached_head, reached_next, chain_tells}
 use Rattle.lz_list.proofs.table.Words.shows_chain.Goals as goal
+use Rattle.lz_list.proofs.Searches.ChainSearch.{reached_head, reached_next, chain_tells}
 
 pub loop-slot-init : goal.loop-slot-init
 loop-slot-init c = reached_head c.args.self.now c.args.bucket c.requires

@@ -1,6 +1,6 @@
+use Rattle.lz_rehearsal.proofs.script.Script.read.Goals as goal
 use Rattle.std.proofs.Common.{rules}
 use Rattle.lz_rehearsal.proofs.Scripting.{fault_known, script_known}
-use Rattle.lz_rehearsal.proofs.script.Script.read.Goals as goal
 
 pub returns-in-Ok-read_lines-clause-ok : goal.returns-in-Ok-read_lines-clause-ok
 returns-in-Ok-read_lines-clause-ok g c =

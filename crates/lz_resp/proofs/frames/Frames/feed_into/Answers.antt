@@ -1,6 +1,6 @@
+use Rattle.lz_resp.proofs.frames.Frames.feed_into.Goals as goal
 use Rattle.std.proofs.Common.{length, ap, arith}
 use Rattle.lz_resp.proofs.Texts.{step_empty}
-use Rattle.lz_resp.proofs.frames.Frames.feed_into.Goals as goal
 
 pub invariant_of-self-in-Ok-None : goal.invariant_of-self-in-Ok-None
 invariant_of-self-in-Ok-None c =

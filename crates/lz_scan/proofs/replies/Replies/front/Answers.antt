@@ -1,8 +1,7 @@
-use Rattle.std.proofs.Common.{arith}
-use Rattle.lz_resp.specs.Pages.{told_text}
-use Rattle.lz_resp.proofs.PageTexts.{pages_are_spelled}
-use Rattle.lz_scan.proofs.Unread.{after_page}
 use Rattle.lz_scan.proofs.replies.Replies.front.Goals as goal
+use Rattle.std.proofs.Common.{arith}
+use Rattle.lz_resp.{specs.Pages.{told_text}, proofs.PageTexts.{pages_are_spelled}}
+use Rattle.lz_scan.proofs.Unread.{after_page}
 
 pub returns-in-Ok-Some-clause-some : goal.returns-in-Ok-Some-clause-some
 returns-in-Ok-Some-clause-some c =

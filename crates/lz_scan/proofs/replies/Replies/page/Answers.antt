@@ -1,9 +1,7 @@
-use Rattle.std.proofs.Common.{[]}
-use Rattle.std.proofs.KnownBytes.{Consumes-trans}
-use Rattle.lz_resp.specs.Pages.{told_text}
-use Rattle.lz_scan.specs.Scanning.{unread}
-use Rattle.lz_scan.proofs.Unread.{page_taken}
 use Rattle.lz_scan.proofs.replies.Replies.page.Goals as goal
+use Rattle.std.proofs.{Common.{[]}, KnownBytes.{Consumes-trans}}
+use Rattle.lz_resp.specs.Pages.{told_text}
+use Rattle.lz_scan.{specs.Scanning.{unread}, proofs.Unread.{page_taken}}
 
 pub returns-in-Ok-Some : goal.returns-in-Ok-Some
 returns-in-Ok-Some g c =

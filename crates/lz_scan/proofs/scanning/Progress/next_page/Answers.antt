@@ -1,6 +1,5 @@
-use Rattle.lz_scan.specs.Scanning.{unread}
-use Rattle.lz_scan.proofs.Reached.{page_goes}
 use Rattle.lz_scan.proofs.scanning.Progress.next_page.Goals as goal
+use Rattle.lz_scan.{specs.Scanning.{unread}, proofs.Reached.{page_goes}}
 
 pub returns-in-Ok-add_all-clause-goes : goal.returns-in-Ok-add_all-clause-goes
 returns-in-Ok-add_all-clause-goes g c =

@@ -1,7 +1,6 @@
-use Rattle.std.proofs.Common.{ℕ, Option, subst}
-use Rattle.lz_scan.specs.Scanning.{IsAt, unread}
-use Rattle.lz_scan.proofs.Reached.{cursor_ends, room_ends}
 use Rattle.lz_scan.proofs.scanning.Progress.scan_room.Goals as goal
+use Rattle.std.proofs.Common.{ℕ, Option, subst}
+use Rattle.lz_scan.{specs.Scanning.{IsAt, unread}, proofs.Reached.{cursor_ends, room_ends}}
 
 pub returns-then-next-eq0-clause-goes : goal.returns-then-next-eq0-clause-goes
 returns-then-next-eq0-clause-goes g c input before at =

@@ -1,8 +1,7 @@
-use Rattle.std.proofs.Common.{Some}
-use Rattle.std.specs.Prelude.{map}
+use Rattle.lz_scan.proofs.scanning.Progress.scan_room.Given as goal
+use Rattle.std.{proofs.Common.{Some}, specs.Prelude.{map}}
 use Rattle.lz_judge.specs.Places.{IsTable}
 use Rattle.lz_scan.specs.Scanning.{GoesTo, unread}
-use Rattle.lz_scan.proofs.scanning.Progress.scan_room.Given as goal
 
 abbrev pub invariant-pages : goal.invariant-pages
 invariant-pages g l = record {

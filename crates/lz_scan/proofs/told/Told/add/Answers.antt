@@ -1,6 +1,6 @@
+use Rattle.lz_scan.proofs.told.Told.add.Goals as goal
 use Rattle.std.proofs.Common.{inl, inr, refl, sym, ◌∙◌, arith}
 use Rattle.lz_scan.proofs.OneEach.{member_found}
-use Rattle.lz_scan.proofs.told.Told.add.Goals as goal
 
 pub returns-then-is_some-clause-once : goal.returns-then-is_some-clause-once
 returns-then-is_some-clause-once c =

@@ -1,10 +1,7 @@
-use Rattle.std.proofs.Common.{ℕ, List, ◌++◌, subst}
-use Rattle.std.specs.Prelude.{map}
-use Rattle.std.proofs.lemmas.List.{take_all}
-use Rattle.lz_slot.specs.Rooms.{rank}
-use Rattle.lz_scan.specs.Told.{AddsOnce, AreOnce}
-use Rattle.lz_scan.proofs.OneEach.{numbers_more}
 use Rattle.lz_scan.proofs.told.Told.add_all.Goals as goal
+use Rattle.std.{proofs.{Common.{ℕ, List, ◌++◌, subst}, lemmas.List.{take_all}}, specs.Prelude.{map}}
+use Rattle.lz_slot.specs.Rooms.{rank}
+use Rattle.lz_scan.{specs.Told.{AddsOnce, AreOnce}, proofs.OneEach.{numbers_more}}
 
 pub loop-number-preserved : goal.loop-number-preserved
 loop-number-preserved c =

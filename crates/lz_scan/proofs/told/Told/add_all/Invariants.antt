@@ -1,9 +1,8 @@
-use Rattle.std.proofs.Common.{ℕ, List, ◌++◌, take, Some}
-use Rattle.std.specs.Prelude.{map}
+use Rattle.lz_scan.proofs.told.Told.add_all.Given as goal
+use Rattle.std.{proofs.Common.{ℕ, List, ◌++◌, take, Some}, specs.Prelude.{map}}
 use Rattle.lz_slot.specs.Rooms.{rank}
 use Rattle.lz_judge.specs.Places.{IsTable}
 use Rattle.lz_scan.specs.Told.{AreOnce}
-use Rattle.lz_scan.proofs.told.Told.add_all.Given as goal
 
 abbrev pub invariant-loop-number : goal.invariant-loop-number
 invariant-loop-number l = record {

@@ -1,11 +1,9 @@
+use Rattle.lz_serve.proofs.asking.Asking.answer.Goals as goal
 use Rattle.std.proofs.Common.{◌≡◌, ◌+◌, ◌&&◌, Bool, Option, None, Some, true, sym, ap, ◌∙◌, subst}
 use Rattle.lz_machine.specs.Orders.{Calling}
 use Rattle.lz_board.specs.declared.pass.Pass.{Pass}
-use Rattle.lz_serve.specs.Askings.{Asked, IsAnsweredWith, IsAnswering, IsResting}
-use Rattle.lz_serve.specs.Replies.{SeatAnswers, says_halted}
-use Rattle.lz_serve.proofs.Seats.{seat_told}
+use Rattle.lz_serve.{specs.{Askings.{Asked, IsAnsweredWith, IsAnswering, IsResting}, Replies.{SeatAnswers, says_halted}}, proofs.Seats.{seat_told}}
 use Rattle.lz_serve.proofs.Askings.{answered, answered_with, answering, asked_again, has_rested, rests_now, told_so, told_to_nobody}
-use Rattle.lz_serve.proofs.asking.Asking.answer.Goals as goal
 use Rattle.lz_serve.proofs.asking.Asking.answer.Goals.{then-earlier, else-earlier}
 
 pub invariant_of-self : goal.invariant_of-self

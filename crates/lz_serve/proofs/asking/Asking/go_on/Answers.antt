@@ -1,10 +1,9 @@
+use Rattle.lz_serve.proofs.asking.Asking.go_on.Goals as goal
 use Rattle.std.proofs.Common.{subst}
 use Rattle.lz_machine.specs.declared.kind.Kind.TheVariants.{Sync}
 use Rattle.lz_board.specs.Seats.{part}
-use Rattle.lz_set.specs.Stages.{StepsUnfailed, kind_of_failed}
-use Rattle.lz_set.proofs.Plays.{so_unfailed, without_then}
+use Rattle.lz_set.{specs.Stages.{StepsUnfailed, kind_of_failed}, proofs.Plays.{so_unfailed, without_then}}
 use Rattle.lz_serve.specs.Askings.{Asked}
-use Rattle.lz_serve.proofs.asking.Asking.go_on.Goals as goal
 
 pub returns-clause-steps : goal.returns-clause-steps
 returns-clause-steps g c =

@@ -1,8 +1,6 @@
-use Rattle.std.proofs.Common.{ap, ◌∙◌}
-use Rattle.lz_serve.specs.Askings.{Asked}
-use Rattle.lz_serve.proofs.Askings.{has_rested, resting}
-use Rattle.lz_serve.proofs.Meetings.{sees_calm, sees_halt}
 use Rattle.lz_serve.proofs.asking.Asking.meet.Goals as goal
+use Rattle.std.proofs.Common.{ap, ◌∙◌}
+use Rattle.lz_serve.{specs.Askings.{Asked}, proofs.{Askings.{has_rested, resting}, Meetings.{sees_calm, sees_halt}}}
 
 pub meet-requires : goal.meet-requires
 meet-requires g c =

@@ -1,6 +1,6 @@
+use Rattle.lz_serve.proofs.asking.Asking.sync.Goals as goal
 use Rattle.std.proofs.Common.{sym}
 use Rattle.lz_serve.proofs.Askings.{still_played}
-use Rattle.lz_serve.proofs.asking.Asking.sync.Goals as goal
 
 pub invariant_of-self : goal.invariant_of-self
 invariant_of-self g c =

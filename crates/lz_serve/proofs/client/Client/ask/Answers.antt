@@ -1,18 +1,13 @@
-use Rattle.std.proofs.Common.{◌≡◌, ◌<◌, ◌-◌, ◌+◌, ◌++◌, [], ◌∷◌, List, IsSome, Option, Some, IfSome, ℕ, suc, slice_get, length, sym, ap, ◌∙◌, subst, arith, length-append}
-use Rattle.std.specs.declared.snapshot.Snapshot.{Snapshot}
+use Rattle.lz_serve.proofs.client.Client.ask.Goals as goal
+use Rattle.std.proofs.Common.{◌≡◌, ◌<◌, ◌-◌, ◌+◌, ◌++◌, [], ◌∷◌, List, IsSome, Option, Some, IfSome, ℕ, suc, slice_get, length, sym, ap, ◌∙◌, subst, arith}
+use Rattle.std.{proofs.Common.{length-append}, specs.declared.snapshot.Snapshot.{Snapshot}}
 use Rattle.lz_list.specs.Traces.{Begins}
 use Rattle.lz_proto.specs.declared.request.Request.{Request}
-use Rattle.lz_board.specs.declared.pass.Pass.{Pass}
-use Rattle.lz_board.specs.Seats.{part}
-use Rattle.lz_serve.specs.declared.line.Line.{Line}
-use Rattle.lz_serve.specs.declared.reader.Reader.{Reader}
-use Rattle.lz_serve.specs.Clients.{Asker, IsHeard, IsOwn, passes_of, seen_by}
-use Rattle.lz_serve.specs.Conversations.{Talk}
-use Rattle.lz_serve.specs.Grants.{Posed, key_asked}
-use Rattle.lz_serve.specs.Lines.{AreBefore, IsFree, awaited}
+use Rattle.lz_board.specs.{declared.pass.Pass.{Pass}, Seats.{part}}
+use Rattle.lz_serve.specs.{declared.{line.Line.{Line}, reader.Reader.{Reader}}, Clients.{Asker, IsHeard, IsOwn, passes_of, seen_by}, Conversations.{Talk}}
+use Rattle.lz_serve.specs.{Grants.{Posed, key_asked}, Lines.{AreBefore, IsFree, awaited}}
 use Rattle.lz_serve.proofs.LinesUnderWay.{as_many, before_more, before_same, earned_more, earned_same, get_before, get_last, get_more, puts_more}
 use Rattle.lz_serve.proofs.TalksOnStreams.{handed_out, known_so}
-use Rattle.lz_serve.proofs.client.Client.ask.Goals as goal
 
 pub invariant_of-self-in-Ok-Some : goal.invariant_of-self-in-Ok-Some
 invariant_of-self-in-Ok-Some g c =

@@ -1,12 +1,8 @@
+use Rattle.lz_serve.proofs.client.Client.new.Goals as goal
 use Rattle.std.proofs.Common.{◌≡◌, List, [], IsSome, refl, ap, sym, subst}
 use Rattle.lz_board.specs.declared.pass.Pass.{Pass}
-use Rattle.lz_serve.specs.declared.language.Language.{Language}
-use Rattle.lz_serve.specs.Clients.{passes_of}
-use Rattle.lz_serve.specs.Conversations.{Talk, nothing_yet}
-use Rattle.lz_serve.specs.Lines.{AreBefore}
-use Rattle.lz_serve.proofs.LinesUnderWay.{none_before, none_earned}
-use Rattle.lz_serve.proofs.TalksOnStreams.{begins}
-use Rattle.lz_serve.proofs.client.Client.new.Goals as goal
+use Rattle.lz_serve.specs.{declared.language.Language.{Language}, Clients.{passes_of}, Conversations.{Talk, nothing_yet}, Lines.{AreBefore}}
+use Rattle.lz_serve.proofs.{LinesUnderWay.{none_before, none_earned}, TalksOnStreams.{begins}}
 
 some : (spoken : Language) → IsSome (nothing_yet spoken).reader
 some spoken = refl

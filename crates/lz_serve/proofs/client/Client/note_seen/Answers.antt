@@ -1,12 +1,9 @@
+use Rattle.lz_serve.proofs.client.Client.note_seen.Goals as goal
 use Rattle.std.proofs.Common.{sym, subst}
 use Rattle.lz_list.specs.Traces.{Begins}
-use Rattle.lz_board.specs.declared.pass.Pass.{Pass}
-use Rattle.lz_board.specs.Seats.{part}
-use Rattle.lz_serve.specs.Clients.{Asker, passes_of, seen_by}
-use Rattle.lz_serve.specs.Lines.{AreBefore}
-use Rattle.lz_serve.proofs.LinesUnderWay.{before_seen, earned_seen}
+use Rattle.lz_board.specs.{declared.pass.Pass.{Pass}, Seats.{part}}
+use Rattle.lz_serve.{specs.{Clients.{Asker, passes_of, seen_by}, Lines.{AreBefore}}, proofs.LinesUnderWay.{before_seen, earned_seen}}
 use Rattle.lz_serve.proofs.TalksOnStreams.{known_so}
-use Rattle.lz_serve.proofs.client.Client.note_seen.Goals as goal
 
 pub invariant_of-self : goal.invariant_of-self
 invariant_of-self g c =

@@ -1,14 +1,9 @@
+use Rattle.lz_serve.proofs.client.Client.put_page.Goals as goal
 use Rattle.std.proofs.Common.{◌<◌, IsSome, Option, length, refl, sym, ap, subst}
 use Rattle.lz_list.specs.Traces.{Begins}
 use Rattle.lz_board.specs.Seats.{part}
-use Rattle.lz_serve.specs.declared.reader.Reader.{Reader}
-use Rattle.lz_serve.specs.Clients.{Asker, AwaitsPage, passes_of, seen_by}
-use Rattle.lz_serve.specs.Conversations.{Talk}
-use Rattle.lz_serve.proofs.HeldUp.{held_same, page_ended}
-use Rattle.lz_serve.proofs.LinesUnderWay.{earned_same}
-use Rattle.lz_serve.proofs.PagesTold.{page_told}
-use Rattle.lz_serve.proofs.TalksOnStreams.{page_or_not, same_lines}
-use Rattle.lz_serve.proofs.client.Client.put_page.Goals as goal
+use Rattle.lz_serve.specs.{declared.reader.Reader.{Reader}, Clients.{Asker, AwaitsPage, passes_of, seen_by}, Conversations.{Talk}}
+use Rattle.lz_serve.proofs.{HeldUp.{held_same, page_ended}, LinesUnderWay.{earned_same}, PagesTold.{page_told}, TalksOnStreams.{page_or_not, same_lines}}
 
 pub invariant_of-self : goal.invariant_of-self
 invariant_of-self g c =

@@ -1,13 +1,8 @@
+use Rattle.lz_serve.proofs.client.Client.read.Goals as goal
 use Rattle.std.proofs.Common.{refl, ap}
 use mathlib.Core.Bool.{true≢false}
-use Rattle.lz_serve.specs.Clients.{passes_of, seen_by}
-use Rattle.lz_serve.specs.Conversations.{Talk}
-use Rattle.lz_serve.specs.Exchanges.{requests_in}
-use Rattle.lz_serve.specs.Lines.{AreBefore}
-use Rattle.lz_serve.proofs.HeldUp.{held_more}
-use Rattle.lz_serve.proofs.LinesUnderWay.{earned_same}
-use Rattle.lz_serve.proofs.TalksOnStreams.{fed, finished, same_lines}
-use Rattle.lz_serve.proofs.client.Client.read.Goals as goal
+use Rattle.lz_serve.{specs.{Clients.{passes_of, seen_by}, Conversations.{Talk}, Exchanges.{requests_in}, Lines.{AreBefore}}, proofs.HeldUp.{held_more}}
+use Rattle.lz_serve.proofs.{LinesUnderWay.{earned_same}, TalksOnStreams.{fed, finished, same_lines}}
 
 pub invariant_of-self : goal.invariant_of-self
 invariant_of-self g c =

@@ -1,17 +1,11 @@
+use Rattle.lz_serve.proofs.client.Client.reply.Goals as goal
 use Rattle.std.proofs.Common.{◌≡◌, ◌-◌, false, true, ℕ, ◌<◌, IsSome, Option, Some, suc, List, slice_get, slice_set, refl, rules, ap, sym, subst, ◌∙◌, arith}
 use Rattle.lz_list.specs.Traces.{Begins}
-use Rattle.lz_board.specs.declared.pass.Pass.{Pass}
-use Rattle.lz_board.specs.Seats.{part}
-use Rattle.lz_serve.specs.declared.line.Line.{Line}
-use Rattle.lz_serve.specs.declared.reader.Reader.{Reader}
-use Rattle.lz_serve.specs.Clients.{Asker, IsOwn, passes_of, seen_by}
-use Rattle.lz_serve.specs.Conversations.{IsHeldUp, Talk}
-use Rattle.lz_serve.specs.Grants.{IsOfLine, Posed}
-use Rattle.lz_serve.specs.Lines.{AreBefore, AreEarned, replied}
-use Rattle.lz_serve.specs.Streams.{IsTalkOf}
+use Rattle.lz_board.specs.{declared.pass.Pass.{Pass}, Seats.{part}}
+use Rattle.lz_serve.specs.{declared.{line.Line.{Line}, reader.Reader.{Reader}}, Clients.{Asker, IsOwn, passes_of, seen_by}, Conversations.{IsHeldUp, Talk}}
+use Rattle.lz_serve.specs.{Grants.{IsOfLine, Posed}, Lines.{AreBefore, AreEarned, replied}, Streams.{IsTalkOf}}
 use Rattle.lz_serve.proofs.LinesUnderWay.{before_noted, before_same, before_seen, earned_same, earned_seen, earned_there, noted_heard}
 use Rattle.lz_serve.proofs.TalksOnStreams.{known_so, noted as noted_there}
-use Rattle.lz_serve.proofs.client.Client.reply.Goals as goal
 
 pub invariant_of-self : goal.invariant_of-self
 invariant_of-self g c =

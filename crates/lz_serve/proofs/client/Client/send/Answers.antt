@@ -1,14 +1,8 @@
-use Rattle.std.proofs.Common.{IsSome, Option, refl, sym, ap, ◌∙◌, subst}
-use Rattle.lz_serve.specs.declared.reader.Reader.{Reader}
-use Rattle.lz_serve.specs.Clients.{passes_of, seen_by}
-use Rattle.lz_serve.specs.Conversations.{Talk}
-use Rattle.lz_serve.specs.Lines.{AreBefore}
-use Rattle.lz_serve.specs.Streams.{MayTake, Takes}
 use Rattle.lz_serve.specs.declared.stream.Taken.TheVariants as taken
-use Rattle.lz_serve.proofs.HeldUp.{held_same}
-use Rattle.lz_serve.proofs.LinesUnderWay.{earned_same}
-use Rattle.lz_serve.proofs.TalksOnStreams.{known_so, may_take, same_lines, sent}
 use Rattle.lz_serve.proofs.client.Client.send.Goals as goal
+use Rattle.std.proofs.Common.{IsSome, Option, refl, sym, ap, ◌∙◌, subst}
+use Rattle.lz_serve.specs.{declared.reader.Reader.{Reader}, Clients.{passes_of, seen_by}, Conversations.{Talk}, Lines.{AreBefore}, Streams.{MayTake, Takes}}
+use Rattle.lz_serve.proofs.{HeldUp.{held_same}, LinesUnderWay.{earned_same}, TalksOnStreams.{known_so, may_take, same_lines, sent}}
 
 pub take-requires : goal.take-requires
 take-requires g c =

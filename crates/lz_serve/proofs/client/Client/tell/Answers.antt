@@ -1,12 +1,9 @@
+use Rattle.lz_serve.proofs.client.Client.tell.Goals as goal
 use Rattle.std.proofs.Common.{◌≡◌, ◌+◌, ◌-◌, ◌<◌, ℕ, suc, List, IsSome, Option, slice_get, drop, sym, ap, ◌∙◌, subst, arith}
 use Rattle.std.specs.declared.snapshot.Snapshot.{Snapshot}
 use Rattle.lz_board.specs.declared.pass.Pass.{Pass}
-use Rattle.lz_serve.specs.declared.reader.Reader.{Reader}
-use Rattle.lz_serve.specs.declared.line.Line.{Line}
-use Rattle.lz_serve.specs.Clients.{Asker, IsHeard, IsOwn, passes_of, seen_by}
-use Rattle.lz_serve.proofs.LinesUnderWay.{get_rest, puts_after}
-use Rattle.lz_serve.proofs.TalksOnStreams.{told_or_not}
-use Rattle.lz_serve.proofs.client.Client.tell.Goals as goal
+use Rattle.lz_serve.specs.{declared.{reader.Reader.{Reader}, line.Line.{Line}}, Clients.{Asker, IsHeard, IsOwn, passes_of, seen_by}}
+use Rattle.lz_serve.proofs.{LinesUnderWay.{get_rest, puts_after}, TalksOnStreams.{told_or_not}}
 
 rest : (now before a b : ℕ) (old new : List (Snapshot Pass)) → a ≡ now → b ≡ before → new ≡ drop (a - b) old → passes_of new ≡ drop (now - before) (passes_of old)
 rest now before a b old new now_is before_is is =

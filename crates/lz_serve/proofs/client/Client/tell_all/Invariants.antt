@@ -1,7 +1,6 @@
-use Rattle.std.specs.Prelude.{◌≡◌, ◌≤◌, Some, length, true}
-use Rattle.lz_serve.specs.Clients.{IsHeard, KeepsOwn}
-use Rattle.lz_serve.specs.Grants.{Posed}
 use Rattle.lz_serve.proofs.client.Client.tell_all.Given as goal
+use Rattle.std.specs.Prelude.{◌≡◌, ◌≤◌, Some, length, true}
+use Rattle.lz_serve.specs.{Clients.{IsHeard, KeepsOwn}, Grants.{Posed}}
 
 abbrev pub invariant-turns : goal.invariant-turns
 invariant-turns g l = record {

@@ -1,10 +1,8 @@
-use Rattle.std.proofs.Common.{ap, sym, subst}
-use Rattle.lz_list.specs.Traces.{Begins, Trace}
-use Rattle.lz_list.proofs.Traces.WalkEnd.{begins_before}
-use Rattle.lz_board.specs.Seats.{part}
-use Rattle.lz_serve.specs.Clients.{Asker}
-use Rattle.lz_serve.proofs.PagesTold.{told_on}
 use Rattle.lz_serve.proofs.client.Client.tell_page.Goals as goal
+use Rattle.std.proofs.Common.{ap, sym, subst}
+use Rattle.lz_list.{specs.Traces.{Begins, Trace}, proofs.Traces.WalkEnd.{begins_before}}
+use Rattle.lz_board.specs.Seats.{part}
+use Rattle.lz_serve.{specs.Clients.{Asker}, proofs.PagesTold.{told_on}}
 
 pub note_seen-requires : goal.note_seen-requires
 note_seen-requires g c =

@@ -1,11 +1,8 @@
-use Rattle.std.proofs.Common.{◌≡◌, ◌-◌, ℕ, zero, IsSome, Option, drop, sym, ap, subst, arith}
-use Rattle.lz_serve.specs.declared.reader.Reader.{Reader}
 use Rattle.lz_serve.specs.declared.turn.Turn.TheVariants as turn
-use Rattle.lz_serve.specs.Clients.{passes_of, seen_by}
-use Rattle.lz_serve.specs.Conversations.{Talk}
-use Rattle.lz_serve.proofs.HeldUp.{held_same, told_ended}
-use Rattle.lz_serve.proofs.TalksOnStreams.{told_or_not}
 use Rattle.lz_serve.proofs.client.Client.tell_query.Goals as goal
+use Rattle.std.proofs.Common.{◌≡◌, ◌-◌, ℕ, zero, IsSome, Option, drop, sym, ap, subst, arith}
+use Rattle.lz_serve.{specs.{declared.reader.Reader.{Reader}, Clients.{passes_of, seen_by}, Conversations.{Talk}}, proofs.HeldUp.{held_same, told_ended}}
+use Rattle.lz_serve.proofs.TalksOnStreams.{told_or_not}
 
 pub invariant_of-self : goal.invariant_of-self
 invariant_of-self g c =

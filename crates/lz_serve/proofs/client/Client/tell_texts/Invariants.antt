@@ -1,6 +1,6 @@
+use Rattle.lz_serve.proofs.client.Client.tell_texts.Given as goal
 use Rattle.std.specs.Prelude.{length}
 use Rattle.lz_serve.specs.Clients.{KeepsLines}
-use Rattle.lz_serve.proofs.client.Client.tell_texts.Given as goal
 
 abbrev pub invariant-turns : goal.invariant-turns
 invariant-turns g l = KeepsLines l.fn.self l.self

@@ -1,5 +1,5 @@
-use Rattle.std.proofs.Common.{rules}
 use Rattle.lz_serve.proofs.conversation.Conversation.tell.Goals as goal
+use Rattle.std.proofs.Common.{rules}
 
 pub returns-in_ok-extend_from_slice-in-Says-clause-told : goal.returns-in_ok-extend_from_slice-in-Says-clause-told
 returns-in_ok-extend_from_slice-in-Says-clause-told c so =

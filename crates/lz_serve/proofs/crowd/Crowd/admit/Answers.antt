@@ -1,7 +1,6 @@
-use Rattle.std.proofs.Common.{ap}
-use Rattle.lz_serve.specs.Clients.{Asker}
-use Rattle.lz_serve.proofs.Crowds.{admits_at, keeps_same, keeps_then}
 use Rattle.lz_serve.proofs.crowd.Crowd.admit.Goals as goal
+use Rattle.std.proofs.Common.{ap}
+use Rattle.lz_serve.{specs.Clients.{Asker}, proofs.Crowds.{admits_at, keeps_same, keeps_then}}
 
 pub returns-in_default : goal.returns-in_default
 returns-in_default g c = keeps_same c.args.self.now _ c.self.view_is

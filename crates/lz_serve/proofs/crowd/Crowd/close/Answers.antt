@@ -1,7 +1,6 @@
-use Rattle.std.proofs.Common.{◌≡◌, Option, None}
-use Rattle.lz_serve.specs.Clients.{Asker}
-use Rattle.lz_serve.proofs.Crowds.{changes_at, leave_same, leaves_at, one_so}
 use Rattle.lz_serve.proofs.crowd.Crowd.close.Goals as goal
+use Rattle.std.proofs.Common.{◌≡◌, Option, None}
+use Rattle.lz_serve.{specs.Clients.{Asker}, proofs.Crowds.{changes_at, leave_same, leaves_at, one_so}}
 
 pub returns-in_default-clause-leave : goal.returns-in_default-clause-leave
 returns-in_default-clause-leave g c = leave_same c.args.self.now _ c.self.view_is

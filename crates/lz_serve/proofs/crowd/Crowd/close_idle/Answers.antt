@@ -1,8 +1,6 @@
-use Rattle.std.proofs.Common.{sym, subst}
-use Rattle.lz_serve.specs.Clients.{Keeps}
-use Rattle.lz_serve.proofs.Crowds.{keeps_same, keeps_then, leave_keeps}
 use Rattle.lz_serve.proofs.crowd.Crowd.close_idle.Goals as goal
-use Rattle.lz_serve.proofs.crowd.Crowd.close_idle.Goals.{then-is_idle, else-is_idle}
+use Rattle.std.proofs.Common.{sym, subst}
+use Rattle.lz_serve.{specs.Clients.{Keeps}, proofs.{Crowds.{keeps_same, keeps_then, leave_keeps}, crowd.Crowd.close_idle.Goals.{then-is_idle, else-is_idle}}}
 
 pub loop-token-init : goal.loop-token-init
 loop-token-init g c = keeps_same c.args.self.now _ c.self.view_is

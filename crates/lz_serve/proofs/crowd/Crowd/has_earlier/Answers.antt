@@ -1,7 +1,6 @@
-use Rattle.std.proofs.Common.{IfSome, IsSomeAnd, ap}
-use Rattle.lz_serve.specs.Clients.{Askers, AwaitsBefore, HasRepliedBefore}
-use Rattle.lz_serve.proofs.PagesTold.{here, nobody_here}
 use Rattle.lz_serve.proofs.crowd.Crowd.has_earlier.Goals as goal
+use Rattle.std.proofs.Common.{IfSome, IsSomeAnd, ap}
+use Rattle.lz_serve.{specs.Clients.{Askers, AwaitsBefore, HasRepliedBefore}, proofs.PagesTold.{here, nobody_here}}
 
 pub returns-in-Some-clause-none : goal.returns-in-Some-clause-none
 returns-in-Some-clause-none g c = λ none.

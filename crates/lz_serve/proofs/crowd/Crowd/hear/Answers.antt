@@ -1,5 +1,5 @@
-use Rattle.lz_serve.proofs.Crowds.{keeps_at, keeps_then, same_heard, same_own, same_seen}
 use Rattle.lz_serve.proofs.crowd.Crowd.hear.Goals as goal
+use Rattle.lz_serve.proofs.Crowds.{keeps_at, keeps_then, same_heard, same_own, same_seen}
 
 pub returns : goal.returns
 returns g c =

@@ -1,9 +1,6 @@
-use Rattle.std.proofs.Common.{◌≡◌, None, List, [], ◌∷◌, length, ap, ◌∙◌, arith, length-append}
-use Rattle.std.proofs.lemmas.List.{length-map}
-use Rattle.lz_serve.specs.declared.place.Place.{Place}
-use Rattle.lz_serve.proofs.Crowds.{none_seen}
-use Rattle.lz_serve.proofs.JoinedPasses.{all_back}
 use Rattle.lz_serve.proofs.crowd.Crowd.new.Goals as goal
+use Rattle.std.proofs.{Common.{◌≡◌, None, List, [], ◌∷◌, length, ap, ◌∙◌, arith, length-append}, lemmas.List.{length-map}}
+use Rattle.lz_serve.{specs.declared.place.Place.{Place}, proofs.{Crowds.{none_seen}, JoinedPasses.{all_back}}}
 
 pub loop-token-preserved : goal.loop-token-preserved
 loop-token-preserved g c =

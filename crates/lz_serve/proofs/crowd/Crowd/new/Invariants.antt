@@ -1,5 +1,5 @@
-use Rattle.std.specs.Prelude.{◌≡◌, ◌≤◌, None, All, length}
 use Rattle.lz_serve.proofs.crowd.Crowd.new.Given as goal
+use Rattle.std.specs.Prelude.{◌≡◌, ◌≤◌, None, All, length}
 
 abbrev pub invariant-loop-token : goal.invariant-loop-token
 invariant-loop-token g l = record {

@@ -1,9 +1,9 @@
+use Rattle.lz_serve.proofs.crowd.Crowd.reply.Goals as goal
 use Rattle.std.proofs.Common.{IfSome, Option, sym, subst}
 use Rattle.lz_board.specs.Seats.{part}
 use Rattle.lz_serve.specs.Clients.{Asker, Askers, HasNone, HasSeenIn, HasTold, HaveSeenIn, IsHeard, IsHeardOf}
 use Rattle.lz_serve.proofs.Crowds.{heard_here, keeps_awaited, leave_keeps, leave_so, one_so, only_seen, own_here, same_own, seen_at, seen_here}
 use Rattle.lz_serve.proofs.Turns.{both_in_turn}
-use Rattle.lz_serve.proofs.crowd.Crowd.reply.Goals as goal
 
 pub returns-in_default-clause-seen : goal.returns-in_default-clause-seen
 returns-in_default-clause-seen g c = subst (λ (a : Askers). HaveSeenIn a (part c.args.pass.now).known) (sym c.self.view_is) c.requires.seen

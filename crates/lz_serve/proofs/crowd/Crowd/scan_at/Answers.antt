@@ -1,7 +1,6 @@
-use Rattle.std.proofs.Common.{IfSome, IsSomeAnd, ap}
-use Rattle.lz_serve.specs.Clients.{Askers, AwaitsNoPage, AwaitsPage}
-use Rattle.lz_serve.proofs.PagesTold.{here, nobody_here}
 use Rattle.lz_serve.proofs.crowd.Crowd.scan_at.Goals as goal
+use Rattle.std.proofs.Common.{IfSome, IsSomeAnd, ap}
+use Rattle.lz_serve.{specs.Clients.{Askers, AwaitsNoPage, AwaitsPage}, proofs.PagesTold.{here, nobody_here}}
 
 pub returns-in-Some-clause-some : goal.returns-in-Some-clause-some
 returns-in-Some-clause-some g c =

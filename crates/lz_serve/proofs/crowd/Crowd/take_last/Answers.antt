@@ -1,7 +1,6 @@
-use Rattle.lz_board.specs.Seats.{part}
-use Rattle.lz_serve.specs.Clients.{HasNone}
-use Rattle.lz_serve.proofs.Crowds.{keeps_at, next_here, one_so, only_seen, seen_here, some_asked}
 use Rattle.lz_serve.proofs.crowd.Crowd.take_last.Goals as goal
+use Rattle.lz_board.specs.Seats.{part}
+use Rattle.lz_serve.{specs.Clients.{HasNone}, proofs.Crowds.{keeps_at, next_here, one_so, only_seen, seen_here, some_asked}}
 
 pub take_last-requires : goal.take_last-requires
 take_last-requires g c =

@@ -1,6 +1,5 @@
-use Rattle.lz_serve.proofs.Crowds.{keeps_then}
-use Rattle.lz_serve.proofs.Turns.{one_passed}
 use Rattle.lz_serve.proofs.crowd.Crowd.take_turn.Goals as goal
+use Rattle.lz_serve.proofs.{Crowds.{keeps_then}, Turns.{one_passed}}
 
 pub turns-preserved : goal.turns-preserved
 turns-preserved g c = record {

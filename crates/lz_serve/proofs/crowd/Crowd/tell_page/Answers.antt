@@ -1,11 +1,10 @@
+use Rattle.lz_serve.proofs.crowd.Crowd.tell_page.Goals as goal
 use Rattle.std.proofs.Common.{◌∙◌, IfSome, Option, sym, subst}
 use Rattle.lz_list.proofs.Traces.WalkEnd.{begins_before}
 use Rattle.lz_board.specs.Seats.{part}
 use Rattle.lz_serve.specs.Clients.{Asker, Askers, HasSeenIn, HasTold, HaveSeenIn, IsHeardOf, TellsPageOf}
 use Rattle.lz_serve.proofs.Crowds.{changes_at, keeps_awaited, keeps_heard, leave_keeps, leave_so, one_so, only_seen, paged_here, same_own, seen_at, seen_here}
-use Rattle.lz_serve.proofs.Joins.{seen_later}
-use Rattle.lz_serve.proofs.PagesTold.{leave_paged}
-use Rattle.lz_serve.proofs.crowd.Crowd.tell_page.Goals as goal
+use Rattle.lz_serve.proofs.{Joins.{seen_later}, PagesTold.{leave_paged}}
 
 pub returns-in_default-clause-seen : goal.returns-in_default-clause-seen
 returns-in_default-clause-seen g c =

@@ -1,5 +1,5 @@
-use Rattle.lz_serve.proofs.Crowds.{keeps_at, keeps_then, leave_keeps, lines_heard, lines_own, lines_seen}
 use Rattle.lz_serve.proofs.crowd.Crowd.tend.Goals as goal
+use Rattle.lz_serve.proofs.Crowds.{keeps_at, keeps_then, leave_keeps, lines_heard, lines_own, lines_seen}
 
 pub returns-in-Nothing : goal.returns-in-Nothing
 returns-in-Nothing g c =

@@ -1,9 +1,9 @@
+use Rattle.lz_serve.proofs.crowd.Crowd.turn.Goals as goal
 use Rattle.std.proofs.Common.{ap, refl, slice_get, sym, ◌∙◌}
 use Rattle.lz_board.specs.Seats.{part}
 use Rattle.lz_serve.specs.Clients.{Askers, HasNone}
 use Rattle.lz_serve.proofs.Crowds.{keeps_at, keeps_here, keeps_then, leave_keeps, next_here, one_so, only_seen, other_at, seen_here, some_asked, some_kept}
 use Rattle.lz_serve.proofs.Turns.{turned}
-use Rattle.lz_serve.proofs.crowd.Crowd.turn.Goals as goal
 
 pub take_turn-question-requires : goal.take_turn-question-requires
 take_turn-question-requires g c =

@@ -1,8 +1,7 @@
+use Rattle.lz_serve.proofs.desk.Desk.answer_last.Goals as goal
 use Rattle.std.proofs.Common.{◌≡◌, ◌+◌, vec_capacity, vec_len, sym, subst}
 use Rattle.lz_board.specs.Seats.{part}
-use Rattle.lz_serve.specs.Desks.{Passes, count_of}
-use Rattle.lz_serve.proofs.Desks.{count_taken, desk_last, desk_left, taken_seen}
-use Rattle.lz_serve.proofs.desk.Desk.answer_last.Goals as goal
+use Rattle.lz_serve.{specs.Desks.{Passes, count_of}, proofs.Desks.{count_taken, desk_last, desk_left, taken_seen}}
 
 pub answer_each-requires-clause-seen : goal.answer_each-requires-clause-seen
 answer_each-requires-clause-seen g c =

@@ -1,15 +1,10 @@
+use Rattle.lz_serve.proofs.desk.Desk.begin_all.Goals as goal
 use Rattle.std.proofs.Common.{◌≡◌, option_map, vec_capacity, vec_len, ap, sym, ◌∙◌, subst, arith}
 use mathlib.Core.Bool.{true≢false}
 use Rattle.lz_list.specs.Traces.{Trace, Begins}
-use Rattle.lz_board.specs.declared.pass.Pass.{Pass}
-use Rattle.lz_board.specs.Seats.{part}
-use Rattle.lz_serve.specs.Clients.{HaveSeenIn}
-use Rattle.lz_serve.specs.Desks.{IsCalled, Knows}
-use Rattle.lz_serve.specs.Askings.{Asked}
-use Rattle.lz_serve.proofs.Desks.{alike_seen, desk_back, desk_begun, know_last}
-use Rattle.lz_serve.proofs.Joins.{knows_seen}
-use Rattle.lz_serve.proofs.Meetings.{reply_seen, some_mapped}
-use Rattle.lz_serve.proofs.desk.Desk.begin_all.Goals as goal
+use Rattle.lz_board.specs.{declared.pass.Pass.{Pass}, Seats.{part}}
+use Rattle.lz_serve.{specs.{Clients.{HaveSeenIn}, Desks.{IsCalled, Knows}, Askings.{Asked}}, proofs.Desks.{alike_seen, desk_back, desk_begun, know_last}}
+use Rattle.lz_serve.proofs.{Joins.{knows_seen}, Meetings.{reply_seen, some_mapped}}
 
 pub begin_next-requires-clause-seen : goal.begin_next-requires-clause-seen
 begin_next-requires-clause-seen g c =

@@ -1,7 +1,7 @@
+use Rattle.lz_serve.proofs.desk.Desk.begin_all.Given as goal
 use Rattle.std.specs.Prelude.{◌≡◌, ◌+◌, true, map, option_map, vec_capacity, vec_len}
 use Rattle.lz_board.specs.Seats.{part}
 use Rattle.lz_serve.specs.Desks.{IsDesk, count_of}
-use Rattle.lz_serve.proofs.desk.Desk.begin_all.Given as goal
 
 abbrev pub invariant-passes : goal.invariant-passes
 invariant-passes g l = record {

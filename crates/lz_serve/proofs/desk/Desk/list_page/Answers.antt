@@ -1,8 +1,7 @@
+use Rattle.lz_serve.proofs.desk.Desk.list_page.Goals as goal
 use Rattle.std.proofs.Common.{option_map, subst}
 use Rattle.lz_board.specs.Seats.{part}
-use Rattle.lz_serve.specs.Desks.{Knows}
-use Rattle.lz_serve.proofs.Desks.{know_last}
-use Rattle.lz_serve.proofs.desk.Desk.list_page.Goals as goal
+use Rattle.lz_serve.{specs.Desks.{Knows}, proofs.Desks.{know_last}}
 
 pub list_one-halted-requires-2-clause-seen : goal.list_one-halted-requires-2-clause-seen
 list_one-halted-requires-2-clause-seen g c =

@@ -1,5 +1,5 @@
-use Rattle.std.specs.Prelude.{◌≡◌}
 use Rattle.lz_serve.proofs.desk.Desk.list_pages.Given as goal
+use Rattle.std.specs.Prelude.{◌≡◌}
 
 abbrev pub invariant-loop : goal.invariant-loop
 invariant-loop g l = record { given : l.self.given ≡ l.fn.self.given; free : l.self.free ≡ l.fn.self.free }

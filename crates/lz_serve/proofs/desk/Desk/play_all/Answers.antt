@@ -1,13 +1,8 @@
-use Rattle.std.proofs.Common.{◌≡◌, ◌<◌, All, true, option_map, vec_capacity, vec_len, length, get_or-set_same, ap, sym, ◌∙◌, subst, arith}
-use Rattle.lz_board.specs.declared.pass.Pass.{Pass}
-use Rattle.lz_board.specs.Seats.{part}
-use Rattle.lz_serve.specs.Clients.{HaveSeenIn}
-use Rattle.lz_serve.specs.Askings.{Asked}
-use Rattle.lz_serve.specs.Desks.{AnswersOneOf, Passes}
-use Rattle.lz_serve.proofs.Desks.{desk_answered, desk_rested}
-use Rattle.lz_serve.proofs.Joins.{all_left, begun_none, each_its_own, either_so, knows_met}
-use Rattle.lz_serve.proofs.Meetings.{some_mapped}
 use Rattle.lz_serve.proofs.desk.Desk.play_all.Goals as goal
+use Rattle.std.proofs.Common.{◌≡◌, ◌<◌, All, true, option_map, vec_capacity, vec_len, length, get_or-set_same, ap, sym, ◌∙◌, subst, arith}
+use Rattle.lz_board.specs.{declared.pass.Pass.{Pass}, Seats.{part}}
+use Rattle.lz_serve.{specs.{Clients.{HaveSeenIn}, Askings.{Asked}, Desks.{AnswersOneOf, Passes}}, proofs.Desks.{desk_answered, desk_rested}}
+use Rattle.lz_serve.proofs.{Joins.{all_left, begun_none, each_its_own, either_so, knows_met}, Meetings.{some_mapped}}
 
 pub calls-init : goal.calls-init
 calls-init g c =

@@ -1,7 +1,7 @@
+use Rattle.lz_serve.proofs.desk.Desk.play_all.Given as goal
 use Rattle.std.specs.Prelude.{◌≡◌, ◌+◌, All, true, map, option_map, vec_capacity, vec_len}
 use Rattle.lz_board.specs.Seats.{part}
 use Rattle.lz_serve.specs.Desks.{AnswersOneOf, IsDesk, count_of}
-use Rattle.lz_serve.proofs.desk.Desk.play_all.Given as goal
 
 abbrev pub invariant-calls : goal.invariant-calls
 invariant-calls g l = record {

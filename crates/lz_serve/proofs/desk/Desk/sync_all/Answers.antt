@@ -1,12 +1,9 @@
+use Rattle.lz_serve.proofs.desk.Desk.sync_all.Goals as goal
 use Rattle.std.proofs.Common.{◌≢◌, ◌+◌, ◌<◌, ◌≤◌, ℕ, All, List, Some, map, option_map, take, vec_capacity, vec_len, length, subst, sym, arith}
-use Rattle.std.proofs.lemmas.List.{take_all, take_more_set}
-use Rattle.std.proofs.lemmas.List.Elements.{All-push}
+use Rattle.std.proofs.lemmas.List.{take_all, take_more_set, Elements.{All-push}}
 use Rattle.lz_board.specs.Seats.{part}
 use Rattle.lz_set.specs.declared.underway.Stage.TheVariants.{Syncs}
-use Rattle.lz_serve.specs.Askings.{Asked}
-use Rattle.lz_serve.specs.Desks.{count_of}
-use Rattle.lz_serve.proofs.Desks.{desk_played}
-use Rattle.lz_serve.proofs.desk.Desk.sync_all.Goals as goal
+use Rattle.lz_serve.{specs.{Askings.{Asked}, Desks.{count_of}}, proofs.Desks.{desk_played}}
 
 pub loop-at-preserved : goal.loop-at-preserved
 loop-at-preserved g c =

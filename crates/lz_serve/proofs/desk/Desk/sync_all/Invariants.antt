@@ -1,9 +1,8 @@
+use Rattle.lz_serve.proofs.desk.Desk.sync_all.Given as goal
 use Rattle.std.specs.Prelude.{◌≡◌, ◌≢◌, ◌+◌, All, Some, map, option_map, take, vec_capacity, vec_len}
 use Rattle.lz_board.specs.Seats.{part}
 use Rattle.lz_set.specs.declared.underway.Stage.TheVariants.{Syncs}
-use Rattle.lz_serve.specs.Askings.{Asked}
-use Rattle.lz_serve.specs.Desks.{IsDesk, count_of}
-use Rattle.lz_serve.proofs.desk.Desk.sync_all.Given as goal
+use Rattle.lz_serve.specs.{Askings.{Asked}, Desks.{IsDesk, count_of}}
 
 abbrev pub invariant-loop-at : goal.invariant-loop-at
 invariant-loop-at g l = record {

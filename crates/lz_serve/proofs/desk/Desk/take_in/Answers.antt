@@ -1,8 +1,7 @@
+use Rattle.lz_serve.proofs.desk.Desk.take_in.Goals as goal
 use Rattle.std.proofs.Common.{◌≡◌, ◌+◌, ◌≤◌, ◌<◌, ℕ, vec_capacity, vec_len, sym, subst}
 use Rattle.lz_board.specs.Seats.{part}
-use Rattle.lz_serve.specs.Desks.{Passes, count_of}
-use Rattle.lz_serve.proofs.Desks.{desk_given}
-use Rattle.lz_serve.proofs.desk.Desk.take_in.Goals as goal
+use Rattle.lz_serve.{specs.Desks.{Passes, count_of}, proofs.Desks.{desk_given}}
 
 pub invariant_of-self : goal.invariant_of-self
 invariant_of-self g c =

@@ -1,13 +1,8 @@
-use Rattle.std.proofs.Common.{◌∙◌, refl, sym, subst}
-use Rattle.lz_list.specs.Traces.{Begins}
-use Rattle.lz_list.proofs.Traces.Absence.{begins_itself}
-use Rattle.lz_board.specs.declared.pass.Pass.{Pass}
-use Rattle.lz_board.specs.Seats.{part}
-use Rattle.lz_serve.specs.Clients.{left}
-use Rattle.lz_serve.proofs.Crowds.{leave_keeps, takes_keeps}
-use Rattle.lz_serve.proofs.Joins.{seen_later}
-use Rattle.lz_serve.proofs.PagesTold.{gone_paged, one_listed}
 use Rattle.lz_serve.proofs.desk.pages.list_one.Goals as goal
+use Rattle.std.proofs.Common.{◌∙◌, refl, sym, subst}
+use Rattle.lz_list.{specs.Traces.{Begins}, proofs.Traces.Absence.{begins_itself}}
+use Rattle.lz_board.specs.{declared.pass.Pass.{Pass}, Seats.{part}}
+use Rattle.lz_serve.{specs.Clients.{left}, proofs.{Crowds.{leave_keeps, takes_keeps}, Joins.{seen_later}, PagesTold.{gone_paged, one_listed}}}
 
 pub returns-in_default-awaited-clause-page : goal.returns-in_default-awaited-clause-page
 returns-in_default-awaited-clause-page g c = left c.in-Some.token c.in-Some.ensures.taken (c.in-Some.ensures.left c.in_default-awaited.is) refl

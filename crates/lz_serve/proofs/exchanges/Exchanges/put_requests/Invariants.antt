@@ -1,6 +1,6 @@
+use Rattle.lz_serve.proofs.exchanges.Exchanges.put_requests.Given as goal
 use Rattle.std.specs.Prelude.{◌≡◌, ◌≢◌, ◌++◌, All, take}
 use Rattle.lz_proto.specs.declared.request.Request.TheVariants.{Quit}
-use Rattle.lz_serve.proofs.exchanges.Exchanges.put_requests.Given as goal
 
 abbrev pub invariant-loop-request : goal.invariant-loop-request
 invariant-loop-request l =

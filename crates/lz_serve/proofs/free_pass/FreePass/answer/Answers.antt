@@ -1,8 +1,6 @@
-use Rattle.std.proofs.Common.{◌≡◌, ap, sym, ◌∙◌}
-use Rattle.lz_serve.specs.Grants.{Posed}
-use Rattle.lz_serve.specs.Replies.{says_halted}
-use Rattle.lz_serve.proofs.FreePasses.{grows_there, still_calm, still_saw}
 use Rattle.lz_serve.proofs.free_pass.FreePass.answer.Goals as goal
+use Rattle.std.proofs.Common.{◌≡◌, ap, sym, ◌∙◌}
+use Rattle.lz_serve.{specs.{Grants.{Posed}, Replies.{says_halted}}, proofs.FreePasses.{grows_there, still_calm, still_saw}}
 
 pub invariant_of-self-else-says_halted : goal.invariant_of-self-else-says_halted
 invariant_of-self-else-says_halted g c =

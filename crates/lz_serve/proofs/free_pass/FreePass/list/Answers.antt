@@ -1,5 +1,5 @@
-use Rattle.lz_serve.proofs.Listings.{calm_kept, halt_kept}
 use Rattle.lz_serve.proofs.free_pass.FreePass.list.Goals as goal
+use Rattle.lz_serve.proofs.Listings.{calm_kept, halt_kept}
 
 pub invariant_of-self-else-has_halted : goal.invariant_of-self-else-has_halted
 invariant_of-self-else-has_halted g c =

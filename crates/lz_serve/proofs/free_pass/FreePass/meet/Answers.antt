@@ -1,6 +1,5 @@
-use Rattle.lz_serve.specs.Halts.{SeesMore}
-use Rattle.lz_serve.proofs.Meetings.{sees_calm, sees_halt}
 use Rattle.lz_serve.proofs.free_pass.FreePass.meet.Goals as goal
+use Rattle.lz_serve.{specs.Halts.{SeesMore}, proofs.Meetings.{sees_calm, sees_halt}}
 
 pub invariant_of-self : goal.invariant_of-self
 invariant_of-self g c =

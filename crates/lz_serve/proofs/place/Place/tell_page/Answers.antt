@@ -1,9 +1,8 @@
+use Rattle.lz_serve.proofs.place.Place.tell_page.Goals as goal
 use Rattle.std.proofs.Common.{◌≤◌, ℕ, sym, subst}
-use Rattle.lz_list.specs.Traces.{Trace, Begins}
-use Rattle.lz_list.proofs.Traces.Absence.{begins_itself}
+use Rattle.lz_list.{specs.Traces.{Trace, Begins}, proofs.Traces.Absence.{begins_itself}}
 use Rattle.lz_board.specs.Seats.{part}
 use Rattle.lz_serve.specs.Clients.{HasSeenIn}
-use Rattle.lz_serve.proofs.place.Place.tell_page.Goals as goal
 
 pub returns-in-Some-clause-seen : goal.returns-in-Some-clause-seen
 returns-in-Some-clause-seen g c = λ admitted was.

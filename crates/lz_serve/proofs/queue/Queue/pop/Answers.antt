@@ -1,8 +1,6 @@
-use Rattle.std.proofs.Common.{◌≡◌, ◌<◌, ◌==◌, true, length, refl, ap, ◌∙◌, arith}
-use Rattle.std.proofs.lemmas.Bool.{eq-eqb, or_left}
-use Rattle.lz_serve.specs.Queues.{is_in}
-use Rattle.lz_serve.proofs.Queues.{flagged_within}
 use Rattle.lz_serve.proofs.queue.Queue.pop.Goals as goal
+use Rattle.std.proofs.{Common.{◌≡◌, ◌<◌, ◌==◌, true, length, refl, ap, ◌∙◌, arith}, lemmas.Bool.{eq-eqb, or_left}}
+use Rattle.lz_serve.{specs.Queues.{is_in}, proofs.Queues.{flagged_within}}
 
 pub index_mut-requires : goal.index_mut-requires
 index_mut-requires c =

@@ -1,7 +1,6 @@
-use Rattle.std.proofs.Common.{◌≡◌, ◌<◌, ℕ, List, false, true, length, slice_set, sym, subst, arith}
-use Rattle.lz_serve.specs.Queues.{IsQueue, is_in}
-use Rattle.lz_serve.proofs.Queues.{is_put}
 use Rattle.lz_serve.proofs.queue.Queue.put.Goals as goal
+use Rattle.std.proofs.Common.{◌≡◌, ◌<◌, ℕ, List, false, true, length, slice_set, sym, subst, arith}
+use Rattle.lz_serve.{specs.Queues.{IsQueue, is_in}, proofs.Queues.{is_put}}
 
 pub invariant_of-self-2 : goal.invariant_of-self-2
 invariant_of-self-2 c =

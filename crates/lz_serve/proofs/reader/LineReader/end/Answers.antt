@@ -1,8 +1,7 @@
-use Rattle.std.proofs.Common.{ℕ, List, [], ◌∷◌, Option, Result, Ok, Err, OnOk, Some, refl, subst}
-use Rattle.lz_proto.specs.declared.item.Item.TheVariants.{Faulty}
-use Rattle.lz_proto.specs.Pieces.{Ends}
-use Rattle.lz_serve.specs.Exchanges.{of_line}
 use Rattle.lz_serve.proofs.reader.LineReader.end.Goals as goal
+use Rattle.std.proofs.Common.{ℕ, List, [], ◌∷◌, Option, Result, Ok, Err, OnOk, Some, refl, subst}
+use Rattle.lz_proto.specs.{declared.item.Item.TheVariants.{Faulty}, Pieces.{Ends}}
+use Rattle.lz_serve.specs.Exchanges.{of_line}
 
 so : {T E A B : Type 0} (r : Result T E) → (A → B) → OnOk r A → OnOk r B
 so (Ok x) step a = step a

@@ -1,13 +1,9 @@
+use Rattle.lz_set.proofs.set.Set+D+G+Brand.open.Goals as goal
 use Rattle.std.proofs.Common.{[], refl, sym, ap, ◌∙◌, subst}
 use Rattle.lz_list.specs.Addresses.{sizes_in}
-use Rattle.lz_board.specs.Opened.{AreOpened, opened_by}
-use Rattle.lz_board.specs.Seats.{id_of}
-use Rattle.lz_tie.proofs.Start.FirstSets.{begins_with_read}
-use Rattle.lz_tie.proofs.Start.OpenedYard.{words_opened}
-use Rattle.lz_tie.proofs.Start.OpenedMoments.{now_since}
-use Rattle.lz_tie.proofs.Start.OpenedLives.{now_lives}
+use Rattle.lz_board.specs.{Opened.{AreOpened, opened_by}, Seats.{id_of}}
+use Rattle.lz_tie.proofs.Start.{FirstSets.{begins_with_read}, OpenedYard.{words_opened}, OpenedMoments.{now_since}, OpenedLives.{now_lives}}
 use Rattle.lz_set.proofs.Opening.{blank}
-use Rattle.lz_set.proofs.set.Set+D+G+Brand.open.Goals as goal
 
 pub new-requires-clause-opened : goal.new-requires-clause-opened
 new-requires-clause-opened g c =

@@ -1,15 +1,9 @@
+use Rattle.lz_set.proofs.set.Set.close_with.Goals as goal
 use Rattle.std.proofs.Common.{◌≡◌, ◌+◌, ◌≤◌, List, All, map, sym, ap, subst}
 use Rattle.lz_machine.specs.Halts.{told_device}
-use Rattle.lz_board.specs.declared.view.Note.{Note}
-use Rattle.lz_board.specs.declared.view.Part.{Part}
-use Rattle.lz_board.specs.Notes.{Extends, shape_of_sizes, trace_of}
-use Rattle.lz_board.specs.Plays.{knowing}
-use Rattle.lz_board.specs.Seats.{part}
-use Rattle.lz_tie.specs.Holds.{IsLocked}
-use Rattle.lz_tie.specs.Marks.{marks_in}
-use Rattle.lz_tie.specs.RunningSets.{HasHistory}
+use Rattle.lz_board.specs.{declared.view.{Note.{Note}, Part.{Part}}, Notes.{Extends, shape_of_sizes, trace_of}, Plays.{knowing}, Seats.{part}}
+use Rattle.lz_tie.specs.{Holds.{IsLocked}, Marks.{marks_in}, RunningSets.{HasHistory}}
 use Rattle.lz_set.specs.Left.{IsWelcome}
-use Rattle.lz_set.proofs.set.Set.close_with.Goals as goal
 
 pub returns-clause-left : goal.returns-clause-left
 returns-clause-left g c =

@@ -1,14 +1,9 @@
+use Rattle.lz_set.proofs.set.Set.go_on.Goals as goal
 use Rattle.std.proofs.Common.{◌≡◌, ◌≢◌, true, Option, Some, None, is_some, refl, sym, ap, ◌∙◌, subst}
 use mathlib.Core.Bool.{false≢true}
-use Rattle.lz_machine.specs.declared.event.Reply.{Reply}
-use Rattle.lz_machine.specs.Calls.{event_at}
-use Rattle.lz_machine.specs.Laws.{hop_of}
-use Rattle.lz_machine.specs.Orders.{Calling, shape_with}
-use Rattle.lz_machine.specs.Runs.{reply_at}
-use Rattle.lz_machine.specs.Table.{is_sure}
+use Rattle.lz_machine.specs.{declared.event.Reply.{Reply}, Calls.{event_at}, Laws.{hop_of}, Orders.{Calling, shape_with}, Runs.{reply_at}, Table.{is_sure}}
 use Rattle.lz_board.specs.Seats.{part}
 use Rattle.lz_set.proofs.Plays.{held_unfailed, same_counts, stands_at, stands_before, turned_one, turned_unfailed, walked_unfailed}
-use Rattle.lz_set.proofs.set.Set.go_on.Goals as goal
 
 some_is : (o : Option Reply) → is_some o ≡ true → (reply : Reply) × (o ≡ Some reply)
 some_is None is = absurd (false≢true is)

@@ -1,11 +1,7 @@
-use Rattle.std.proofs.Common.{◌≡◌, inl, sym, ap, ◌∙◌, subst}
-use Rattle.lz_list.specs.Traces.{Trace, Begins}
-use Rattle.lz_list.proofs.Traces.Absence.{begins_itself}
-use Rattle.lz_board.specs.declared.view.Part.{Part}
-use Rattle.lz_board.specs.Plays.{knowing}
-use Rattle.lz_board.specs.Seats.{part}
-use Rattle.lz_board.proofs.Upkeep.Growth.{begins_of}
 use Rattle.lz_set.proofs.set.Set.meet.Goals as goal
+use Rattle.std.proofs.Common.{◌≡◌, inl, sym, ap, ◌∙◌, subst}
+use Rattle.lz_list.{specs.Traces.{Trace, Begins}, proofs.Traces.Absence.{begins_itself}}
+use Rattle.lz_board.{specs.{declared.view.Part.{Part}, Plays.{knowing}, Seats.{part}}, proofs.Upkeep.Growth.{begins_of}}
 
 pub returns-clause-met : goal.returns-clause-met
 returns-clause-met g c =

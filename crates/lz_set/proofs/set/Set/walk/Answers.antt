@@ -1,10 +1,7 @@
-use Rattle.std.proofs.Common.{◌≡◌, Some, sym, ap, ◌∙◌}
-use Rattle.std.proofs.lemmas.Option.{none-some, same_Some}
-use Rattle.lz_list.specs.declared.word.Word.{Word}
-use Rattle.lz_machine.specs.declared.event.Event.{Event}
-use Rattle.lz_machine.specs.declared.event.Event.TheVariants.{Hop}
-use Rattle.lz_machine.specs.Laws.{hop_of}
 use Rattle.lz_set.proofs.set.Set.walk.Goals as goal
+use Rattle.std.proofs.{Common.{◌≡◌, Some, sym, ap, ◌∙◌}, lemmas.Option.{none-some, same_Some}}
+use Rattle.lz_list.specs.declared.word.Word.{Word}
+use Rattle.lz_machine.specs.{declared.event.Event.{Event, TheVariants.{Hop}}, Laws.{hop_of}}
 
 hop_is : (e : Event) (w : Word) → hop_of e ≡ Some w → e ≡ Hop w
 hop_is (Hop v) w is = ap Hop (same_Some v w is)

@@ -1,10 +1,8 @@
+use Rattle.lz_set.proofs.set.Set.walk.Given as goal
 use Rattle.std.proofs.Common.{◌≡◌}
-use Rattle.lz_machine.specs.declared.event.Event.TheVariants.{Hop}
-use Rattle.lz_machine.specs.Calls.{event_at}
-use Rattle.lz_machine.specs.Orders.{shape_with}
+use Rattle.lz_machine.specs.{declared.event.Event.TheVariants.{Hop}, Calls.{event_at}, Orders.{shape_with}}
 use Rattle.lz_board.specs.Seats.{IsOf, part}
 use Rattle.lz_tie.specs.Counting.{CountsOn}
-use Rattle.lz_set.proofs.set.Set.walk.Given as goal
 
 abbrev pub invariant-loop : goal.invariant-loop
 invariant-loop g l = record {

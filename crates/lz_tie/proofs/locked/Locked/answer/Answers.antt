@@ -1,16 +1,11 @@
+use Rattle.lz_tie.proofs.locked.Locked.answer.Goals as goal
 use Rattle.std.proofs.Common.{◌≢◌, ℕ, List, sym, ap, subst}
 use mathlib.Core.Bool.{false≢true}
-use Rattle.lz_machine.specs.declared.event.Event.TheVariants.{Answer, SeePin}
-use Rattle.lz_machine.proofs.Theorem.Readiness.{is_invoke}
+use Rattle.lz_machine.{specs.declared.event.Event.TheVariants.{Answer, SeePin}, proofs.Theorem.Readiness.{is_invoke}}
 use Rattle.lz_tie.proofs.Vocabulary.{Note, Part, BoardId, IsPenOf, carried, id_of, notes, part}
-use Rattle.lz_tie.specs.Held.{WentOn}
-use Rattle.lz_tie.specs.Holds.{IsLocked}
-use Rattle.lz_tie.proofs.Calls.CountedMoves.{answers_so, end_shows, next_answer, plain_so, then_idle}
-use Rattle.lz_tie.proofs.Hold.FoundEvent.{Finds, may, others, played}
-use Rattle.lz_tie.proofs.Hold.OneHold.{Stepped, explains, keeps}
-use Rattle.lz_tie.proofs.locked.Locked.answer.Given.{Over}
-use Rattle.lz_tie.proofs.locked.Locked.answer.Goals.{After-cut, After-play_joined-arg-3-1}
-use Rattle.lz_tie.proofs.locked.Locked.answer.Goals as goal
+use Rattle.lz_tie.proofs.{Calls.CountedMoves.{answers_so, end_shows, next_answer, plain_so, then_idle}, Hold.FoundEvent.{Finds, may, others, played}}
+use Rattle.lz_tie.proofs.{Hold.OneHold.{Stepped, explains, keeps}, locked.Locked.answer.{Given.{Over}, Goals.{After-cut, After-play_joined-arg-3-1}}}
+use Rattle.lz_tie.specs.{Held.{WentOn}, Holds.{IsLocked}}
 
 no_look : (q o : ℕ) → Answer ≢ SeePin q o
 no_look q o is = cc

@@ -1,16 +1,9 @@
-use Rattle.std.proofs.Common.{◌≡◌, ◌≤◌, ◌∷◌, ℕ, List, refl, sym, ap, ◌∙◌, subst}
-use Rattle.lz_tie.proofs.Vocabulary.{largest_key, Outcome, begun_after, Note, Part, trace_of, found_note, BoardId, IsPenOf, carried, id_of, notes}
-use Rattle.lz_tie.proofs.Vocabulary.{part}
-use Rattle.lz_tie.specs.Held.{Began}
-use Rattle.lz_tie.specs.Holds.{IsIdle, IsLocked}
-use Rattle.lz_tie.proofs.Calls.CountedMoves.{counted_new}
-use Rattle.lz_tie.proofs.Hold.Joining.{joined}
-use Rattle.lz_tie.proofs.Hold.OneHold.{Stepped, explains, keeps, stepped_call}
-use Rattle.lz_tie.proofs.Hold.PinSight.{found, own_found}
-use Rattle.lz_tie.proofs.Moments.HeldMoments.{finds}
-use Rattle.lz_tie.proofs.locked.Locked.begin.Given.{Over}
-use Rattle.lz_tie.proofs.locked.Locked.begin.Goals.{After-drop-turn}
 use Rattle.lz_tie.proofs.locked.Locked.begin.Goals as goal
+use Rattle.std.proofs.Common.{◌≡◌, ◌≤◌, ◌∷◌, ℕ, List, refl, sym, ap, ◌∙◌, subst}
+use Rattle.lz_tie.proofs.Vocabulary.{largest_key, Outcome, begun_after, Note, Part, trace_of, found_note, BoardId, IsPenOf, carried, id_of, notes, part}
+use Rattle.lz_tie.proofs.{Calls.CountedMoves.{counted_new}, Hold.{Joining.{joined}, OneHold.{Stepped, explains, keeps, stepped_call}}}
+use Rattle.lz_tie.proofs.{Hold.PinSight.{found, own_found}, Moments.HeldMoments.{finds}, locked.Locked.begin.{Given.{Over}, Goals.{After-drop-turn}}}
+use Rattle.lz_tie.specs.{Held.{Began}, Holds.{IsIdle, IsLocked}}
 
 pub play_joined-turn-requires-clause-hold : goal.play_joined-turn-requires-clause-hold
 play_joined-turn-requires-clause-hold g c =

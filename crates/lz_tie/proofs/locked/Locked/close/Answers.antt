@@ -1,9 +1,7 @@
-use Rattle.std.proofs.Common.{◌≡◌, ◌⊎◌, ◌≤◌, ◌<◌, sym, subst}
-use Rattle.lz_tie.proofs.Vocabulary.{last_sync, halt_word, trace_of, notes}
-use Rattle.lz_tie.specs.Moments.{ExplainedSince}
-use Rattle.lz_tie.proofs.Moments.HeldMoments.{since_explained}
-use Rattle.lz_tie.proofs.Lives.HaltedVault.{over_halted}
 use Rattle.lz_tie.proofs.locked.Locked.close.Goals as goal
+use Rattle.std.proofs.Common.{◌≡◌, ◌⊎◌, ◌≤◌, ◌<◌, sym, subst}
+use Rattle.lz_tie.proofs.{Vocabulary.{last_sync, halt_word, trace_of, notes}, Moments.HeldMoments.{since_explained}, Lives.HaltedVault.{over_halted}}
+use Rattle.lz_tie.specs.Moments.{ExplainedSince}
 
 pub returns-clause-explained : goal.returns-clause-explained
 returns-clause-explained g c =

@@ -1,12 +1,8 @@
-use Rattle.std.proofs.Common.{◌+◌, ◌≤◌, subst, arith}
-use Rattle.lz_tie.proofs.Vocabulary.{HaltLasts, told_device, IsTold, shape_of_sizes, notes}
-use Rattle.lz_tie.specs.Holds.{IsLocked}
-use Rattle.lz_tie.specs.Marks.{AreOfPasses, marks_in}
-use Rattle.lz_tie.specs.RunningSets.{HasHistory}
-use Rattle.lz_tie.proofs.Lives.ToldFailures.{failures_told}
-use Rattle.lz_tie.proofs.Marks.RunningSet.{history_of}
-use Rattle.lz_tie.proofs.Marks.WholeHistory.{history_halts, history_passes, history_told}
 use Rattle.lz_tie.proofs.locked.Locked.holds.Goals as goal
+use Rattle.std.proofs.Common.{◌+◌, ◌≤◌, subst, arith}
+use Rattle.lz_tie.proofs.{Vocabulary.{HaltLasts, told_device, IsTold, shape_of_sizes, notes}, Lives.ToldFailures.{failures_told}, Marks.RunningSet.{history_of}}
+use Rattle.lz_tie.{proofs.Marks.WholeHistory.{history_halts, history_passes, history_told}, specs.{Holds.{IsLocked}, Marks.{AreOfPasses, marks_in}}}
+use Rattle.lz_tie.specs.RunningSets.{HasHistory}
 
 pub returns-clause-history : goal.returns-clause-history
 returns-clause-history g c =

@@ -1,8 +1,7 @@
+use Rattle.lz_tie.proofs.locked.Locked.moments.Goals as goal
 use Rattle.std.proofs.Common.{subst}
 use Rattle.lz_board.specs.Seats.{notes}
-use Rattle.lz_tie.specs.Moments.{ExplainedSince}
-use Rattle.lz_tie.proofs.Moments.HeldMoments.{since_explained}
-use Rattle.lz_tie.proofs.locked.Locked.moments.Goals as goal
+use Rattle.lz_tie.{specs.Moments.{ExplainedSince}, proofs.Moments.HeldMoments.{since_explained}}
 
 pub returns-clause-explained : goal.returns-clause-explained
 returns-clause-explained g c =

@@ -1,15 +1,11 @@
+use Rattle.lz_tie.proofs.locked.Locked.turn_on.Goals as goal
 use Rattle.std.proofs.Common.{◌≡◌, ℕ, List, sym, ap, ◌∙◌, subst}
 use Rattle.lz_tie.proofs.Vocabulary.{Event, hop_of, Note, Part, IsWalkable, BoardId, IsPenOf, carried, id_of, notes, part}
-use Rattle.lz_machine.specs.declared.event.Event.TheVariants.{Sync}
-use Rattle.lz_tie.specs.declared.locked.Locked.TheInside.{Inside}
-use Rattle.lz_tie.specs.Held.{SparesDevice, WentOn}
-use Rattle.lz_tie.specs.Holds.{IsLocked}
-use Rattle.lz_tie.proofs.Calls.CountedMoves.{counted_on, is_next, no_end_shows, no_invoke}
-use Rattle.lz_tie.proofs.Hold.FoundEvent.{Finds, looks, may, others, played}
-use Rattle.lz_tie.proofs.Hold.OneHold.{Stepped, explains, keeps}
-use Rattle.lz_tie.proofs.locked.Locked.turn_on.Given.{Over}
+use Rattle.lz_tie.proofs.{Calls.CountedMoves.{counted_on, is_next, no_end_shows, no_invoke}, Hold.FoundEvent.{Finds, looks, may, others, played}}
+use Rattle.lz_tie.proofs.{Hold.OneHold.{Stepped, explains, keeps}, locked.Locked.turn_on.Given.{Over}}
 use Rattle.lz_tie.proofs.locked.Locked.turn_on.Goals.{After-play_joined-arg-3-1, After-take, in-SeePin, in_default}
-use Rattle.lz_tie.proofs.locked.Locked.turn_on.Goals as goal
+use Rattle.lz_tie.specs.{declared.locked.Locked.TheInside.{Inside}, Held.{SparesDevice, WentOn}, Holds.{IsLocked}}
+use Rattle.lz_machine.specs.declared.event.Event.TheVariants.{Sync}
 
 -- what was found, before it is played
 finds : (g : Over) (c : After-play_joined-arg-3-1 g) → Finds (id_of c.args.board.now) (notes c.self.inside.pen) (notes c.match-event.self-inside.pen) c.match-event.self-inside.yard.yard (g.D.Disk.device c.match-event.self-inside.yard.disk) (part c.args.pass.now) (carried c.match-event.self-inside.pen) c.args.caller.now c.match-event.found

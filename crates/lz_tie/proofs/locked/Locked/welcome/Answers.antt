@@ -1,10 +1,7 @@
-use Rattle.std.proofs.Common.{◌≡◌, ◌∙◌, sym, subst}
-use Rattle.lz_tie.proofs.Vocabulary.{Part, Extends, steps_of, trace_of, Knows, BoardId, id_of, notes, part}
-use Rattle.lz_tie.specs.OwnCalls.{TellsOwn}
-use Rattle.lz_tie.specs.Sessions.{TellsAlone}
-use Rattle.lz_tie.proofs.Marks.OwnCalls.{tells_own}
-use Rattle.lz_tie.proofs.Sessions.SoleNotes.{tells_alone}
 use Rattle.lz_tie.proofs.locked.Locked.welcome.Goals as goal
+use Rattle.std.proofs.Common.{◌≡◌, ◌∙◌, sym, subst}
+use Rattle.lz_tie.proofs.{Vocabulary.{Part, Extends, steps_of, trace_of, Knows, BoardId, id_of, notes, part}, Marks.OwnCalls.{tells_own}}
+use Rattle.lz_tie.{proofs.Sessions.SoleNotes.{tells_alone}, specs.{OwnCalls.{TellsOwn}, Sessions.{TellsAlone}}}
 
 pub returns-clause-since : goal.returns-clause-since
 returns-clause-since g c =

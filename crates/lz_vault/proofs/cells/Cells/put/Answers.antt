@@ -1,7 +1,6 @@
-use Rattle.std.proofs.Common.{sym}
-use Rattle.std.proofs.lemmas.List.{map-set}
-use Rattle.lz_vault.specs.Stages.{Cell}
 use Rattle.lz_vault.proofs.cells.Cells.put.Goals as goal
+use Rattle.std.proofs.{Common.{sym}, lemmas.List.{map-set}}
+use Rattle.lz_vault.specs.Stages.{Cell}
 
 pub invariant_of-self : goal.invariant_of-self
 invariant_of-self c =

@@ -1,10 +1,6 @@
-use Rattle.std.proofs.Common.{◌∙◌, ap, sym}
-use Rattle.std.specs.Prelude.{slice_index_or, slice_set}
-use Rattle.std.proofs.lemmas.List.{map-set}
-use Rattle.std.proofs.lemmas.Option.{get_or_from_slice_get}
-use Rattle.lz_vault.specs.Members.{no_cell}
-use Rattle.lz_vault.specs.Stages.{Cell}
 use Rattle.lz_vault.proofs.cells.Cells.turn.Goals as goal
+use Rattle.std.{proofs.{Common.{◌∙◌, ap, sym}, lemmas.{List.{map-set}, Option.{get_or_from_slice_get}}}, specs.Prelude.{slice_index_or, slice_set}}
+use Rattle.lz_vault.specs.{Members.{no_cell}, Stages.{Cell}}
 
 pub invariant_of-self : goal.invariant_of-self
 invariant_of-self c =

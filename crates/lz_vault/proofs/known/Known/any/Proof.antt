@@ -1,33 +1,19 @@
 -- `any` makes a value of no bytes, with whichever cells its caller names.
-use mathlib.Core.Path.{refl}
-use mathlib.Core.List.{List, [], ◌∷◌}
-use seplogic.Ra.Ura.{Ura}
-use mir.Val.{Val, vstruct, vcons, vnil}
-use base.Logic.{SProp}
-use prog.Memory.{Memory}
-use prog.Routine.{Routine}
-use prog.Wp.{WpFn, Tables}
-use types.Logic.{Logic}
-use contract.Monad.{Fun}
-use contract.Running.{tables, tables_of}
-use sound.WpLaws.{WpFn-mono}
-use types.Kit.{raw, ◌$◌, ◌∵◌, !, qed, keep, join, suffices, done}
-use types.Run.{no_more, and_then, returns, enter}
-use types.Part.{agg}
-use types.ByLocal.{alloc_all, pass_all, free_all, look_at, get, sets}
-use denote.Shadow.{pure_i}
-use denote.Steps.{nothing}
-use denote.Triple.Entry.{on_entry}
-use denote.Triple.Spec.{Meets, triple_of}
-use denote.Triple.Table.{entered}
-use denote.Triple.Walked.{says, ends_at, walked, walk_Meets}
-use Rattle.lz_vault.specs.Stages.{Cell}
-use Rattle.lz_vault.specs.declared.known.Known.{Known}
 use Rattle.lz_vault.specs.contracts.known.Known as T
-use Rattle.lz_vault.specs.contracts.known.Known.any.Key.{name as #it}
 use Rattle.lz_vault.specs.contracts.known.Known.any as it
 use Rattle.lz_vault.proofs.known.Known.any.Statement as stated
 use Rattle.lz_vault.proofs.known.Known.any.Code as code
+use mathlib.Core.{Path.{refl}, List.{List, [], ◌∷◌}}
+use seplogic.Ra.Ura.{Ura}
+use mir.Val.{Val, vstruct, vcons, vnil}
+use base.Logic.{SProp}
+use prog.{Memory.{Memory}, Routine.{Routine}, Wp.{WpFn, Tables}}
+use types.{Logic.{Logic}, Kit.{raw, ◌$◌, ◌∵◌, !, qed, keep, join, suffices, done}, Run.{no_more, and_then, returns, enter}, Part.{agg}}
+use types.ByLocal.{alloc_all, pass_all, free_all, look_at, get, sets}
+use contract.{Monad.{Fun}, Running.{tables, tables_of}}
+use sound.WpLaws.{WpFn-mono}
+use denote.{Shadow.{pure_i}, Steps.{nothing}, Triple.{Entry.{on_entry}, Spec.{Meets, triple_of}, Table.{entered}, Walked.{says, ends_at, walked, walk_Meets}}}
+use Rattle.lz_vault.specs.{Stages.{Cell}, declared.known.Known.{Known}, contracts.known.Known.any.Key.{name as #it}}
 
 abbrev v : Val
 v = vstruct (vcons (vstruct vnil) vnil)

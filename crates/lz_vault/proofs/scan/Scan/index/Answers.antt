@@ -1,10 +1,7 @@
-use Rattle.std.proofs.Common.{List, length, sym, subst}
-use Rattle.std.specs.List.Sorted.{IsPermutation}
-use Rattle.lz_slot.specs.Nodes.{Nodes}
-use Rattle.lz_vault.specs.Members.{AreMembers}
-use Rattle.lz_vault.specs.Stages.{Cell}
-use Rattle.lz_vault.proofs.Members.{AreInOrder, by_key, lowest_are_twins, permuted_listed, sorted_in_order}
 use Rattle.lz_vault.proofs.scan.Scan.index.Goals as goal
+use Rattle.std.{proofs.Common.{List, length, sym, subst}, specs.List.Sorted.{IsPermutation}}
+use Rattle.lz_slot.specs.Nodes.{Nodes}
+use Rattle.lz_vault.{specs.{Members.{AreMembers}, Stages.{Cell}}, proofs.Members.{AreInOrder, by_key, lowest_are_twins, permuted_listed, sorted_in_order}}
 
 pub returns-in-Some-clause-twins : goal.returns-in-Some-clause-twins
 returns-in-Some-clause-twins c =

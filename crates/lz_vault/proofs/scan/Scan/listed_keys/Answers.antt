@@ -1,13 +1,9 @@
-use Rattle.std.proofs.Common.{◌≡◌, ◌+◌, ◌≤◌, ◌<◌, ℕ, List, [], ◌∷◌, ◌++◌, length, rules, take, sym, ap, subst, ◌∙◌}
-use Rattle.std.specs.Prelude.{IfSome, IsSome, Option, map}
-use Rattle.std.proofs.lemmas.Bool.{false≢true}
-use Rattle.std.proofs.lemmas.List.{map-append, take_more}
-use Rattle.lz_slot.specs.Limits.{largest_key}
-use Rattle.lz_vault.specs.Members.{node_at}
-use Rattle.lz_vault.proofs.HeldKeys.{listed_fits}
-use Rattle.lz_vault.proofs.Members.{same_place}
-use Rattle.lz_vault.proofs.scan.Scan.listed_keys.Goals.{in-Some+in_ok-push, in_default}
 use Rattle.lz_vault.proofs.scan.Scan.listed_keys.Goals as goal
+use Rattle.std.proofs.{Common.{◌≡◌, ◌+◌, ◌≤◌, ◌<◌, ℕ, List, [], ◌∷◌, ◌++◌, length, rules, take, sym, ap, subst, ◌∙◌}, lemmas.Bool.{false≢true}}
+use Rattle.std.{proofs.lemmas.List.{map-append, take_more}, specs.Prelude.{IfSome, IsSome, Option, map}}
+use Rattle.lz_slot.specs.Limits.{largest_key}
+use Rattle.lz_vault.{specs.Members.{node_at}, proofs.{HeldKeys.{listed_fits}, Members.{same_place}}}
+use Rattle.lz_vault.proofs.scan.Scan.listed_keys.Goals.{in-Some+in_ok-push, in_default}
 
 pub loop-index-preserved : goal.loop-index-preserved
 loop-index-preserved c =

@@ -1,11 +1,8 @@
+use Rattle.lz_vault.proofs.scan.Scan.note_member.Goals as goal
 use Rattle.std.proofs.Common.{◌≢◌, refl, sym, subst}
 use Rattle.lz_slot.specs.declared.slot.SlotRead.{SlotRead}
-use Rattle.lz_vault.specs.Opens.{IsCellOf}
-use Rattle.lz_vault.specs.Stages.{Cell}
-use Rattle.lz_vault.specs.declared.vault.Stage.TheVariants.{Torn, Open}
-use Rattle.lz_vault.proofs.Scanning.{fresh_pushed, note_more}
+use Rattle.lz_vault.{specs.{Opens.{IsCellOf}, Stages.{Cell}, declared.vault.Stage.TheVariants.{Torn, Open}}, proofs.Scanning.{fresh_pushed, note_more}}
 use Rattle.lz_vault.proofs.SlotOrder.{next_member}
-use Rattle.lz_vault.proofs.scan.Scan.note_member.Goals as goal
 
 untorn : Open ≢ Torn
 untorn torn = absurd cc

@@ -1,12 +1,9 @@
+use Rattle.lz_vault.proofs.scan.Scan.note_shut.Goals as goal
 use Rattle.std.proofs.Common.{◌≡◌, ◌≢◌, None, refl}
 use Rattle.lz_slot.proofs.Files.ExactBytes.{zero_fits}
-use Rattle.lz_vault.specs.Members.{member_in}
-use Rattle.lz_vault.specs.Stages.{Cell, IsSteady}
-use Rattle.lz_vault.specs.declared.vault.Stage.{Stage}
-use Rattle.lz_vault.specs.declared.vault.Stage.TheVariants.{Closed, Torn, KeyLoose, Keyed, Opening, Open, Closing}
-use Rattle.lz_vault.proofs.Scanning.{fresh_pushed, note_more}
+use Rattle.lz_vault.specs.{Members.{member_in}, Stages.{Cell, IsSteady}, declared.vault.Stage.{Stage}}
+use Rattle.lz_vault.{specs.declared.vault.Stage.TheVariants.{Closed, Torn, KeyLoose, Keyed, Opening, Open, Closing}, proofs.Scanning.{fresh_pushed, note_more}}
 use Rattle.lz_vault.proofs.SlotOrder.{next_none}
-use Rattle.lz_vault.proofs.scan.Scan.note_shut.Goals as goal
 
 no_member : (stage : Stage) → IsSteady stage → stage ≢ Open → member_in (record { stage = stage; key = 0 }) ≡ None
 no_member Closed steady shut = refl

@@ -1,12 +1,8 @@
-use Rattle.std.proofs.Common.{rules, ◌∙◌, sym, subst, ◌+◌, ◌*◌, ◌/◌, ◌≤◌, ℕ, List, length, length-append, drop, take, arith}
-use Rattle.std.proofs.lemmas.List.{length-take, length-drop}
-use Rattle.std.proofs.lemmas.Result.{err_from_is_err_and}
-use Rattle.lz_slot.specs.Bytes.{slot_at}
-use Rattle.lz_slot.specs.declared.format.Format.{Format}
-use Rattle.lz_vault.specs.Scans.{AreNoted, IsFresh, StopsAt}
-use Rattle.lz_vault.proofs.Openings.{read_before, reads_then}
-use Rattle.lz_vault.proofs.Scanning.{stops_more}
 use Rattle.lz_vault.proofs.scan.Scan.read_slots.Goals as goal
+use Rattle.std.proofs.Common.{rules, ◌∙◌, sym, subst, ◌+◌, ◌*◌, ◌/◌, ◌≤◌, ℕ, List, length, length-append, drop, take, arith}
+use Rattle.std.proofs.lemmas.{List.{length-take, length-drop}, Result.{err_from_is_err_and}}
+use Rattle.lz_slot.specs.{Bytes.{slot_at}, declared.format.Format.{Format}}
+use Rattle.lz_vault.{specs.Scans.{AreNoted, IsFresh, StopsAt}, proofs.{Openings.{read_before, reads_then}, Scanning.{stops_more}}}
 
 pub returns-in_err-read_piece-clause-scan : goal.returns-in_err-read_piece-clause-scan
 returns-in_err-read_piece-clause-scan g c = λ honest before.

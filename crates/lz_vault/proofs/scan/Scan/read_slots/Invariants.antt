@@ -1,7 +1,7 @@
+use Rattle.lz_vault.proofs.scan.Scan.read_slots.Given as goal
 use Rattle.std.proofs.Common.{◌≡◌, ◌+◌, ◌-◌, ◌≤◌, length, IsTrue}
 use Rattle.lz_slot.specs.Bytes.{slot_at}
 use Rattle.lz_vault.specs.Scans.{AreNoted, IsFresh, OnlyReads, pieces_of}
-use Rattle.lz_vault.proofs.scan.Scan.read_slots.Given as goal
 
 abbrev pub invariant-loop-done : goal.invariant-loop-done
 invariant-loop-done g l = record {

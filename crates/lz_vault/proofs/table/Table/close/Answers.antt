@@ -1,10 +1,6 @@
-use Rattle.std.proofs.Common.{◌≡◌, ◌+◌, arith, refl, ◌∙◌}
-use Rattle.std.specs.Prelude.{cond, vec_capacity}
-use Rattle.lz_vault.specs.Opens.{is_open}
-use Rattle.lz_vault.specs.Stages.{Cell}
-use Rattle.lz_vault.specs.declared.vault.Stage.TheVariants.{Closing}
-use Rattle.lz_vault.proofs.Tables.{finds_room, open_counts, table_turned}
 use Rattle.lz_vault.proofs.table.Table.close.Goals as goal
+use Rattle.std.{proofs.Common.{◌≡◌, ◌+◌, arith, refl, ◌∙◌}, specs.Prelude.{cond, vec_capacity}}
+use Rattle.lz_vault.{specs.{Opens.{is_open}, Stages.{Cell}, declared.vault.Stage.TheVariants.{Closing}}, proofs.Tables.{finds_room, open_counts, table_turned}}
 
 pub without-self-inside-requires : goal.without-self-inside-requires
 without-self-inside-requires c = λ opened.

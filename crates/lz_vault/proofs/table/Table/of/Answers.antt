@@ -1,7 +1,6 @@
-use Rattle.std.proofs.Common.{List, ℕ, sym, subst, arith}
-use Rattle.lz_vault.specs.Tables.{AreUnsynced}
-use Rattle.lz_vault.proofs.Tables.{steady_unsynced}
 use Rattle.lz_vault.proofs.table.Table.of.Goals as goal
+use Rattle.std.proofs.Common.{List, ℕ, sym, subst, arith}
+use Rattle.lz_vault.{specs.Tables.{AreUnsynced}, proofs.Tables.{steady_unsynced}}
 
 pub invariant_of-result : goal.invariant_of-result
 invariant_of-result c = record {

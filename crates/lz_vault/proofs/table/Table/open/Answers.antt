@@ -1,12 +1,7 @@
-use Rattle.std.proofs.Common.{◌+◌, ◌∙◌, [], ◌∷◌, ◌++◌, ap, arith, refl, sym}
-use Rattle.std.specs.Prelude.{cond, if◌then◌else◌, vec_capacity}
-use Rattle.lz_vault.specs.Opens.{is_open}
-use Rattle.lz_vault.specs.Stages.{Cell}
-use Rattle.lz_vault.specs.Tables.{is_listed_then}
-use Rattle.lz_vault.specs.declared.vault.Stage.{Stage}
-use Rattle.lz_vault.specs.declared.vault.Stage.TheVariants.{Opening}
-use Rattle.lz_vault.proofs.Tables.{finds_room, table_turned}
 use Rattle.lz_vault.proofs.table.Table.open.Goals as goal
+use Rattle.std.{proofs.Common.{◌+◌, ◌∙◌, [], ◌∷◌, ◌++◌, ap, arith, refl, sym}, specs.Prelude.{cond, if◌then◌else◌, vec_capacity}}
+use Rattle.lz_vault.specs.{Opens.{is_open}, Stages.{Cell}, Tables.{is_listed_then}, declared.vault.Stage.{Stage, TheVariants.{Opening}}}
+use Rattle.lz_vault.proofs.Tables.{finds_room, table_turned}
 
 pub list-requires : goal.list-requires
 list-requires c = λ comes.

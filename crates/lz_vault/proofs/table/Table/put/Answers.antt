@@ -1,9 +1,6 @@
-use Rattle.std.proofs.Common.{◌≡◌, ◌+◌, ◌∙◌, Bool, ℕ, ap, arith, sym}
-use Rattle.std.specs.Prelude.{cond, vec_capacity}
-use Rattle.lz_vault.specs.Opens.{is_open}
-use Rattle.lz_vault.specs.Stages.{Cell, stage_put}
-use Rattle.lz_vault.proofs.Tables.{finds_room, free_shut, put_shut, put_stays, table_turned}
 use Rattle.lz_vault.proofs.table.Table.put.Goals as goal
+use Rattle.std.{proofs.Common.{◌≡◌, ◌+◌, ◌∙◌, Bool, ℕ, ap, arith, sym}, specs.Prelude.{cond, vec_capacity}}
+use Rattle.lz_vault.{specs.{Opens.{is_open}, Stages.{Cell, stage_put}}, proofs.Tables.{finds_room, free_shut, put_shut, put_stays, table_turned}}
 
 pub list-requires : goal.list-requires
 list-requires c = λ comes.

@@ -1,11 +1,7 @@
-use Rattle.std.proofs.Common.{◌≡◌, ◌+◌, ◌∙◌, List, ℕ, ap, arith, subst}
-use Rattle.std.specs.Prelude.{map, vec_capacity}
-use Rattle.lz_vault.specs.Opens.{open_count}
-use Rattle.lz_vault.specs.Stages.{cell_synced}
-use Rattle.lz_vault.specs.Tables.{AreMoved}
-use Rattle.lz_vault.proofs.Tables.{moved_all, table_synced}
-use Rattle.lz_vault.proofs.table.Table.sync.Goals.{After-clear}
 use Rattle.lz_vault.proofs.table.Table.sync.Goals as goal
+use Rattle.std.{proofs.Common.{◌≡◌, ◌+◌, ◌∙◌, List, ℕ, ap, arith, subst}, specs.Prelude.{map, vec_capacity}}
+use Rattle.lz_vault.{specs.{Opens.{open_count}, Stages.{cell_synced}, Tables.{AreMoved}}, proofs.Tables.{moved_all, table_synced}}
+use Rattle.lz_vault.proofs.table.Table.sync.Goals.{After-clear}
 
 all_moved : (c : After-clear) → c.move_on.new.cells ≡ map cell_synced c.self.inside.cells
 all_moved c =

@@ -1,8 +1,8 @@
+use Rattle.lz_yard.proofs.filling.Tables.of.Goals as goal
 use Rattle.std.proofs.Common.{◌≡◌, ◌∙◌, replicate, rules}
 use Rattle.lz_slot.proofs.Files.ExactBytes.{slots_of_format}
 use Rattle.lz_machine.specs.Yards.{idle_actor}
 use Rattle.lz_yard.proofs.Opening.FilledTables.{slots_ranged, words_sorted, low_taken, tables_are}
-use Rattle.lz_yard.proofs.filling.Tables.of.Goals as goal
 
 pub link_members-requires : goal.link_members-requires
 link_members-requires g c =

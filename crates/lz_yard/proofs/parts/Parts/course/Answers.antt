@@ -1,9 +1,7 @@
-use Rattle.std.proofs.Common.{rules}
-use Rattle.lz_machine.proofs.Runs.Course.{course_rules}
-use Rattle.lz_machine.specs.declared.course.Course.TheVariants.{Plays}
-use Rattle.lz_yard.specs.Parts.{Known}
-use Rattle.lz_yard.proofs.Events.KeptFit.{is_ready}
 use Rattle.lz_yard.proofs.parts.Parts.course.Goals as goal
+use Rattle.std.proofs.Common.{rules}
+use Rattle.lz_machine.{proofs.Runs.Course.{course_rules}, specs.declared.course.Course.TheVariants.{Plays}}
+use Rattle.lz_yard.{specs.Parts.{Known}, proofs.Events.KeptFit.{is_ready}}
 
 pub returns-in_default-clause-plays : goal.returns-in_default-clause-plays
 returns-in_default-clause-plays g c =

@@ -1,6 +1,6 @@
+use Rattle.lz_yard.proofs.parts.Parts.needs.Goals as goal
 use Rattle.std.proofs.Common.{arith}
 use Rattle.lz_yard.proofs.Events.HandRange.{slot_fits, curr_fits}
-use Rattle.lz_yard.proofs.parts.Parts.needs.Goals as goal
 
 pub stage-requires : goal.stage-requires
 stage-requires g c =

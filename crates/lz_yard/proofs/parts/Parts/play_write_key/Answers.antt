@@ -1,6 +1,6 @@
+use Rattle.lz_yard.proofs.parts.Parts.play_write_key.Goals as goal
 use Rattle.std.proofs.Common.{refl}
 use Rattle.lz_yard.proofs.Events.VaultCalls.{key_slot, write_key_does}
-use Rattle.lz_yard.proofs.parts.Parts.play_write_key.Goals as goal
 
 pub returns : goal.returns
 returns g c =

@@ -1,8 +1,7 @@
+use Rattle.lz_yard.proofs.yard.Yard.open.Goals as goal
 use Rattle.std.proofs.Common.{refl, ap, subst, IsTrue}
 use Rattle.lz_disk.specs.Images.{Medium, AreBytes}
-use Rattle.lz_yard.proofs.Opening.FilledTables.{opened_fits}
-use Rattle.lz_yard.proofs.Opening.FirstYard.{first_yard}
-use Rattle.lz_yard.proofs.yard.Yard.open.Goals as goal
+use Rattle.lz_yard.proofs.Opening.{FilledTables.{opened_fits}, FirstYard.{first_yard}}
 
 pub invariant_of-result : goal.invariant_of-result
 invariant_of-result g c = opened_fits _ _ _ _ _ _ _ c.in-Ok.ensures c.slots.ensures.count c.in_ok-vault.ensures.ok.fresh.0 c.requires.passes.1

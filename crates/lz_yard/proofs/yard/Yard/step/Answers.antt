@@ -1,10 +1,8 @@
-use Rattle.std.proofs.Common.{refl}
-use Rattle.lz_yard.specs.Parts.{Does}
-use Rattle.lz_yard.proofs.Events.KeptFit.{fits_dead, word_stays}
-use Rattle.lz_yard.proofs.Events.PlayedLine.{played_err, played_ok}
-use Rattle.lz_yard.proofs.yard.Yard.step.Given.{Over}
-use Rattle.lz_yard.proofs.yard.Yard.step.Goals.{In-Err, In-Ok, in-Invoke, in-Pin, in-Hop, in-Reserve, in-WriteKey, in-Claim, in-Check, in-WriteOpen, in-Link, in-WriteClose, in-Mark, in-Release, in-Sync, in-Settle, in-Unlink, in-Retire, in-SeePin, in-Answer, in-Halt}
 use Rattle.lz_yard.proofs.yard.Yard.step.Goals as goal
+use Rattle.std.proofs.Common.{refl}
+use Rattle.lz_yard.{specs.Parts.{Does}, proofs.{Events.{KeptFit.{fits_dead, word_stays}, PlayedLine.{played_err, played_ok}}, yard.Yard.step.Given.{Over}}}
+use Rattle.lz_yard.proofs.yard.Yard.step.Goals.{In-Err, In-Ok, in-Invoke, in-Pin, in-Hop, in-Reserve, in-WriteKey, in-Claim, in-Check, in-WriteOpen, in-Link}
+use Rattle.lz_yard.proofs.yard.Yard.step.Goals.{in-WriteClose, in-Mark, in-Release, in-Sync, in-Settle, in-Unlink, in-Retire, in-SeePin, in-Answer, in-Halt}
 
 pub course-requires-clause-may : goal.course-requires-clause-may
 course-requires-clause-may g c = rw (← c.self.view_is) at c.requires.may

@@ -1,7 +1,6 @@
-use Rattle.std.proofs.Common.{false, List, ℕ, sym, subst}
-use Rattle.test_threads.specs.Tapes.{IsTape}
-use Rattle.test_threads.proofs.ToldTexts.{begun}
 use Rattle.test_threads.proofs.tapes.Tape.new.Goals as goal
+use Rattle.std.proofs.Common.{false, List, ℕ, sym, subst}
+use Rattle.test_threads.{specs.Tapes.{IsTape}, proofs.ToldTexts.{begun}}
 
 pub invariant_of-result : goal.invariant_of-result
 invariant_of-result g c =

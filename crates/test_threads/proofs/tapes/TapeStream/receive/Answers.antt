@@ -1,7 +1,6 @@
-use Rattle.std.proofs.Common.{◌≡◌, ◌-◌, ℕ, List, length, take, drop, ap, ◌∙◌, arith}
-use Rattle.std.proofs.lemmas.List.{take_rest, length-take}
-use Rattle.test_threads.proofs.ToldTexts.{read_on}
 use Rattle.test_threads.proofs.tapes.TapeStream.receive.Goals as goal
+use Rattle.std.proofs.{Common.{◌≡◌, ◌-◌, ℕ, List, length, take, drop, ap, ◌∙◌, arith}, lemmas.List.{take_rest, length-take}}
+use Rattle.test_threads.proofs.ToldTexts.{read_on}
 
 pub returns-clause-received : goal.returns-clause-received
 returns-clause-received g c =

@@ -1,8 +1,6 @@
-use Rattle.std.proofs.Common.{List, ℕ, sym, subst}
-use Rattle.test_threads.specs.Tapes.{IsTape}
-use Rattle.test_threads.proofs.ToldTexts.{told_on}
 use Rattle.test_threads.proofs.tapes.TapeStream.take.Goals as goal
-use Rattle.test_threads.proofs.tapes.TapeStream.take.Goals.{in-Ok, in-Err}
+use Rattle.std.proofs.Common.{List, ℕ, sym, subst}
+use Rattle.test_threads.{specs.Tapes.{IsTape}, proofs.{ToldTexts.{told_on}, tapes.TapeStream.take.Goals.{in-Ok, in-Err}}}
 
 pub invariant_of-self : goal.invariant_of-self
 invariant_of-self g c =

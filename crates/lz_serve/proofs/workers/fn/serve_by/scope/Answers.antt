@@ -1,8 +1,6 @@
-use Rattle.std.proofs.Common.{rules, ap, ◌∙◌, arith}
-use Rattle.lz_serve.specs.declared.shares.HandsBack.{HandsBack}
-use Rattle.lz_serve.specs.Promised.{promised}
-use Rattle.lz_serve.proofs.RunningLoops.{one_more}
 use Rattle.lz_serve.proofs.workers.fn.serve_by.scope.Goals as goal
+use Rattle.std.proofs.Common.{rules, ap, ◌∙◌, arith}
+use Rattle.lz_serve.{specs.{declared.shares.HandsBack.{HandsBack}, Promised.{promised}}, proofs.RunningLoops.{one_more}}
 
 pub loop-worker-preserved-in-Ok-push : goal.loop-worker-preserved-in-Ok-push
 loop-worker-preserved-in-Ok-push g c =

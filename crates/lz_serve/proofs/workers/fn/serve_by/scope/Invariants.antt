@@ -1,7 +1,6 @@
-use Rattle.std.specs.Prelude.{◌≡◌, ◌+◌, ◌≤◌, vec_capacity, vec_items, vec_len}
-use Rattle.std.specs.Vec.Iter.{into_iter_len}
-use Rattle.lz_serve.specs.Promised.{promised}
 use Rattle.lz_serve.proofs.workers.fn.serve_by.scope.Given as goal
+use Rattle.std.specs.{Prelude.{◌≡◌, ◌+◌, ◌≤◌, vec_capacity, vec_items, vec_len}, Vec.Iter.{into_iter_len}}
+use Rattle.lz_serve.specs.Promised.{promised}
 
 abbrev pub invariant-loop-worker : goal.invariant-loop-worker
 invariant-loop-worker g l =
