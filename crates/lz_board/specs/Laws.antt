@@ -5,9 +5,9 @@ use lib.ListN.{get_elem?}
 use Rattle.atomic_table.specs.Table.{State}
 use Rattle.lz_list.specs.declared.{word.Word.{Word, TheVariants.{Pin as PinOf}}, publishing.Publishing.{Publishing}}
 use Rattle.lz_list.specs.declared.publishing.Publishing.TheVariants.{Unlinked as unlinked, KeyPrepared as key_prepared, LinkPrepared as link_prepared}
-use Rattle.lz_list.specs.{declared.layout.Sizes.{Sizes}, Traces.{Trace, Begins, Lawful, word_after}, Addresses.{index}}
+use Rattle.lz_list.specs.{declared.layout.Sizes.{Sizes}, Traces.{Trace, Begins, Lawful, SettledYes, word_after}, Addresses.{index}}
 use Rattle.lz_board.specs.{declared.view.{Note.{Note}, Part.{Part}, View.{View}, Opening.{Opening}}, Notes.{trace_of, steps_of, Since, IsShared}, Kept.{IsPart}}
-use Rattle.lz_board.specs.{Opened.{opened_by}, Handles.{holds_of}}
+use Rattle.lz_board.specs.{Opened.{opened_by}, Handles.{holds_of}, Glances.{Between}, Listings.{IsDurableIn}}
 use Rattle.lz_machine.specs.Yards.{IsInside}
 
 -- a seat has this view, where the board is in state s
@@ -72,3 +72,12 @@ SlotsAreLeftFirst =
     → holds_of o s
     → (ns : List Note)
     × IsPublished o.sizes (opened_by o.words.value) s ns × ((h : Part) → IsPass s h → IsInside h.pin → LeavesFirst h.begun (trace_of (opened_by o.words.value) ns))
+
+-- a key that is settled as a member from P to Q is one in the same slot throughout
+abbrev pub MembersKeepTheirSlot : Type 0
+MembersKeepTheirSlot =
+    (buckets slots k : ℕ) (P Q : Trace)
+    → Lawful buckets slots Q
+    → Begins P Q
+    → ((R : Trace) → Between P R Q → SettledYes R R k)
+    → (s : ℕ) × ((R : Trace) → Between P R Q → IsDurableIn s k R)

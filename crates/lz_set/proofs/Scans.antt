@@ -5,7 +5,7 @@ use Rattle.lz_slot.specs.Limits.{largest_key}
 use Rattle.lz_list.{specs.Traces.{Trace, bucket_of}, proofs.Traces.{Absence.{begins_itself}, Hindsight.{lawful_begins}, WalkEnd.{begins_before}}}
 use Rattle.lz_machine.proofs.Frames.Ranges.{on_range}
 use Rattle.lz_board.{specs.{Glances.{Between, Glanced}, Listings.{reached, IsDurableIn}}, proofs.Walk.GlanceAnswer.{between_longer}}
-use Rattle.lz_board.proofs.Walk.{ListedMore.{glanced_longer}, ListedSlot.{its_node}, OneSlot.{one_slot, some_slot}}
+use Rattle.lz_board.proofs.Walk.{ListedMore.{glanced_longer}, ListedSlot.{its_node}, OneSlot.{keeps_its_slot}}
 use Rattle.lz_set.specs.Scans.{Told, keys_of, Scans, ScansTellMembers}
 
 module _ (slots : ℕ) (P Q : Trace) where
@@ -39,11 +39,8 @@ scans_tell_members buckets slots P Q (t ∷ ts) law (told, scans) = record {
   all = λ k small always.
       let begun = begins_before P t.before Q told.from_P (begins_before t.before t.after Q told.goes_on told.upto_Q) in
       let first = lawful_begins buckets slots P Q begun law in
-      let at = some_slot buckets slots k P first (always P (record { from = begins_itself P; upto = begun })) in
-      let s = at.0 in
-      let stays : (R : Trace) → Between P R Q → IsDurableIn s k R = λ R b.
-      one_slot buckets slots k s P R (lawful_begins buckets slots R Q b.upto law) b.from at.1
-      (λ S c. always S (record { from = c.from; upto = begins_before S R Q c.upto b.upto })) in
-      found slots P Q s k (on_range buckets slots P (bucket_of buckets k) s first (its_node buckets slots s k P first at.1).0) small stays (Some 0) (t ∷ ts) (told, scans) (omega arith);
+      let (s, stays) = keeps_its_slot buckets slots k P Q law begun always in
+      let here = stays P (record { from = begins_itself P; upto = begun }) in
+      found slots P Q s k (on_range buckets slots P (bucket_of buckets k) s first (its_node buckets slots s k P first here).0) small stays (Some 0) (t ∷ ts) (told, scans) (omega arith);
   only = only slots P Q (Some 0) (t ∷ ts) (told, scans);
 }
