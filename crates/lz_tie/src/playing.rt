@@ -15,7 +15,7 @@ use lz_board::{Board, Moment, Note, Pass, Pen, What};
 use lz_disk::Disk;
 use lz_list::{Publishing, Word};
 use lz_machine::{Event, Outcome};
-use lz_slot::Format;
+use lz_slot::{Format, Slot};
 use lz_yard::{Stepped, Told, Yard};
 use std::snapshot::Snapshot;
 
@@ -96,7 +96,7 @@ pub(crate) fn play_joined<D: Disk>(
             let after = yard.words().get(word);
             board.note(pen, other, before, after, &note);
         }
-        None => board.note(pen, Word::Halt, 2, 2, &note),
+        None => board.note(pen, Word::Link(Slot::new(0)), 2, 2, &note),
     }
     Turn {
         outcome,

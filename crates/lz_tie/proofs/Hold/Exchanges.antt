@@ -1,7 +1,7 @@
 -- The exchange on the board that goes with a turn's note.
 use Rattle.std.proofs.Common.{◌≡◌, ◌≢◌, ℕ, refl, sym, ap, ◌∙◌, subst, Option, Some, None}
 use Rattle.lz_tie.proofs.Vocabulary.{Word, Words, get}
-use Rattle.lz_list.specs.declared.word.Word.TheVariants.{Head, Link, Key, Pin as pin_at, Halt as halt_word}
+use Rattle.lz_list.specs.declared.word.Word.TheVariants.{Link, Pin as pin_at}
 
 -- the word, what it was, and what it becomes
 pub record Exchange : Type 0 where
@@ -9,11 +9,11 @@ pub record Exchange : Type 0 where
   pub before : ℕ
   pub after : ℕ
 
--- That of the word that the turn changed, or of the halt word from 2 to 2 where it changed none. There is none where the
+-- That of the word that the turn changed, or of slot 0's link word from 2 to 2 where it changed none. There is none where the
 -- pass's own pin word was changed.
 abbrev pub IsExchange : Words → Option Word → ℕ → Option Exchange → Type 0
 IsExchange words None before None = ⊥
-IsExchange words None before (Some x) = (x.word ≡ halt_word) × (x.before ≡ 2) × (x.after ≡ 2)
+IsExchange words None before (Some x) = (x.word ≡ Link 0) × (x.before ≡ 2) × (x.after ≡ 2)
 IsExchange words (Some (pin_at q)) before None = Unit {0}
 IsExchange words (Some (pin_at q)) before (Some x) = ⊥
 IsExchange words (Some w) before None = ⊥
@@ -21,11 +21,8 @@ IsExchange words (Some w) before (Some x) = (x.word ≡ w) × (x.before ≡ befo
 
 -- that of a word that is no pin word
 word_exchange : (words : Words) (w : Word) (before : ℕ) → ((q : ℕ) → w ≢ pin_at q) → IsExchange words (Some w) before (Some (record { word = w; before = before; after = get words w }))
-word_exchange words (Head b) before other = (refl, refl, refl)
-word_exchange words (Link s) before other = (refl, refl, refl)
-word_exchange words (Key s) before other = (refl, refl, refl)
 word_exchange words (pin_at q) before other = absurd (other q refl)
-word_exchange words halt_word before other = (refl, refl, refl)
+word_exchange words _ before other = (refl, refl, refl)
 
 module _ (words : Words) (changed : Option Word) (before : ℕ) where
   pub of_word : (seen : Words) (w : Word) (after : ℕ) → changed ≡ Some w → ((q : ℕ) → w ≢ pin_at q) → after ≡ get seen w → seen ≡ words → IsExchange words changed before (Some (record { word = w; before = before; after = after }))
@@ -34,8 +31,8 @@ module _ (words : Words) (changed : Option Word) (before : ℕ) where
       (subst (λ (n : ℕ). IsExchange words (Some w) before (Some (record { word = w; before = before; after = n }))) (sym (reads ∙ ap (λ (q : Words). get q w) same))
       (word_exchange words w before other))
 
-  pub of_none : changed ≡ None → IsExchange words changed before (Some (record { word = halt_word; before = 2; after = 2 }))
-  of_none is = subst (λ (o : Option Word). IsExchange words o before (Some (record { word = halt_word; before = 2; after = 2 }))) (sym is) (refl, refl, refl)
+  pub of_none : changed ≡ None → (s : ℕ) → s ≡ 0 → IsExchange words changed before (Some (record { word = Link s; before = 2; after = 2 }))
+  of_none is s first = subst (λ (o : Option Word). IsExchange words o before (Some (record { word = Link s; before = 2; after = 2 }))) (sym is) (ap Link first, refl, refl)
 
   pub of_pin : (w : Word) (q : ℕ) → changed ≡ Some w → w ≡ pin_at q → IsExchange words changed before None
   of_pin w q is pin = subst (λ (o : Option Word). IsExchange words o before None) (sym (is ∙ ap (λ (v : Word). Some v) pin)) tt

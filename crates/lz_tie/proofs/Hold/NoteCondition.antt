@@ -1,7 +1,7 @@
 -- What the tie before a hold and after it say of the board: the words, and that the store of a hold publishes what its note
 -- says.
-use Rattle.std.proofs.Common.{◌≡◌, ◌≢◌, ⊎_elim, ℕ, List, ◌∷◌, ◌++◌, refl, sym, ap, ◌∙◌, subst, arith, ne_eqb, Bool, true, false, ◌==◌, length, if◌then◌else◌}
-use Rattle.std.proofs.{Common.{[], Option, Some, None, option_to_list}, lemmas.{Bool.{eq-eqb, cases_eq, cases_lt}, List.{get_or_past}}}
+use Rattle.std.proofs.Common.{◌≡◌, ◌≢◌, ⊎_elim, ℕ, List, ◌∷◌, ◌++◌, refl, sym, ap, ◌∙◌, ◌<◌, subst, arith, ne_eqb, Bool, true, false, ◌==◌, length}
+use Rattle.std.proofs.{Common.{if◌then◌else◌, [], Option, Some, None, option_to_list}, lemmas.{Bool.{eq-eqb, cases_eq, cases_lt}, List.{get_or_past}}}
 use mathlib.Core.Bool.{false≢true}
 use Rattle.lz_tie.proofs.Vocabulary.{of_pass, Device, Medium, Vaulted, Use, Taken, use_of, Publishing, Word, get, IsWord, Trace, Lawful, IsLoose, word_after}
 use Rattle.lz_tie.proofs.Vocabulary.{Actor, Shape, Yard, idle_actor, run, first_point, TraceSound, SlotStands, is_node, is_held, is_limbo, SlotsSound, Sizes}
@@ -48,6 +48,12 @@ module _ (opened : Trace) (ns : List Note) (y : Yard) (honest : Bool) (disk : Me
   -- the yard's words are those after the notes' trace, which is lawful
   pub tied_words : (w : Word) → IsShared (sizes_of y.shape) w → get y.words w ≡ word_after y.shape.buckets (trace_of opened ns) w
   tied_words w shared = same_words y t.service.yard t.yard (sizes_of y.shape) w shared ∙ words_shown y.shape t.service.yard.words (trace_of opened ns) sound w shared
+
+  -- there is a slot
+  first_slot : IsShared (sizes_of y.shape) (Link 0)
+  first_slot =
+      let up = up_at t.start (run (first_point t.start) t.steps) t.service t.medium (reached_sound t.start t.steps t.starts t.runs) t.state in
+      subst (λ (s : Shape). 0 < s.slots) (sym t.yard.shape) up.up.sound.images.slots.0
 
   slots : SlotsSound y.shape y.vault.cells y.vault.dead y.uses y.actors (trace_of opened ns)
   slots =
@@ -108,14 +114,14 @@ noting_writes opened ns y y' honest honest' disk disk' a hs n t t' shape w share
     after v h = tied_words opened (n ∷ splice opened a hs ns) y' honest' disk' t' v (subst (λ s. IsShared (sizes_of s) v) (sym shape) h)
         ∙ ap (λ (x : Shape × Trace). word_after x.0.buckets x.1 v) (λ i. (shape i, grown i))
 
--- and where no word differs, an exchange that changes nothing
+-- and where no word differs, an exchange of a word that all share, which changes nothing
 pub noting_nothing : (opened : Trace) (ns : List Note) (y y' : Yard) (honest honest' : Bool) (disk disk' : Medium) (a : ℕ) (hs : List Load) (n : Note) (m : ℕ)
     → IsTied opened ns y honest disk → IsTied opened (n ∷ splice opened a hs ns) y' honest' disk' → y'.shape ≡ y.shape
     → ((v : Word) → IsShared (sizes_of y.shape) v → get y'.words v ≡ get y.words v)
-    → Writes (sizes_of y.shape) (trace_of opened ns) Halt m m n.published
+    → Writes (sizes_of y.shape) (trace_of opened ns) (Link 0) m m n.published
 noting_nothing opened ns y y' honest honest' disk disk' a hs n m t t' shape others = record {
-  shared = tt;
-  word = either (word_after y.shape.buckets P Halt) ∙ sym (same Halt tt);
+  shared = first_slot opened ns y honest disk t;
+  word = either (word_after y.shape.buckets P (Link 0)) ∙ sym (same (Link 0) (first_slot opened ns y honest disk t));
   others = λ v in_range away. same v in_range;
 }
   where

@@ -1,13 +1,13 @@
 -- The Invoke of a pass that has joined the pen, and the call that its note tells.
 use Rattle.lz_tie.proofs.Hold.CallStart as starting
 use Rattle.std.proofs.Common.{◌≡◌, ◌≢◌, ℕ, ◌%◌, ◌≤◌, ◌==◌, false, List, [], ◌∷◌, refl, sym, ap, ◌∙◌, subst, arith, eq-eqb, Some, None, IsTrue}
-use Rattle.lz_tie.proofs.Vocabulary.{Command, Device, medium_after, set, Lawful, Course, Outcome, Yard, actor_at, changed_on, course, line_on, call_on, pin_of}
-use Rattle.lz_tie.proofs.Vocabulary.{published_on, MayPlay, with_words, invoked, Told, Sizes, Note, Part, note_by, trace_of, steps_of, splice, pin_after}
-use Rattle.lz_tie.proofs.{Vocabulary.{is_calling, MayNote, Writes, noted, BoardId}, Hold.{Exchanges.{Exchange, IsExchange}, NotedStep.{NotedStep}}}
+use Rattle.lz_tie.proofs.Vocabulary.{Command, Device, medium_after, get, set, Lawful, Course, Outcome, Yard, actor_at, changed_on, course, line_on, call_on}
+use Rattle.lz_tie.proofs.Vocabulary.{pin_of, published_on, MayPlay, with_words, invoked, Told, Sizes, Note, Part, note_by, trace_of, steps_of, splice}
+use Rattle.lz_tie.proofs.{Vocabulary.{pin_after, is_calling, MayNote, Writes, noted, BoardId}, Hold.{Exchanges.{Exchange, IsExchange}, NotedStep.{NotedStep}}}
 use Rattle.lz_tie.proofs.{Hold.NoteCondition.{listed_is, listed_none, alike_tied, tied_lawful, noting_nothing}, Reuse.EventUpkeep.{silent_told, hands_after}}
 use Rattle.lz_tie.specs.{NotedRuns.{SameButAllPins, IsTied}, Holds.{sizes_of, IsLocked, InHold, MayTurn, begins_with}, Reuse.{ReuseTold}}
 use Rattle.lz_slot.proofs.Counted.{of_pass_same, length-set_of_pass}
-use Rattle.lz_list.specs.declared.word.Word.TheVariants.{Pin as pin_at, Halt as halt_word}
+use Rattle.lz_list.specs.declared.word.Word.TheVariants.{Link as link_at, Pin as pin_at}
 use Rattle.lz_machine.specs.declared.{course.Course.TheVariants.{Plays}, event.{Event.TheVariants.{Invoke}, Outcome.TheVariants.{Fault}}}
 use Rattle.lz_machine.proofs.Runs.Course.{invoke_plays}
 use Rattle.lz_yard.specs.Steps.{Played as PlayedOver}
@@ -102,11 +102,12 @@ module _ (b : BoardId) (ns : List Note) (y : Yard) (dev : Device) (h : Part) (ho
     may_note : MayNote b.sizes b.opened ns h n
     may_note = record { by = refl; step = tt; pin = may.1; inside = λ inside. let even = may.0.outside in absurd (omega (arith, even, inside)); lawful = lawful; made = λ q away. refl; prepares = tt }
 
-    halt_writes : Writes b.sizes (trace_of b.opened ns) halt_word 2 2 None
-    halt_writes = grind (arith, noting_nothing, z_tied, tied, yard_is)
+    link_writes : Writes b.sizes (trace_of b.opened ns) (link_at 0) 2 2 None
+    link_writes = subst (λ (s : Sizes). Writes s (trace_of b.opened ns) (link_at 0) 2 2 None) (sym hold.locked.sizes)
+        (noting_nothing b.opened ns z z' dev.honest dev'.honest dev.medium dev'.medium a [] n 2 z_tied tied shape (λ v shared. ap (λ (q : Yard). get q.words v) yard_is))
 
     writes : (x : Exchange) → IsExchange z'.words told.changed told.before (Some x) → Writes b.sizes (trace_of b.opened ns) x.word x.before x.after None
-    writes x is = grind (arith, unchanged, halt_writes)
+    writes x is = grind (arith, unchanged, link_writes)
 
     pub noted_call : NotedStep b ns h z' told dev' (note_by a (Called c y.vault.format) told.published)
     noted_call = grind (arith, note_by, nothing, may_note, locked, writes, unchanged)

@@ -248,7 +248,7 @@ module _ (b : BoardId) (ns : List Note) (y : Yard) (dev : Device) (h : Part) (ho
           some_same : (v w : Word) → Some v ≡ Some w → v ≡ w
           some_same v w same = ap (λ (q : Option Word). or_else v q) same
 
-      of_none : told.changed ≡ None → (x.word ≡ halt_word) × (x.before ≡ 2) × (x.after ≡ 2) → Writes (sizes_of z.shape) (trace_of b.opened ns) x.word x.before x.after told.published
+      of_none : told.changed ≡ None → (x.word ≡ link_at 0) × (x.before ≡ 2) × (x.after ≡ 2) → Writes (sizes_of z.shape) (trace_of b.opened ns) x.word x.before x.after told.published
       of_none at fields =
           subst (λ (q : Word × ℕ × ℕ). Writes (sizes_of z.shape) (trace_of b.opened ns) q.0 q.1 q.2 told.published) (λ i. (sym fields.0 i, sym fields.1 i, sym fields.2 i))
           (noting_nothing b.opened ns z z' dev.honest dev'.honest dev.medium dev'.medium a h.loads n 2 z_tied tied shape (λ v shared. stays v (λ here. absurd (false≢true (ap is_some (sym at ∙ here))))))

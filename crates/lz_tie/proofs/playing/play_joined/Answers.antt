@@ -49,12 +49,12 @@ note-requires-in-None-clause-may g c =
 pub note-requires-in-None-clause-keeps : goal.note-requires-in-None-clause-keeps
 note-requires-in-None-clause-keeps g c =
     let noting = joined.noting (id_of c.args.board.now) (notes c.args.pen.now) c.args.yard.now.yard (g.D.Disk.device c.args.yard.now.disk) (carried c.args.pen.now) c.requires.hold c.args.event c.requires.may c.number-number.result c.pin.result (c.number-number.ensures ∙ c.requires.hand.number) (c.pin.ensures ∙ c.requires.hand.pin) c.note_pin.new.self.yard c.note_pin.ensures.yard (g.D.Disk.device c.note_pin.new.self.disk) (ap (λ d. g.D.Disk.device d) c.note_pin.ensures.disk) c.step.result.outcome c.step.new.self.yard c.step.result.told (g.D.Disk.device c.step.new.self.disk) c.step.ensures.played c.step.ensures.shape c.what_of-what.result (c.what_of-what.ensures ∙ ap (λ f. what_of f c.args.event c.step.result.outcome) c.format.ensures) c.stamp-moment.result c.stamp-moment.ensures in
-    noting.keeps _ (of_none c.step.new.self.yard.words c.step.result.told.changed c.step.result.told.before c.in-None.is)
+    noting.keeps _ (of_none c.step.new.self.yard.words c.step.result.told.changed c.step.result.told.before c.in-None.is c.new.result c.new.ensures)
 
 pub note-requires-in-None-clause-writes : goal.note-requires-in-None-clause-writes
 note-requires-in-None-clause-writes g c =
     let noting = joined.noting (id_of c.args.board.now) (notes c.args.pen.now) c.args.yard.now.yard (g.D.Disk.device c.args.yard.now.disk) (carried c.args.pen.now) c.requires.hold c.args.event c.requires.may c.number-number.result c.pin.result (c.number-number.ensures ∙ c.requires.hand.number) (c.pin.ensures ∙ c.requires.hand.pin) c.note_pin.new.self.yard c.note_pin.ensures.yard (g.D.Disk.device c.note_pin.new.self.disk) (ap (λ d. g.D.Disk.device d) c.note_pin.ensures.disk) c.step.result.outcome c.step.new.self.yard c.step.result.told (g.D.Disk.device c.step.new.self.disk) c.step.ensures.played c.step.ensures.shape c.what_of-what.result (c.what_of-what.ensures ∙ ap (λ f. what_of f c.args.event c.step.result.outcome) c.format.ensures) c.stamp-moment.result c.stamp-moment.ensures in
-    noting.writes _ (of_none c.step.new.self.yard.words c.step.result.told.changed c.step.result.told.before c.in-None.is)
+    noting.writes _ (of_none c.step.new.self.yard.words c.step.result.told.changed c.step.result.told.before c.in-None.is c.new.result c.new.ensures)
 
 pub shift-requires-clause-may : goal.shift-requires-clause-may
 shift-requires-clause-may g c =
@@ -92,7 +92,7 @@ left g c =
           subst (λ (q : Pen). Left g c q c.match-changed.pass) (sym w.pen-is)
           (after.0, after.1, after.2, hand_noted (id_of c.args.board.now) c.args.pass.now c.match-changed.pass (carried c.args.pen.now) (carried w.note.new.pen) opened ns n c.requires.hand w.pass-is w.note.ensures.carried)
       | in-None w ↦
-          let after = joined.after_note (id_of c.args.board.now) (notes c.args.pen.now) c.args.yard.now.yard (g.D.Disk.device c.args.yard.now.disk) (carried c.args.pen.now) c.requires.hold c.args.event c.requires.may c.number-number.result c.pin.result (c.number-number.ensures ∙ c.requires.hand.number) (c.pin.ensures ∙ c.requires.hand.pin) c.note_pin.new.self.yard c.note_pin.ensures.yard (g.D.Disk.device c.note_pin.new.self.disk) (ap (λ d. g.D.Disk.device d) c.note_pin.ensures.disk) c.step.result.outcome c.step.new.self.yard c.step.result.told (g.D.Disk.device c.step.new.self.disk) c.step.ensures.played c.step.ensures.shape c.what_of-what.result (c.what_of-what.ensures ∙ ap (λ f. what_of f c.args.event c.step.result.outcome) c.format.ensures) c.stamp-moment.result c.stamp-moment.ensures (notes w.note-in-None.new.pen) (carried w.note-in-None.new.pen) w.note-in-None.ensures.notes w.note-in-None.ensures.carried (noting.keeps _ (of_none c.step.new.self.yard.words c.step.result.told.changed c.step.result.told.before w.in-None.is)) in
+          let after = joined.after_note (id_of c.args.board.now) (notes c.args.pen.now) c.args.yard.now.yard (g.D.Disk.device c.args.yard.now.disk) (carried c.args.pen.now) c.requires.hold c.args.event c.requires.may c.number-number.result c.pin.result (c.number-number.ensures ∙ c.requires.hand.number) (c.pin.ensures ∙ c.requires.hand.pin) c.note_pin.new.self.yard c.note_pin.ensures.yard (g.D.Disk.device c.note_pin.new.self.disk) (ap (λ d. g.D.Disk.device d) c.note_pin.ensures.disk) c.step.result.outcome c.step.new.self.yard c.step.result.told (g.D.Disk.device c.step.new.self.disk) c.step.ensures.played c.step.ensures.shape c.what_of-what.result (c.what_of-what.ensures ∙ ap (λ f. what_of f c.args.event c.step.result.outcome) c.format.ensures) c.stamp-moment.result c.stamp-moment.ensures (notes w.note-in-None.new.pen) (carried w.note-in-None.new.pen) w.note-in-None.ensures.notes w.note-in-None.ensures.carried (noting.keeps _ (of_none c.step.new.self.yard.words c.step.result.told.changed c.step.result.told.before w.in-None.is w.new.result w.new.ensures)) in
           subst (λ (q : Pen). Left g c q c.match-changed.pass) (sym w.pen-is)
           (after.0, after.1, after.2, hand_noted (id_of c.args.board.now) c.args.pass.now c.match-changed.pass (carried c.args.pen.now) (carried w.note-in-None.new.pen) opened ns n c.requires.hand w.pass-is w.note-in-None.ensures.carried)
     ]
