@@ -1,5 +1,5 @@
 -- Worked rows: the definitions computed on small cases.
-use Rattle.std.proofs.Common.{◌≡◌, ◌==◌, ◌&&◌, ◌||◌, Bool, true, false, inl, inr, List, [], ◌∷◌, ⊎_elim, Some, None, refl, arith}
+use Rattle.std.proofs.Common.{◌≡◌, ◌==◌, ◌&&◌, ◌||◌, Bool, true, false, inl, inr, List, [], ◌∷◌, ⊎_elim, Some, None, refl, ap, arith}
 use mathlib.Core.Bool.{false≢true}
 use Rattle.lz_slot.specs.declared.{command.Command.TheVariants.{Add, Has}, format.Format.TheVariants.{Two}}
 use Rattle.lz_list.specs.declared.{word.Word.TheVariants.{Head, Link, Key, Halt}, publishing.Change.TheVariants.{Added as as_added, Removed as as_removed}}
@@ -151,3 +151,22 @@ not_met h = ⊎_elim apart apart_too h.alike
 -- and they don't change places
 not_exchanged : Met first other other first → ⊥
 not_exchanged h = let kept = h.one_kept in absurd cc
+
+-- neither forgets what it has seen, each sees what the other had, and each stays the pass that it was
+not_met_forgetting : Met (knowing one_linked first) other first (knowing one_linked other) → ⊥
+not_met_forgetting h = let is = h.one_one in absurd cc
+
+not_met_unseen : Met (knowing one_linked first) other (knowing one_linked first) other → ⊥
+not_met_unseen h = let is = h.one_other in absurd cc
+
+other_not_met_forgetting : Met first (knowing one_linked other) (knowing one_linked first) other → ⊥
+other_not_met_forgetting h = let is = h.other_other in absurd cc
+
+other_not_met_unseen : Met first (knowing one_linked other) first (knowing one_linked other) → ⊥
+other_not_met_unseen h = let is = h.other_one in absurd cc
+
+one_not_exchanged : Met first other other other → ⊥
+one_not_exchanged h = let same = ap (λ (g : Part). g.number) h.one_kept in absurd (omega (arith, same))
+
+other_not_exchanged : Met first other first first → ⊥
+other_not_exchanged h = let same = ap (λ (g : Part). g.number) h.other_kept in absurd (omega (arith, same))

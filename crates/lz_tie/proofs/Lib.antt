@@ -9,11 +9,15 @@ pub mod Moments
 pub mod Lives
 pub mod AnswerRows
 pub mod RefusedAnswers
+pub mod RefusedCalls
 pub mod OneCallerRows
 pub mod SessionRows
 pub mod KeyByKeyRows
 pub mod LoneClientRows
 pub mod MomentRows
+pub mod HoldRows
+pub mod HistoryRows
+pub mod OwnReplyRows
 pub mod CoveredRows
 pub mod Calls
 pub mod Marks

@@ -16,7 +16,7 @@ P0 = opening 1 ((9, 0) ∷ [])
 abbrev sizes : Sizes
 sizes = record { slots = 2; buckets = 1; passes = 1 }
 
-abbrev board : BoardId
+abbrev pub board : BoardId
 board = record { table = no_board.table; sizes = sizes; opened = P0 }
 
 -- the steps of a `has` that walks over the one member
