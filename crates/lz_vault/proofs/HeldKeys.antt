@@ -3,14 +3,13 @@ use Rattle.lz_slot.specs.declared.slot.SlotRead.TheVariants as read
 use Rattle.std.proofs.Common.{◌≡◌, ℕ, zero, suc, ◌+◌, ◌≤◌, ◌<◌, Bool, List, [], ◌∷◌, ◌++◌, length, get_or, take, refl, sym, ◌∙◌, ap, subst, arith, Option, Some}
 use Rattle.std.proofs.{Common.{None, IsTrue}, lemmas.{List.{map-append, take_all, take_more}, Option.{slice_get-get_or, same_Some}}}
 use Rattle.std.specs.{Prelude.{slice_get, map, ◌&&◌, ◌||◌, ◌==◌}, List.{cons_option}}
-use Rattle.lz_slot.specs.{Limits.{largest_key}, Nodes.{Nodes}, Rooms.{largest_of}, declared.format.Format.{Format, TheVariants.{One, Two, Three, Four}}}
+use Rattle.lz_slot.specs.{Limits.{largest_key}, Nodes.{Nodes}, Rooms.{largest_of}, declared.format.Format.{Format, TheVariants.{One, Three}}}
 use Rattle.lz_slot.{specs.{declared.slot.SlotRead.{SlotRead}, Sets.{Same, members}, Bytes.{held, held_key, slot_at}}, proofs.Files.ExactBytes.{key_of_format}}
 use Rattle.lz_slot.proofs.Files.HeldSets.{holds_same_set}
 use Rattle.lz_disk.specs.Devices.{Device}
 use Rattle.lz_vault.specs.{Stages.{Cell}, Members.{AreDistinct, AreListed, keys_in, member_at, member_in, no_cell, node_at}, Makes.{MayBeMembers}}
-use Rattle.lz_vault.specs.{Opens.{IsCellOf, is_open, keys_of}, Scans.{AreFresh, Finds}, Renewals.{AreHeldBy}, declared.vault.Stage.{Stage}}
-use Rattle.lz_vault.{specs.declared.vault.Stage.TheVariants.{Closed, Torn, KeyLoose, Keyed, Opening, Open, Closing}, proofs.OpeningFinds.{counted, found}}
-use Rattle.lz_vault.proofs.SlotOrder.{keys_more}
+use Rattle.lz_vault.specs.{Opens.{IsCellOf, is_open, keys_of}, Scans.{AreFresh, Finds}, Renewals.{AreHeldBy}, declared.vault.Stage.{Stage, TheVariants.{Open}}}
+use Rattle.lz_vault.proofs.{OpeningFinds.{counted, found}, SlotOrder.{keys_more}}
 
 -- a key's slot
 abbrev InSlot : List Cell → ℕ → Type 0
@@ -48,13 +47,8 @@ apart (cell ∷ cells) distinct = grind (arith, apart_later, apart cells (λ i j
 -- they are the set that the cells hold
 same_later : (stage : Stage) (key : ℕ) (cells : List Cell) (k : ℕ) → keys_of cells k ≡ members (keys_in cells) k
     → ((is_open stage && key == k) || keys_of cells k) ≡ members (cons_option (member_in (record { stage = stage; key = key })) (keys_in cells)) k
-same_later Closed key cells k same = same
-same_later Torn key cells k same = same
-same_later KeyLoose key cells k same = same
-same_later Keyed key cells k same = same
-same_later Opening key cells k same = same
 same_later Open key cells k same = ap (λ (b : Bool). (key == k) || b) same
-same_later Closing key cells k same = same
+same_later _ key cells k same = same
 
 same_keys : (cells : List Cell) → Same (keys_of cells) (members (keys_in cells))
 same_keys [] k = refl
@@ -71,13 +65,8 @@ read_key (read.Member k) stage key n is = ap (λ (s : Stage). cons_option (membe
 read_key read.BadKey stage key n is = absurd is
 
 key_of_member : (stage : Stage) (key k : ℕ) → member_of stage key ≡ Some k → key ≡ k
-key_of_member Closed key k is = absurd cc
-key_of_member Torn key k is = absurd cc
-key_of_member KeyLoose key k is = absurd cc
-key_of_member Keyed key k is = absurd cc
-key_of_member Opening key k is = absurd cc
 key_of_member Open key k is = same_Some key k is
-key_of_member Closing key k is = absurd cc
+key_of_member _ key k is = absurd cc
 
 module _ (t : List ℕ) (cells : List Cell) (each : (i : ℕ) (cell : Cell) → slice_get cells i ≡ Some cell → IsCellOf (slot_at t i) cell) where
   first_held : (n : ℕ) → n ≤ length cells → keys_in (take n cells) ≡ map (λ (node : ℕ × ℕ). node.0) (held t n)
@@ -99,9 +88,7 @@ listed_fits format cells ms fresh listed i lt = grind (arith, get_or, key_of_mem
 -- a key of any format is one of the widest
 fits_three : (format : Format) (k : ℕ) → k ≤ largest_of format → k ≤ largest_of Three
 fits_three One k fits = omega (arith, fits)
-fits_three Two k fits = fits
-fits_three Three k fits = fits
-fits_three Four k fits = fits
+fits_three _ k fits = fits
 
 module _ (before after : Device) (format : Format) (cells : List Cell) (finds : Finds before after format cells) where
   -- what is read holds these keys

@@ -1,6 +1,6 @@
 -- The members of a scan's cells, in the order of the slots, with one slot more.
 use Rattle.std.proofs.Common.{◌≡◌, ℕ, ◌+◌, List, [], ◌∷◌, ◌++◌, length, sym, ◌∙◌, ap, subst, length-append, Option, Some, None}
-use Rattle.std.{proofs.lemmas.List.{append-nil, map-append, Elements.{filter_map-append}}, specs.{Prelude.{map}, List.{cons_option}}}
+use Rattle.std.{proofs.lemmas.List.{append-nil, map-append, Elements.{filter_map-append}}, specs.List.{cons_option}}
 use Rattle.lz_slot.specs.Nodes.{Nodes}
 use Rattle.lz_vault.specs.{Members.{AreListed, keys_in, member_in}, Scans.{AreInSlots}, Stages.{Cell}}
 use Rattle.lz_vault.proofs.Members.{grown_listed, last_at, none_more, one_more}
@@ -17,9 +17,6 @@ module _ (cells : List Cell) (cell : Cell) (ms : Nodes) (are : AreInSlots cells 
 
   listed : AreListed grown (length cells) ms
   listed = grown_listed cells cell ms are.0
-
-  abbrev keys : Nodes → List ℕ
-  keys nodes = map (λ (node : ℕ × ℕ). node.0) nodes
 
   pub next_none : member_in cell ≡ None → AreInSlots grown ms
   next_none none = (

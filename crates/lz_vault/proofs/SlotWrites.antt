@@ -90,13 +90,9 @@ slot_part s c d whole count agree mixes long none = (
 )
 
 opened_says_part : (stage : Stage) (key : ℕ) (bytes : List ℕ) → IsOpened stage → SaysWhole stage key bytes → IsPartOf bytes (whole_slot key)
-opened_says_part Closed key bytes opened says = absurd opened
-opened_says_part Torn key bytes opened says = absurd opened
-opened_says_part KeyLoose key bytes opened says = absurd opened
-opened_says_part Keyed key bytes opened says = absurd opened
 opened_says_part Opening key bytes opened says = says
 opened_says_part Open key bytes opened says = (ap length says, λ i lt. inr (ap (λ (l : List ℕ). get_or l i 0) says))
-opened_says_part Closing key bytes opened says = absurd opened
+opened_says_part _ key bytes opened says = absurd opened
 
 -- what is put into a slot of format 4
 whole_key : (cells : List Cell) (disk : Medium) (s k : ℕ) (stage : Stage) (key : ℕ) → Keeps Four cells false disk → slice_get cells s ≡ Some (record { stage = stage; key = key }) → IsFree stage
@@ -112,9 +108,7 @@ whole_key cells disk s k KeyLoose key keeps there free =
     by_no_call Four cells disk s keeps (slice_get_within cells s _ there) (record { stage = KeyLoose; key = k }) (λ t image. keeps.vouches.each t s _ image there) (keeps.reads refl s _ there)
 whole_key cells disk s k Keyed key keeps there free =
     by_no_call Four cells disk s keeps (slice_get_within cells s _ there) (record { stage = Keyed; key = k }) (λ t image. keeps.vouches.each t s _ image there) tt
-whole_key cells disk s k Opening key keeps there free = absurd free
-whole_key cells disk s k Open key keeps there free = absurd free
-whole_key cells disk s k Closing key keeps there free = absurd free
+whole_key cells disk s k _ key keeps there free = absurd free
 
 key_kept : (F : Format) (cells : List Cell) (disk : Medium) (s k : ℕ) (cell : Cell) → Keeps F cells false disk → slice_get cells s ≡ Some cell → IsFree cell.stage → k ≤ largest_of F
     → Kept F cells disk s (record { stage = stage_put F cell.stage; key = k }) (key_call F cell.stage s k)

@@ -4,7 +4,7 @@ use Rattle.std.proofs.{Common.{arith, Some, get_or-set_same, get_or-set_other, l
 use Rattle.std.proofs.lemmas.List.{get_or_append_left, get_or_push, length-map, Sums.{count_by-le-length, sum_by-cons, sum_by-set}}
 use Rattle.std.proofs.lemmas.Option.{slice_get_within, slice_get-get_or, get_or_from_slice_get, same_Some}
 use Rattle.std.specs.{Prelude.{cond, if◌then◌else◌, not, ◌&&◌, slice_get, slice_set, map}, List.{count_by}}
-use Rattle.lz_slot.specs.declared.format.Format.{Format, TheVariants.{One, Two, Three, Four}}
+use Rattle.lz_slot.specs.declared.format.Format.{Format, TheVariants.{One, Four}}
 use Rattle.lz_vault.specs.{Members.{no_cell}, Opens.{is_open, open_count}}
 use Rattle.lz_vault.specs.Stages.{AreSteady, Cell, IsFree, IsSteady, cell_synced, is_covered, stage_put, stage_synced}
 use Rattle.lz_vault.specs.{Tables.{AreMoved, AreUnsynced, IsTable, is_listed_then, is_opening, is_uncovered}, declared.vault.Stage.{Stage}}
@@ -15,39 +15,23 @@ use Rattle.lz_vault.proofs.Scanning.{push_cases}
 steady_covered : (stage : Stage) → IsSteady stage → is_covered stage ≡ true
 steady_covered Closed steady = refl
 steady_covered Torn steady = refl
-steady_covered KeyLoose steady = absurd steady
-steady_covered Keyed steady = absurd steady
-steady_covered Opening steady = absurd steady
 steady_covered Open steady = refl
-steady_covered Closing steady = absurd steady
+steady_covered _ steady = absurd steady
 
 synced_covered : (stage : Stage) → is_covered (stage_synced stage) ≡ true
 synced_covered Closed = refl
-synced_covered Torn = refl
-synced_covered KeyLoose = refl
-synced_covered Keyed = refl
-synced_covered Opening = refl
-synced_covered Open = refl
-synced_covered Closing = refl
+synced_covered _ = refl
 
 covered_stays : (stage : Stage) → is_covered stage ≡ true → stage_synced stage ≡ stage
-covered_stays Closed covered = refl
-covered_stays Torn covered = refl
 covered_stays KeyLoose covered = absurd (cc)
-covered_stays Keyed covered = refl
 covered_stays Opening covered = absurd (cc)
-covered_stays Open covered = refl
 covered_stays Closing covered = absurd (cc)
+covered_stays _ covered = refl
 
 -- the slots that a sync opens are those that were being opened
 pub opened_synced : (stage : Stage) → ◌≡◌ {A = ℕ} (cond (is_open (stage_synced stage)) 1 0) (cond (is_open stage) 1 0 + cond (is_opening stage) 1 0)
 opened_synced Closed = refl
-opened_synced Torn = refl
-opened_synced KeyLoose = refl
-opened_synced Keyed = refl
-opened_synced Opening = refl
-opened_synced Open = refl
-opened_synced Closing = refl
+opened_synced _ = refl
 
 synced_again : (cell : Cell) → cell_synced (cell_synced cell) ≡ cell_synced cell
 synced_again cell = ap (λ (s : Stage). record { stage = s; key = cell.key }) (covered_stays (stage_synced cell.stage) (synced_covered cell.stage))
@@ -178,36 +162,21 @@ open_counts cells s cell there opened =
 -- the stages at which a key may be put, and those to which it comes, aren't open, and none of them is covered that wasn't
 pub put_stays : (format : Format) (stage : Stage) → IsFree stage → is_covered stage ≡ false → is_covered (stage_put format stage) ≡ false
 put_stays One KeyLoose free loose = refl
-put_stays Two KeyLoose free loose = refl
-put_stays Three KeyLoose free loose = refl
-put_stays Four KeyLoose free loose = refl
+put_stays _ KeyLoose free loose = refl
 put_stays format Closed free loose = absurd (true≢false loose)
 put_stays format Torn free loose = absurd (true≢false loose)
 put_stays format Keyed free loose = absurd (true≢false loose)
-put_stays format Opening free loose = absurd free
-put_stays format Open free loose = absurd free
-put_stays format Closing free loose = absurd free
+put_stays format _ free loose = absurd free
 
 pub put_shut : (format : Format) (stage : Stage) → is_open (stage_put format stage) ≡ false
 put_shut Four Closed = refl
-put_shut Four Torn = refl
-put_shut Four KeyLoose = refl
-put_shut Four Keyed = refl
-put_shut Four Opening = refl
-put_shut Four Open = refl
-put_shut Four Closing = refl
-put_shut One stage = refl
-put_shut Two stage = refl
-put_shut Three stage = refl
+put_shut _ _ = refl
 
 pub free_shut : (stage : Stage) → IsFree stage → is_open stage ≡ false
-free_shut Closed free = refl
-free_shut Torn free = refl
-free_shut KeyLoose free = refl
-free_shut Keyed free = refl
 free_shut Opening free = absurd free
 free_shut Open free = absurd free
 free_shut Closing free = absurd free
+free_shut _ free = refl
 
 -- lists with the same elements
 same_cells : (xs ys : List Cell) → length xs ≡ length ys → ((s : ℕ) (c : Cell) → slice_get ys s ≡ Some c → slice_get xs s ≡ Some c) → xs ≡ ys

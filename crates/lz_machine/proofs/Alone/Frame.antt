@@ -8,8 +8,8 @@ use Rattle.lz_vault.specs.{declared.vault.Stage.{Stage, TheVariants.{Opening, Cl
 use Rattle.lz_list.specs.{Words.{change_flags}, Locks.{is_pair_free}}
 use Rattle.lz_flush.specs.Settling.{settle}
 use Rattle.lz_machine.specs.declared.{course.Course.{Course, TheVariants.{Refused, Dies, Plays}}, actor.{Actor.{Actor}, Hold.TheVariants.{Nothing, Locks}}}
-use Rattle.lz_machine.specs.declared.event.Event.{Event, TheVariants.{Invoke, Pin, Reserve, WriteKey, Claim, Check, WriteOpen, Link, WriteClose, Mark, Release}}
-use Rattle.lz_machine.specs.declared.event.{Event.TheVariants.{Sync, Settle, Unlink, Retire, SeePin, Answer}, Outcome.TheVariants.{NotNow, Dead}}
+use Rattle.lz_machine.specs.declared.event.Event.{Event, TheVariants.{Pin, Reserve, WriteKey, Claim, WriteOpen, Link, WriteClose, Sync, Settle, Unlink, Retire}}
+use Rattle.lz_machine.specs.declared.event.{Event.TheVariants.{SeePin, Answer, Hop, Halt}, Outcome.TheVariants.{NotNow, Dead}}
 use Rattle.lz_machine.specs.{Yards.{Yard, idle_actor, actor_at, cell_at, cell_in, stage_in}, Table.{course, course_alive, line, line_on, pin_of}}
 use Rattle.lz_machine.specs.Table.{is_played_dead, actors_after, words_after, cells_after, uses_after, reserved, is_sure, set_actor}
 use Rattle.lz_machine.proofs.{Alone.Sights.{HasLeft, left_set, left_collect, left_seen}, Steps.{Unlink.{redirect_pins}, Sync.{not_opening}}}
@@ -25,23 +25,19 @@ course_is y a e now = course_by (λ k. course y a e ≡ k → IsCourse y a e) y 
 
 -- the hands and pins of others
 actors_other : (y : Yard) (actor : Actor) (a b : ℕ) (e : Event) → b ≢ a → of_pass (actors_after y actor a e) b idle_actor ≡ of_pass y.actors b idle_actor
-actors_other y actor a b (Invoke c) other = of_pass_other y.actors a b _ idle_actor other
-actors_other y actor a b Reserve other = of_pass_other y.actors a b _ idle_actor other
 actors_other y actor a b (Claim pred curr) other = go (is_pair_free y.locks pred curr)
   where
     go : (free : Bool) → of_pass (if free then set_actor y a (record actor { hold = Locks; pred = pred; curr = curr }) else y.actors) b idle_actor ≡ of_pass y.actors b idle_actor
     go true = of_pass_other y.actors a b _ idle_actor other
     go false = refl
-actors_other y actor a b Check other = of_pass_other y.actors a b _ idle_actor other
-actors_other y actor a b WriteOpen other = of_pass_other y.actors a b _ idle_actor other
-actors_other y actor a b Link other = of_pass_other y.actors a b _ idle_actor other
-actors_other y actor a b WriteClose other = of_pass_other y.actors a b _ idle_actor other
-actors_other y actor a b Mark other = of_pass_other y.actors a b _ idle_actor other
-actors_other y actor a b Release other = of_pass_other y.actors a b _ idle_actor other
-actors_other y actor a b Unlink other = of_pass_other y.actors a b _ idle_actor other
-actors_other y actor a b Retire other = of_pass_other y.actors a b _ idle_actor other
-actors_other y actor a b Answer other = of_pass_other y.actors a b _ idle_actor other
-actors_other y actor a b _ other = refl
+actors_other y actor a b Pin other = refl
+actors_other y actor a b (Hop word) other = refl
+actors_other y actor a b (WriteKey k) other = refl
+actors_other y actor a b (Sync s) other = refl
+actors_other y actor a b (Settle s) other = refl
+actors_other y actor a b (SeePin p pin) other = refl
+actors_other y actor a b Halt other = refl
+actors_other y actor a b _ other = of_pass_other y.actors a b _ idle_actor other
 
 pub pins_other : (y : Yard) (actor : Actor) (a b : ℕ) (e : Event) → b ≢ a → of_pass (words_after y actor a e).pins b 0 ≡ of_pass y.words.pins b 0
 pins_other y actor a b Pin other = of_pass_other y.words.pins a b _ 0 other

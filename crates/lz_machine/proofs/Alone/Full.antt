@@ -7,11 +7,10 @@ use Rattle.lz_slot.specs.{declared.command.Command.{Command, TheVariants.{Add, R
 use Rattle.lz_disk.specs.Images.{Medium}
 use Rattle.lz_vault.specs.declared.vault.Stage.TheVariants.{Opening, Open}
 use Rattle.lz_allot.specs.{declared.sight.Sight.{Sight}, Uses.{Use, Free, Limbo, use_of, collect, collect_at, lowest_free, is_free as is_free_use, has_left}}
-use Rattle.lz_list.specs.{declared.{walk.Met.TheVariants.{Absent, Unmarked, Marked}, place.Place.{Place}}, Words.{Words}, Walks.{Hopped, More, End}}
+use Rattle.lz_list.specs.{declared.{walk.Met.TheVariants.{Unmarked, Marked}, place.Place.{Place}}, Words.{Words}, Walks.{Hopped, More, End}}
 use Rattle.lz_list.{specs.Traces.{Trace, on, chain_of, key_word, is_marked, member}, proofs.Traces.NodeBits.{node}}
 use Rattle.lz_flush.specs.{declared.need.Need.{Need, TheVariants.{Now}}, Settling.{may_answer}}
-use Rattle.lz_machine.specs.declared.{actor.Hold.TheVariants.{Nothing}, event.Outcome.{Outcome}}
-use Rattle.lz_machine.specs.declared.event.Outcome.TheVariants.{Done, Value, Slot, NoSlot, Taken as was_taken, Busy, True, False, NotNow}
+use Rattle.lz_machine.specs.declared.{actor.Hold.TheVariants.{Nothing}, event.Outcome.{Outcome, TheVariants.{Value, True, Early, Worn, OldFile, Fault, Dead}}}
 use Rattle.lz_machine.specs.declared.{event.Reply.TheVariants.{Yes, No, Full}, caller.{Sequence.{Sequence, TheVariants.{Adding}}, Progress.{Progress}}}
 use Rattle.lz_machine.specs.declared.caller.Progress.TheVariants.{Playing, LoadsHalt, Walking, Reserving, SeeingPins, Claiming, Checking, Answering}
 use Rattle.lz_machine.specs.{Yards.{Shape, Yard, actor_in, cell_in, stage_in}, Calls.{progress_after, goes_on, hops_on, rests, after_event, changes}}
@@ -129,16 +128,12 @@ calm_goes : (y : Yard) (P : Trace) (c : Command) (sequence : Sequence) (i : ℕ)
 calm_goes y P c sequence i h = grind arith
 
 pub stands_playing : (y : Yard) (P : Trace) (shape : Shape) (c : Command) (sequence : Sequence) (i : ℕ) → WalkStands y P (goes_on sequence) c → (outcome : Outcome) → WalkStands y P (progress_after shape c (Playing sequence i) outcome) c
-stands_playing y P shape c sequence i h Done = calm_goes y P c sequence i h
-stands_playing y P shape c sequence i h (Value v) = calm_goes y P c sequence i h
-stands_playing y P shape c sequence i h (Slot s) = calm_goes y P c sequence i h
-stands_playing y P shape c sequence i h (NoSlot counts) = calm_goes y P c sequence i h
-stands_playing y P shape c sequence i h was_taken = calm_goes y P c sequence i h
-stands_playing y P shape c sequence i h Busy = calm_goes y P c sequence i h
-stands_playing y P shape c sequence i h True = calm_goes y P c sequence i h
-stands_playing y P shape c sequence i h False = calm_goes y P c sequence i h
-stands_playing y P shape c sequence i h NotNow = calm_goes y P c sequence i h
-stands_playing y P shape c sequence i h _ = tt
+stands_playing y P shape c sequence i h Early = tt
+stands_playing y P shape c sequence i h Worn = tt
+stands_playing y P shape c sequence i h OldFile = tt
+stands_playing y P shape c sequence i h Fault = tt
+stands_playing y P shape c sequence i h Dead = tt
+stands_playing y P shape c sequence i h _ = calm_goes y P c sequence i h
 
 pub stands_halt : (y : Yard) (P : Trace) (shape : Shape) (c : Command) (outcome : Outcome) → WalkStands y P (progress_after shape c LoadsHalt outcome) c
 stands_halt y P shape c outcome = grind arith
@@ -166,21 +161,10 @@ AsksToAdd (Add k) None A = A k
 AsksToAdd c aim A = Unit {0}
 
 pub stands_hops : (y : Yard) (P : Trace) (words : Words) (trace : TraceSound y.shape words P) (few : y.shape.slots ≤ most_slots) (c : Command) (aim : Option ℕ) (h : Hopped) → AsksToAdd c aim (λ k. Finds y.shape words P trace few k h) → WalkStands y P (hops_on c aim h) c
-stands_hops y P words trace few (Add k) None (More look) finds = finds
-stands_hops y P words trace few (Add k) None (End pred curr Absent) finds = finds
-stands_hops y P words trace few (Add k) None (End pred curr (Marked s flags)) finds = finds
-stands_hops y P words trace few (Add k) None (End pred curr (Unmarked s flags)) finds = stands_rests y P (Add k) s (may_answer flags) false
-stands_hops y P words trace few (Add k) (Some t) (More look) finds = tt
-stands_hops y P words trace few (Add k) (Some t) (End pred curr Absent) finds = tt
-stands_hops y P words trace few (Add k) (Some t) (End pred curr (Marked s flags)) finds = tt
-stands_hops y P words trace few (Add k) (Some t) (End pred curr (Unmarked s flags)) finds = stands_rests y P (Add k) s (may_answer flags) false
-stands_hops y P words trace few (Has k) None (More look) finds = tt
-stands_hops y P words trace few (Has k) (Some t) (More look) finds = tt
-stands_hops y P words trace few (Has k) aim (End pred curr Absent) finds = tt
+stands_hops y P words trace few (Add k) aim (End pred curr (Unmarked s flags)) finds = stands_rests y P (Add k) s (may_answer flags) false
 stands_hops y P words trace few (Has k) aim (End pred curr (Marked s flags)) finds = stands_rests y P (Has k) s (may_answer flags) false
 stands_hops y P words trace few (Has k) aim (End pred curr (Unmarked s flags)) finds = stands_rests y P (Has k) s (may_answer flags) true
-stands_hops y P words trace few (Remove k) None (More look) finds = tt
-stands_hops y P words trace few (Remove k) (Some t) (More look) finds = tt
-stands_hops y P words trace few (Remove k) aim (End pred curr Absent) finds = tt
 stands_hops y P words trace few (Remove k) aim (End pred curr (Marked s flags)) finds = stands_rests y P (Remove k) s (may_answer flags) false
-stands_hops y P words trace few (Remove k) aim (End pred curr (Unmarked s flags)) finds = tt
+stands_hops y P words trace few (Add k) None h finds = finds
+stands_hops y P words trace few _ None (More look) finds = tt
+stands_hops y P words trace few _ _ _ finds = tt

@@ -3,8 +3,7 @@ use Rattle.std.proofs.Common.{◌≡◌, ◌≢◌, ◌⊎◌, ⊎_elim, inl, in
 use Rattle.std.proofs.lemmas.Bool.{cases_eq, Decides.{nat_tests}}
 use mathlib.Core.Bool.{false≢true}
 use Rattle.lz_slot.specs.declared.{command.Command.{Command}, history.{Refusal.TheVariants.{Full, Worn, OldFile}, Cut.{Cut}, Mark.{Mark}}}
-use Rattle.lz_slot.specs.declared.history.Mark.TheVariants.{Call, Answer, Refused, Cut as CutOff, Stop, Crash, Opened, OpenFailed}
-use Rattle.lz_slot.specs.Sets.{Keys, Same, key_of, after, reply}
+use Rattle.lz_slot.specs.{declared.history.Mark.TheVariants.{Call, Answer, Refused, Cut as CutOff}, Sets.{Keys, Same, key_of, after, reply}}
 use Rattle.lz_slot.specs.Histories.{History, IsCalled, IsAnswered, IsRefused, IsBefore, IsListed, count_of, IsEarlier, Runs, Fits}
 use Rattle.lz_slot.proofs.Listings.{listed_left}
 use Rattle.lz_machine.{specs.Alone.{has_cut, IsPlain}, proofs.Ledger.CallMark.{number_of, is_call}}
@@ -137,11 +136,7 @@ over n (Refused i why ∷ Call q a c ∷ M) j d h clean (b, inl is) = absurd (fa
 over n (Refused i why ∷ Call q a c ∷ M) j d h clean (b, inr (inl is)) = inr (why, inl (ap (λ (x : ℕ). Refused x why) (h.0 ∙ ap number_of is)))
 over n (Refused i why ∷ Call q a c ∷ M) j d h clean (b, inr (inr at)) = ⊎_elim (λ told. inl (told.0, inr (inr told.1))) (λ told. inr (told.0, inr (inr told.1))) (over q M j d h.2 clean (b, at))
 over n (CutOff i why ∷ Call q a c ∷ M) j d h clean at = absurd (false≢true (sym clean))
-over n (Call i b d' ∷ Call q a c ∷ M) j d h clean at = absurd h.0
-over n (Stop ∷ Call q a c ∷ M) j d h clean at = absurd h.0
-over n (Crash ∷ Call q a c ∷ M) j d h clean at = absurd h.0
-over n (Opened keys ∷ Call q a c ∷ M) j d h clean at = absurd h.0
-over n (OpenFailed why ∷ Call q a c ∷ M) j d h clean at = absurd h.0
+over n (m ∷ Call q a c ∷ M) j d h clean at = absurd h.0
 over n _ j d h clean at = absurd h
 
 -- the newest call isn't listed, or is listed last
@@ -241,11 +236,7 @@ served n (Refused i OldFile ∷ Call j a c ∷ M) S L T h clean fits = ⊎_elim
     (λ on. absurd (fits.not_refused j (OldFile, inl (ap (λ (x : ℕ). Refused x OldFile) h.0)) on.there))
     (split (Refused i OldFile ∷ Call j a c ∷ M) j c M (latest_ended (Refused i OldFile) j a c M h.0) h.2 clean S L T fits)
 served n (CutOff i why ∷ Call q a c ∷ M) S L T h clean fits = absurd (false≢true (sym clean))
-served n (Call i b d' ∷ Call q a c ∷ M) S L T h clean fits = absurd h.0
-served n (Stop ∷ Call q a c ∷ M) S L T h clean fits = absurd h.0
-served n (Crash ∷ Call q a c ∷ M) S L T h clean fits = absurd h.0
-served n (Opened keys ∷ Call q a c ∷ M) S L T h clean fits = absurd h.0
-served n (OpenFailed why ∷ Call q a c ∷ M) S L T h clean fits = absurd h.0
+served n (m ∷ Call q a c ∷ M) S L T h clean fits = absurd h.0
 served n _ S L T h clean fits = absurd h
 
 -- with the call that is open, or with it cut off

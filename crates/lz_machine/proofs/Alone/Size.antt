@@ -5,9 +5,8 @@ use Rattle.std.{proofs.lemmas.Bool.{cases_eq, cases_Bool, and_parts, not-true, D
 use Rattle.std.specs.{List.{list_any, IsDistinct}, Cmp.{nat_eq_equiv, both_ways}}
 use mathlib.Core.Bool.{false≢true}
 use Rattle.lz_slot.specs.declared.{command.Command.{Command, TheVariants.{Add, Remove, Has}}, history.Refusal.TheVariants.{Full, Worn, OldFile}}
-use Rattle.lz_slot.specs.declared.{history.Mark.TheVariants.{Call, Answer, Refused, Cut, Stop, Crash, Opened, OpenFailed}, slot.SlotRead.{SlotRead}}
-use Rattle.lz_slot.specs.{declared.slot.SlotRead.TheVariants.{Closed as Shut, Member}, Sets.{Keys, Same, members, HasMembers}, Bytes.{Holds, slot_at}}
-use Rattle.lz_slot.{specs.Histories.{History}, proofs.Sets.{members_among, after_same}}
+use Rattle.lz_slot.specs.declared.{history.Mark.TheVariants.{Call, Answer, Refused, Cut}, slot.SlotRead.{SlotRead, TheVariants.{Closed as Shut, Member}}}
+use Rattle.lz_slot.{specs.{Sets.{Keys, Same, members, HasMembers}, Bytes.{Holds, slot_at}, Histories.{History}}, proofs.Sets.{members_among, after_same}}
 use Rattle.lz_machine.{specs.Alone.{has_cut, IsPlain, HasRoomFor, IsFull}, proofs.Crash.ImageSlots.{found, found_in, in_found, reads_key}}
 use Rattle.lz_machine.proofs.Alone.Service.{Ended}
 
@@ -119,11 +118,7 @@ plain_once n (Refused i Full ∷ Call j a c ∷ M) S T U h clean one other = pla
 plain_once n (Refused i Worn ∷ Call j a c ∷ M) S T U h clean one other = plain_once j M S T U h.2 clean one.1 other.1
 plain_once n (Refused i OldFile ∷ Call j a c ∷ M) S T U h clean one other = plain_once j M S T U h.2 clean one.1 other.1
 plain_once n (Cut i why ∷ M) S T U h clean one other = absurd (false≢true (sym clean))
-plain_once n (Stop ∷ M) S T U h clean one other = absurd one
-plain_once n (Crash ∷ M) S T U h clean one other = absurd one
-plain_once n (Opened keys ∷ M) S T U h clean one other = absurd one
-plain_once n (OpenFailed why ∷ M) S T U h clean one other = absurd one
-plain_once n (Call i b d ∷ Call j a c ∷ M) S T U h clean one other = absurd h.0
+plain_once n (m ∷ Call j a c ∷ M) S T U h clean one other = absurd h.0
 plain_once n (_ ∷ _) S T U h clean one other = absurd h
 
 -- after an adding that was answered yes the text holds its key too

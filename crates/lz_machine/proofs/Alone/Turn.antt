@@ -3,7 +3,7 @@ use Rattle.std.proofs.Common.{◌≡◌, ◌≢◌, ⊎_elim, inl, inr, ℕ, zer
 use Rattle.std.proofs.{Common.{Some, None, refl, sym, ap, ◌∙◌, subst, arith}, lemmas.Bool.{cases_eq, cases_Bool, Decides.{nat_tests}}}
 use Rattle.std.specs.Prelude.{if◌then◌else◌}
 use mathlib.Core.Bool.{false≢true}
-use Rattle.lz_slot.specs.{declared.command.Command.{Command, TheVariants.{Add, Remove, Has}}, Sets.{key_of}, Histories.{History}}
+use Rattle.lz_slot.specs.{declared.command.Command.{Command, TheVariants.{Add, Remove}}, Sets.{key_of}, Histories.{History}}
 use Rattle.lz_disk.specs.Images.{Medium}
 use Rattle.lz_vault.specs.{declared.vault.Stage.TheVariants.{Opening}, Stages.{Cell, cell_synced, is_covered}}
 use Rattle.lz_allot.specs.{declared.sight.Sight.{Sight}, Uses.{Free, collect, see_pin, lowest_free, give_back}}
@@ -182,9 +182,8 @@ module _ (n calls : ℕ) (y : Yard) (callers : List (Option Caller)) (disk : Med
       stands (Add k) false None lives is adder old = (old, λ b low below. absurd (omega (arith, low, below)))
       stands (Add k) true None lives is adder old =
           all_other n calls y callers disk M P notes sound holds slots old.1 is k old.0 (λ s opens. absurd (h.opening lives s opens))
-      stands (Remove k) again found lives is adder old = absurd adder
-      stands (Has k) again found lives is adder old = absurd adder
       stands (Add k) _ (Some s) lives is adder old = tt
+      stands _ again found lives is adder old = absurd adder
 
       go : y.vault.dead ≡ false → (found : Option ℕ) → lowest_free (collect y.uses) ≡ found → After (Reserving again) Reserve Plays
       go lives found is = subst (λ (q : Option ℕ). AloneFull a (line_on Plays y actor a Reserve).0 (Some (call_at i c (progress_after y.shape c (Reserving again) (slot_found q (collect y.uses))))) P) (sym is) (record {
@@ -217,10 +216,8 @@ module _ (n calls : ℕ) (y : Yard) (callers : List (Option Caller)) (disk : Med
       stands : (d : Command) (b : Bool) → nat_lt p y.shape.passes ≡ b → WalkStands y P (SeeingPins p) d → WalkStands (line_on Plays y actor a (SeePin p (pin_in y.words.pins p))).0 P (if b then SeeingPins (p + 1) else Reserving true) d
       stands (Add k) true is old = (old.0, below (p + 1) old.1 (omega arith))
       stands (Add k) false is old = (old.0, below (suc y.shape.passes) old.1 (grind (arith, nat_tests, is)))
-      stands (Remove k) true is old = tt
-      stands (Remove k) false is old = tt
-      stands (Has k) true is old = tt
-      stands (Has k) false is old = tt
+      stands _ true is old = tt
+      stands _ false is old = tt
 
       go : (b : Bool) → nat_lt p y.shape.passes ≡ b → After (SeeingPins p) (SeePin p (pin_in y.words.pins p)) Plays
       go b is = subst (λ (q : Bool). AloneFull a (line_on Plays y actor a (SeePin p (pin_in y.words.pins p))).0 (Some (call_at i c (if q then SeeingPins (p + 1) else Reserving true))) P) (sym is) (record {

@@ -7,7 +7,7 @@ use mathlib.Core.Bool.{false≢true}
 use Rattle.lz_slot.specs.{Sets.{Keys}, Bytes.{slot_at}, declared.{format.Format.{Format, TheVariants.{Four}}, slot.SlotRead.{SlotRead, TheVariants.{Member}}}}
 use Rattle.lz_slot.specs.Histories.{History}
 use Rattle.lz_disk.specs.Images.{Medium, IsImage}
-use Rattle.lz_vault.specs.declared.vault.Stage.{Stage, TheVariants.{Closed, Torn, KeyLoose, Keyed, Opening, Open, Closing}}
+use Rattle.lz_vault.specs.declared.vault.Stage.{Stage, TheVariants.{Closed, Torn, KeyLoose, Keyed, Open, Closing}}
 use Rattle.lz_vault.{specs.{Stages.{MayRead, IsFree, IsReadShut, IsReadShutIn}, Members.{no_cell}}, proofs.Reading.{image_reads}}
 use Rattle.lz_list.specs.{Words.{place_number, link_to}, Locks.{owner}}
 use Rattle.lz_list.{specs.Traces.{Trace, WordsShow, has_key, on, chain_of, bucket_of, key_word, next_link, member}, proofs.Chains.PlaceRank.{has_on}}
@@ -67,13 +67,12 @@ shut_or_member F k r (inl shut) = inl (shut_in F r shut)
 shut_or_member F k r (inr is) = inr is
 
 pub one_or_other : (F : Format) (stage : Stage) (k : ℕ) (r : SlotRead) → MayRead F stage k r → IsReadShut r ⊎ (r ≡ Member k)
-one_or_other F Opening k r may = shut_or_member F k r may
 one_or_other F Open k r may = inr may
-one_or_other F Closing k r may = shut_or_member F k r may
 one_or_other F Closed k r may = inl (inl may)
 one_or_other F Keyed k r may = inl (inl may)
 one_or_other F Torn k r may = inl (shut_in F r may)
 one_or_other F KeyLoose k r may = inl (shut_in F r may)
+one_or_other F _ k r may = shut_or_member F k r may
 
 -- a slot that is read as a key's
 pub member_read : (F : Format) (stage : Stage) (k j : ℕ) (r : SlotRead) → MayRead F stage k r → r ≡ Member j → (k ≡ j) × (IsGateOpened stage ⊎ (stage ≡ Closing))

@@ -4,7 +4,7 @@ use mathlib.Core.Bool.{false≢true}
 use Rattle.lz_slot.specs.{Sets.{Keys}, Bytes.{Holds, format_of}, declared.{format.Format.{Format, TheVariants.{Four}}, command.Command.{Command}}}
 use Rattle.lz_slot.specs.Histories.{History, Life, ChainTo, lives, last_history}
 use Rattle.lz_disk.specs.Images.{Medium, AreBytes, IsImage}
-use Rattle.lz_vault.specs.{Stages.{Suits}, Vaults.{DeviceCall, NoCall, WriteAt, SyncAll, medium_after}}
+use Rattle.lz_vault.specs.{Stages.{Suits}, Vaults.{DeviceCall, NoCall, medium_after}}
 use Rattle.lz_list.specs.{declared.publishing.Publishing.TheVariants.{KeyPrepared as key_prepared, LinkPrepared as link_prepared}, Traces.{Trace}}
 use Rattle.lz_machine.specs.declared.event.{Event.{Event, TheVariants.{WriteKey, WriteOpen, WriteClose, Sync, Answer}}, Outcome.TheVariants.{Done, NotNow}}
 use Rattle.lz_machine.specs.declared.{event.Reply.{Reply}, course.Course.{Course, TheVariants.{Refused, Dies, Plays}}, actor.Actor.{Actor}}
@@ -46,8 +46,7 @@ has_list_before slots life P Q t before h = record { found = h.found; calls = h.
 -- no call makes a medium bytewise, or takes that from it
 same_kind : (call : DeviceCall) (disk : Medium) → (medium_after call disk).bytewise ≡ disk.bytewise
 same_kind NoCall disk = refl
-same_kind (WriteAt at bytes) disk = refl
-same_kind SyncAll disk = refl
+same_kind _ disk = refl
 
 -- an event other than Answer, and how far its call has come
 abbrev is_answer : Event → Bool

@@ -7,10 +7,8 @@ use Rattle.lz_list.specs.declared.publishing.Publishing.TheVariants.{Linked as l
 use Rattle.lz_list.specs.declared.publishing.Publishing.TheVariants.{LinkPrepared as link_prepared, Settled as settled, Halted as halted}
 use Rattle.lz_list.specs.{Words.{place_number, link_to}, Traces.{Trace, Lawful, place_of, bucket_of, key_word, is_marked, rank_at}, Laws.{IsLow, IsHigh}}
 use Rattle.lz_list.specs.Locks.{NodeLocks}
-use Rattle.lz_machine.specs.declared.actor.{Actor.{Actor}, Hold.{Hold}}
-use Rattle.lz_machine.specs.declared.actor.Hold.TheVariants.{Nothing, Locks, Checked, GateOpened, Linked, GateClosed, Marked, Unlinked, Released}
-use Rattle.lz_machine.specs.{Yards.{Shape, actor_in}, Stands.{IsLinkable, Faces, InBucket, IsLeaving}}
-use Rattle.lz_machine.specs.LocksSound.{IsBeside, IsRightBefore, HasClosed, RestsOn, LocksSound}
+use Rattle.lz_machine.specs.{declared.actor.{Actor.{Actor}, Hold.{Hold, TheVariants.{Checked, GateOpened, GateClosed, Marked}}}, Yards.{Shape, actor_in}}
+use Rattle.lz_machine.specs.{Stands.{IsLinkable, Faces, InBucket, IsLeaving}, LocksSound.{IsBeside, IsRightBefore, HasClosed, RestsOn, LocksSound}}
 
 -- What a publishing leaves of an actor's pair and slot.
 pub record LeavesPair (buckets : ℕ) (e : Publishing) (actor : Actor) (P : Trace) : Type 0 where
@@ -69,11 +67,7 @@ module _ (buckets : ℕ) (e : Publishing) (actor : Actor) (P : Trace) (leaves : 
   }
   pair_stays GateClosed h = closed_stays false h
   pair_stays Marked h = closed_stays true h
-  pair_stays Nothing h = tt
-  pair_stays Locks h = tt
-  pair_stays Linked h = tt
-  pair_stays Unlinked h = tt
-  pair_stays Released h = tt
+  pair_stays _ h = tt
 
 pub pair_published : (buckets : ℕ) (e : Publishing) (actor : Actor) (P : Trace) → (rests_on_pair actor.hold ≡ true → LeavesPair buckets e actor P) → RestsOn buckets actor.hold actor P → RestsOn buckets actor.hold actor (e ∷ P)
 pair_published buckets e actor P leaves h = go actor.hold refl

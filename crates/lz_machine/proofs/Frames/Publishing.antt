@@ -126,15 +126,9 @@ module _ (buckets slots : ℕ) (e : Publishing) (P : Trace) (law : Lawful bucket
   answer_stays (Add k) No P0 changed h = (h.0, rests_yes_stays k P0 h.1)
   answer_stays (Remove k) Yes P0 changed h = change_stays k changed h
   answer_stays (Remove k) No P0 changed h = (h.0, rests_no_stays k P0 h.1)
-  answer_stays (Has k) Halted P0 changed h = halt_stays e P h
-  answer_stays (Has k) Device P0 changed h = halt_stays e P h
-  answer_stays (Add k) Halted P0 changed h = halt_stays e P h
-  answer_stays (Add k) Device P0 changed h = halt_stays e P h
-  answer_stays (Remove k) Halted P0 changed h = halt_stays e P h
-  answer_stays (Remove k) Device P0 changed h = halt_stays e P h
-  answer_stays (Has k) (Full counts) P0 changed h = (h.0, absent_stays k P0 h.1, h.2)
-  answer_stays (Add k) (Full counts) P0 changed h = (h.0, absent_stays k P0 h.1, h.2)
-  answer_stays (Remove k) (Full counts) P0 changed h = (h.0, absent_stays k P0 h.1, h.2)
+  answer_stays _ Halted P0 changed h = halt_stays e P h
+  answer_stays _ Device P0 changed h = halt_stays e P h
+  answer_stays c (Full counts) P0 changed h = (h.0, absent_stays (key_of c) P0 h.1, h.2)
   answer_stays _ _ _ changed h = h
 
   idle_stays : (actor : Actor) → IsEmptyHanded actor P → IsEmptyHanded actor (e ∷ P)

@@ -5,10 +5,10 @@ use mathlib.Core.Bool.{false≢true}
 use Rattle.lz_slot.{specs.Limits.{most_slots}, proofs.Files.ExactBytes.{slots_of_format}}
 use Rattle.lz_disk.specs.Images.{Medium}
 use Rattle.lz_vault.specs.Vaults.{Vaulted}
-use Rattle.lz_list.specs.declared.publishing.Publishing.{Publishing, TheVariants.{Linked as linked, Marked as marked, Unlinked as unlinked, Settled as settled}}
-use Rattle.lz_list.specs.declared.publishing.Publishing.TheVariants.{KeyPrepared as key_prepared, LinkPrepared as link_prepared, Halted as halted}
-use Rattle.lz_list.specs.Traces.{IsFound, opening, Trace, Chain, Lawful, on, chain, chain_of, bucket_of, link_above, node_next, head_word, linking_in}
-use Rattle.lz_list.{specs.{Traces.{is_settled, is_removed, has_added, has_removed}, Pinned.{Stood}}, proofs.Traces.OpeningTrace.{opening_lawful}}
+use Rattle.lz_list.specs.declared.publishing.Publishing.{Publishing, TheVariants.{Linked as linked, Unlinked as unlinked, Settled as settled}}
+use Rattle.lz_list.specs.{declared.publishing.Publishing.TheVariants.{KeyPrepared as key_prepared, LinkPrepared as link_prepared}, Traces.{IsFound, opening}}
+use Rattle.lz_list.specs.Traces.{Trace, Chain, Lawful, on, chain, chain_of, bucket_of, link_above, node_next, head_word, linking_in, is_settled, is_removed}
+use Rattle.lz_list.{specs.{Traces.{has_added, has_removed}, Pinned.{Stood}}, proofs.Traces.OpeningTrace.{opening_lawful}}
 use Rattle.lz_list.proofs.{Traces.{NodeBits.{on_insert_other, on_without}, Hindsight.{stands}}, Chains.PlaceRank.{adjacent_next, on_start}}
 use Rattle.lz_machine.specs.{Yards.{Shape}, Sound.{DiskSound}}
 
@@ -24,11 +24,7 @@ on_range buckets slots (linked k t p ∷ P) b s law there = elim (cases_eq s t) 
   | inr other ↦ on_range buckets slots P b s law.1 (grind (arith, nat_tests, there, other, on_insert_other k t 0 (suc s) (chain buckets b P)))
 ]
 on_range buckets slots (unlinked k t p ∷ P) b s law there = on_range buckets slots P b s law.1 (grind (arith, nat_tests, there, on_without k 0 (suc s) (chain buckets b P)))
-on_range buckets slots (marked k t p ∷ P) b s law there = on_range buckets slots P b s law.1 there
-on_range buckets slots (settled t c ∷ P) b s law there = on_range buckets slots P b s law.1 there
-on_range buckets slots (key_prepared t v ∷ P) b s law there = on_range buckets slots P b s law.1 there
-on_range buckets slots (link_prepared t v ∷ P) b s law there = on_range buckets slots P b s law.1 there
-on_range buckets slots (halted ∷ P) b s law there = on_range buckets slots P b s law.1 there
+on_range buckets slots (e ∷ P) b s law there = on_range buckets slots P b s law.1 there
 
 -- so does one that stood on it
 pub stood_range : (buckets slots : ℕ) (P0 P : Trace) (b s : ℕ) → Lawful buckets slots P → Stood buckets b P0 P (suc s) → s < slots
@@ -66,10 +62,7 @@ added_tells buckets slots s (link_prepared t v ∷ P) law is = elim (eqb_tells t
   | inl same ↦ absurd (false≢true (rw same.0 at is))
   | inr f ↦ added_tells buckets slots s P law.1 (rw f.0 at is)
 ]
-added_tells buckets slots s (unlinked k t p ∷ P) law is = added_tells buckets slots s P law.1 is
-added_tells buckets slots s (marked k t p ∷ P) law is = added_tells buckets slots s P law.1 is
-added_tells buckets slots s (key_prepared t v ∷ P) law is = added_tells buckets slots s P law.1 is
-added_tells buckets slots s (halted ∷ P) law is = added_tells buckets slots s P law.1 is
+added_tells buckets slots s (e ∷ P) law is = added_tells buckets slots s P law.1 is
 
 pub removed_tells : (buckets slots s : ℕ) (P : Trace) → Lawful buckets slots P → has_removed s P ≡ true → is_removed (linking_in s P) P ≡ true
 removed_tells buckets slots s [] law is = absurd (false≢true is)
@@ -82,10 +75,7 @@ removed_tells buckets slots s (link_prepared t v ∷ P) law is = elim (eqb_tells
   | inl same ↦ absurd (false≢true (rw same.0 at is))
   | inr f ↦ removed_tells buckets slots s P law.1 (rw f.0 at is)
 ]
-removed_tells buckets slots s (unlinked k t p ∷ P) law is = removed_tells buckets slots s P law.1 is
-removed_tells buckets slots s (marked k t p ∷ P) law is = removed_tells buckets slots s P law.1 is
-removed_tells buckets slots s (key_prepared t v ∷ P) law is = removed_tells buckets slots s P law.1 is
-removed_tells buckets slots s (halted ∷ P) law is = removed_tells buckets slots s P law.1 is
+removed_tells buckets slots s (e ∷ P) law is = removed_tells buckets slots s P law.1 is
 
 -- a link that is prepared leads to a slot or to the end
 abbrev pub IsShort : ℕ → Publishing → Type 0

@@ -22,13 +22,11 @@ put_free F stage = elim (put_keyed F stage) [ inl loose ↦ subst IsFree (sym lo
 -- putting one is no sync
 pub key_syncs : (F : Format) (stage : Stage) (s k syncs : ℕ) → syncs_after (key_call F stage s k) syncs ≡ syncs
 key_syncs Four Torn s k syncs = refl
-key_syncs Four _ s k syncs = refl
-key_syncs _ stage s k syncs = refl
+key_syncs _ _ s k syncs = refl
 
 pub key_cells : (F : Format) (stage : Stage) (s k : ℕ) (old cells : List Cell) → cells_failed (key_call F stage s k) old cells ≡ cells
 key_cells Four Torn s k old cells = refl
-key_cells Four _ s k old cells = refl
-key_cells _ stage s k old cells = refl
+key_cells _ _ s k old cells = refl
 
 module _ (shape : Shape) (vault : Vaulted) (disk : Medium) (images : DiskSound shape vault disk) (alive : vault.dead ≡ false) (s : ℕ) (lt : s < shape.slots) where
   abbrev with_cell : Cell → Bool → Vaulted

@@ -2,7 +2,7 @@
 use Rattle.std.proofs.Common.{◌≡◌, ◌≢◌, ℕ, zero, suc, ◌<◌, ◌≤◌, true, false, ◌||◌, List, [], ◌∷◌, ◌++◌, refl, sym, ap, ◌∙◌, subst, inl, inr, arith}
 use Rattle.std.proofs.lemmas.{Bool.{cases_Bool, cases_eq, Decides.{nat_tests, eqb_tells}}, List.{append-nil}}
 use mathlib.Core.Bool.{false≢true}
-use Rattle.lz_slot.specs.{declared.slot.SlotRead.{SlotRead, TheVariants.{Closed, Torn, Member, BadKey}}, Bytes.{slot_at, held, held_key}, Nodes.{has_node}}
+use Rattle.lz_slot.specs.{declared.slot.SlotRead.{SlotRead, TheVariants.{Member}}, Bytes.{slot_at, held, held_key}, Nodes.{has_node}}
 use Rattle.lz_vault.specs.Stages.{IsReadShut}
 use Rattle.lz_list.specs.Traces.{Chain, has_key, has_slot, on, chain, chain_of, bucket_of, key_word, linking, is_marked, is_removed, opening, IsFound, IsLoose}
 use Rattle.lz_list.proofs.{Traces.{NodeBits.{on_insert_other}, WalkEnd.{on_insert}}, Changes.NodeLink.{inserted_on}}
@@ -89,9 +89,7 @@ module _ (t : List ℕ) where
     | inl same ↦ (n, omega arith, at ∙ ap Member same)
     | inr other ↦ let found = before (grind (arith, nat_tests)) in (found.0, omega (arith, found.1), found.2)
   ]
-  key_of_read n k Closed at before passes = let found = before (grind (arith, nat_tests)) in (found.0, omega (arith, found.1), found.2)
-  key_of_read n k Torn at before passes = let found = before (grind (arith, nat_tests)) in (found.0, omega (arith, found.1), found.2)
-  key_of_read n k BadKey at before passes = let found = before (grind (arith, nat_tests)) in (found.0, omega (arith, found.1), found.2)
+  key_of_read n k _ at before passes = let found = before (grind (arith, nat_tests)) in (found.0, omega (arith, found.1), found.2)
 
   pub key_held : (n k : ℕ) → has_key k (held t n) ≡ true → IsIn n k
   key_held zero k is = absurd (false≢true is)
@@ -111,9 +109,7 @@ module _ (t : List ℕ) where
 
   found_of_read : (N n : ℕ) → HasNoKeyTwice N → n < N → (r : SlotRead) → slot_at t n ≡ r → IsFound N (held t n) → IsFound N (held t n ++ held_key r n)
   found_of_read N n once lt (Member k) at rest = grind (arith, found_append, cases_Bool, key_held, slot_later)
-  found_of_read N n once lt Closed at rest = subst (IsFound N) (sym (append-nil (held t n))) rest
-  found_of_read N n once lt Torn at rest = subst (IsFound N) (sym (append-nil (held t n))) rest
-  found_of_read N n once lt BadKey at rest = subst (IsFound N) (sym (append-nil (held t n))) rest
+  found_of_read N n once lt _ at rest = subst (IsFound N) (sym (append-nil (held t n))) rest
 
   pub held_found : (N n : ℕ) → HasNoKeyTwice N → n ≤ N → IsFound N (held t n)
   held_found N zero once le = tt

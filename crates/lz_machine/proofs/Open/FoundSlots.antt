@@ -55,7 +55,6 @@ read_says F read.BadKey bytes is fine long fits = absurd (fine refl)
 
 pub read_reads : (F : Format) (r : SlotRead) (bytes : List ℕ) → Reads F (cell_read r).stage (cell_read r).key bytes
 read_reads Four read.Closed bytes = tt
-read_reads Four _ bytes = tt
 read_reads F read.Closed bytes = tt
 read_reads F _ bytes = tt
 
@@ -67,17 +66,13 @@ read_key F _ bytes is = zero_fits F
 pub no_limbo_read : (rs : List SlotRead) (s : ℕ) (seen : List Sight) → use_of (map use_read rs) s ≡ Limbo seen → ⊥
 no_limbo_read [] s seen is = absurd cc
 no_limbo_read (read.Member k ∷ rs) zero seen is = absurd cc
-no_limbo_read (read.Closed ∷ rs) zero seen is = absurd cc
-no_limbo_read (read.Torn ∷ rs) zero seen is = absurd cc
-no_limbo_read (read.BadKey ∷ rs) zero seen is = absurd cc
+no_limbo_read (r ∷ rs) zero seen is = absurd cc
 no_limbo_read (r ∷ rs) (suc s) seen is = no_limbo_read rs s seen is
 
 pub no_opening_read : (rs : List SlotRead) (s : ℕ) → stage_in (map cell_read rs) s ≡ Opening → ⊥
 no_opening_read [] s is = absurd cc
 no_opening_read (read.Member k ∷ rs) zero is = absurd cc
-no_opening_read (read.Closed ∷ rs) zero is = absurd cc
-no_opening_read (read.Torn ∷ rs) zero is = absurd cc
-no_opening_read (read.BadKey ∷ rs) zero is = absurd cc
+no_opening_read (r ∷ rs) zero is = absurd cc
 no_opening_read (r ∷ rs) (suc s) is = no_opening_read rs s is
 
 pub slot_fits : (t : List ℕ) (i : ℕ) → AreBytes t → AreBytes (slot_bytes t i)

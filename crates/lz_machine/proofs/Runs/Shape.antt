@@ -1,8 +1,8 @@
 -- No step changes the shape of the table.
-use Rattle.std.{proofs.Common.{◌≡◌, ℕ, suc, true, false, List, [], ◌∷◌, refl, ◌∙◌}, specs.Prelude.{Option, Some, None}}
+use Rattle.std.{proofs.Common.{◌≡◌, ℕ, suc, true, List, [], ◌∷◌, refl, ◌∙◌}, specs.Prelude.{Option, Some, None}}
 use Rattle.lz_machine.specs.{declared.{event.Event.{Event}, actor.Actor.{Actor}, course.Course.{Course, TheVariants.{Refused}}}, Yards.{Yard, actor_at}}
-use Rattle.lz_machine.specs.{Table.{line_on, course}, Runs.{State, Up, Down, Transition, Turn, Fails, OpenFails, Service, Caller, Point, run, state_after}}
-use Rattle.lz_machine.specs.Runs.{shape_of, caller_at, after_turn, after_fault, next_event}
+use Rattle.lz_machine.specs.{Table.{line_on, course}, Runs.{State, Up, Transition, Turn, Fails, OpenFails, Service, Caller, Point, run, state_after, shape_of}}
+use Rattle.lz_machine.specs.Runs.{caller_at, after_turn, after_fault, next_event}
 use Rattle.lz_disk.specs.Images.{Medium}
 
 pub line_keeps_shape : (c : Course) (y : Yard) (actor : Actor) (a : ℕ) (e : Event) → (line_on c y actor a e).0.shape ≡ y.shape
@@ -26,10 +26,7 @@ fault_keeps_shape s disk a (Some caller) = refl
 pub step_keeps_shape : (n : ℕ) (w : State) (step : Transition) → shape_of (state_after n w step) ≡ shape_of w
 step_keeps_shape n (Up s disk) (Turn a) = turn_keeps_shape s disk a (caller_at s.callers a)
 step_keeps_shape n (Up s disk) (Fails a new) = fault_keeps_shape s new a (caller_at s.callers a)
-step_keeps_shape n (Up s disk) (OpenFails why true) = refl
-step_keeps_shape n (Up s disk) (OpenFails why false) = refl
-step_keeps_shape n (Down shape disk) (OpenFails why true) = refl
-step_keeps_shape n (Down shape disk) (OpenFails why false) = refl
+step_keeps_shape n _ (OpenFails why true) = refl
 step_keeps_shape n _ _ = refl
 
 pub run_keeps_shape : (p : Point) (steps : List Transition) → shape_of (run p steps).state ≡ shape_of p.state

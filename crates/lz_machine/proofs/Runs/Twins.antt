@@ -8,9 +8,9 @@ use Rattle.lz_disk.specs.Images.{Medium, at_rest}
 use Rattle.lz_vault.specs.Vaults.{medium_after}
 use Rattle.lz_list.specs.Traces.{Trace}
 use Rattle.lz_machine.specs.{declared.event.Outcome.{Outcome}, Yards.{Yard}, Table.{line, line_failed, line_call}, Calls.{begun, progress_after}}
-use Rattle.lz_machine.specs.Runs.{invoked, Caller, Service, State, Up, Down, Transition, Calls, Turn, Fails, Looks, Trips, Stops, Crashes, CrashesIn, Opens}
-use Rattle.lz_machine.specs.Runs.{OpenFails, caller_at, next_event, reply_at, moved_on, after_turn, after_fault, looked, state_after, HasTurn, HasFault}
-use Rattle.lz_machine.specs.{Runs.{LeftInside, MayStep, marks_of_turn, marks_of, turn_publishes, trace_after}, Laws.{is_of, outcome_of_turn, outcome_at}}
+use Rattle.lz_machine.specs.Runs.{invoked, Caller, Service, State, Up, Down, Transition, Calls, Turn, Fails, Looks, Trips, Stops, Crashes, CrashesIn, caller_at}
+use Rattle.lz_machine.specs.Runs.{next_event, reply_at, moved_on, after_turn, after_fault, looked, state_after, HasTurn, HasFault, LeftInside, MayStep}
+use Rattle.lz_machine.specs.{Runs.{marks_of_turn, marks_of, turn_publishes, trace_after}, Laws.{is_of, outcome_of_turn, outcome_at}}
 
 set_alike : {X : Type 0} (xs ys : List X) (i j : ℕ) (x d : X) → length xs ≡ length ys → get_or xs j d ≡ get_or ys j d → get_or (set xs i x) j d ≡ get_or (set ys i x) j d
 set_alike xs ys i j x d count same = grind (arith, get_or-set_same, get_or_past, length-set, cases_lt, get_or-set_other, cases_eq)
@@ -129,8 +129,7 @@ module _ (a : ℕ) where
         trace = refl;
         outcome = refl;
       }
-      follows_apart Opens others may = absurd may
-      follows_apart (OpenFails why done) others may = absurd may
+      follows_apart _ others may = absurd may
 
   -- a step that isn't the actor's
   pub follows : (n : ℕ) (t : Twin a) (P : Trace) (step : Transition) → is_of a step ≡ false → MayStep (left t) step → Follows n t P step

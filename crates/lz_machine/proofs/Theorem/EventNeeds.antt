@@ -2,7 +2,7 @@
 use Rattle.std.proofs.Common.{◌≡◌, ◌≢◌, ℕ, zero, suc, ◌<◌, ◌≤◌, ◌%◌, ◌==◌, not, ◌&&◌, ◌||◌, Bool, true, false, List, Option, Some, is_some, refl, sym, ap, ◌∙◌}
 use Rattle.std.{proofs.Common.{subst, arith}, specs.Prelude.{unwrap_or}}
 use mathlib.Core.Bool.{false≢true}
-use Rattle.lz_slot.specs.{declared.command.Command.{Command, TheVariants.{Add, Remove, Has}}, Limits.{most_slots}, Sets.{key_of}, Histories.{History}}
+use Rattle.lz_slot.specs.{declared.command.Command.{Command, TheVariants.{Add, Remove}}, Limits.{most_slots}, Sets.{key_of}, Histories.{History}}
 use Rattle.lz_disk.specs.Images.{Medium}
 use Rattle.lz_vault.specs.declared.vault.Stage.TheVariants.{Keyed}
 use Rattle.lz_allot.specs.Uses.{is_outside}
@@ -80,9 +80,8 @@ module _ (n calls : ℕ) (y : Yard) (callers : List (Option Caller)) (disk : Med
   remove_has (Remove k) s (suc (suc (suc (suc (suc zero))))) pin h = ap may_release h.2.0
   remove_has (Remove k) s (suc (suc (suc (suc (suc (suc zero)))))) pin h = ap may_retire h.2.0
   remove_has (Remove k) s (suc (suc (suc (suc (suc (suc (suc i))))))) pin h = absurd h.2
-  remove_has (Add k) s i pin h = absurd h
-  remove_has (Has k) s i pin h = absurd h
   remove_has (Remove k) s _ pin h = refl
+  remove_has _ s i pin h = absurd h
 
   sequence_has : (c : Command) (sequence : Sequence) (i : ℕ) → HasIn c sequence i
   sequence_has c Pinning zero pin h = outside_even (pin_of y a) pin

@@ -1,6 +1,6 @@
 -- A slot that becomes free was left by each pass: since it was unlinked, each was outside in some state.
-use Rattle.std.proofs.Common.{◌≡◌, ◌⊎◌, ⊎_elim, inl, inr, ℕ, if◌then◌else◌, true, false, List, [], ◌∷◌, ◌++◌, Option, Some, None, refl, sym, ap, ◌∙◌, subst}
-use Rattle.std.proofs.{Common.{arith, suc}, lemmas.Bool.{cases_Bool, Decides.{eqb_tells, nat_tests}}}
+use Rattle.std.proofs.Common.{◌≡◌, ◌⊎◌, ⊎_elim, inl, inr, ℕ, if◌then◌else◌, true, List, [], ◌∷◌, ◌++◌, Option, Some, None, refl, sym, ap, ◌∙◌, subst, arith}
+use Rattle.std.proofs.{Common.{suc}, lemmas.Bool.{cases_Bool, Decides.{eqb_tells, nat_tests}}}
 use Rattle.lz_disk.specs.Images.{Medium}
 use Rattle.lz_allot.specs.{declared.sight.Sight.{Sight}, Uses.{Moment, use_of, collect_at, is_outside, was_outside}}
 use Rattle.lz_list.specs.{declared.publishing.Publishing.TheVariants.{Unlinked as unlinked}, Pinned.{Stood}}
@@ -75,11 +75,9 @@ module _ (s q : ℕ) where
   step_past i (Up service disk) Trips ms P0 P may h = shown service disk ms P0 P h
   step_past i (Up service disk) Opens ms P0 P may h = absurd may
   step_past i (Up service disk) (OpenFails why done) ms P0 P may h = absurd may
-  step_past i (Up service disk) _ ms P0 P may h = tt
   step_past i (Down shape disk) Opens ms P0 P may h = shown_out (Up (opened_service shape disk.seen) disk) ms P0 (first_trace shape disk.seen) (ap is_outside (pass_of shape.passes q 0))
   step_past i (Down shape disk) (OpenFails why true) ms P0 P may h = tt
-  step_past i (Down shape disk) (OpenFails why false) ms P0 P may h = tt
-  step_past i (Down shape disk) _ ms P0 P may h = tt
+  step_past i _ _ ms P0 P may h = tt
 
   run_past : (start : Start) (steps : List Transition) → IsRun (first_point start) steps
       → PastAt (run (first_point start) steps).state (moments (first_point start) steps) (trace_outside (first_point start) steps q) (run (first_point start) steps).trace

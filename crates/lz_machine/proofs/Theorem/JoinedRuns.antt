@@ -1,6 +1,6 @@
 -- Runs that follow on one another.
 use Rattle.std.proofs.Common.{◌≡◌, inl, inr, ℕ, List, [], ◌∷◌, ◌++◌, refl, sym, subst, arith}
-use Rattle.lz_slot.specs.{declared.history.Mark.{Mark, TheVariants.{Call, Answer, Refused, Cut, Stop, Crash, Opened, OpenFailed}}, Bytes.{Holds}}
+use Rattle.lz_slot.specs.{declared.history.Mark.{Mark, TheVariants.{Stop, Crash, Opened, OpenFailed}}, Bytes.{Holds}}
 use Rattle.lz_slot.specs.{Histories.{History, Life, ChainTo, lives, with_mark}, Sets.{Keys, Same, members}}
 use Rattle.lz_disk.specs.Images.{AreBytes}
 use Rattle.lz_machine.specs.{JoinedRuns.{LeftIsStart, RunsJoin, all_lives, first_start}, Runs.{State, Up, Down, MayLeave, caller_at, start_keys}}
@@ -43,10 +43,7 @@ lives_begin A (Opened keys ∷ M) = newer (record { start = members keys; histor
 lives_begin A (Stop ∷ M) = lives_begin A M
 lives_begin A (Crash ∷ M) = lives_begin A M
 lives_begin A (OpenFailed why ∷ M) = lives_begin A M
-lives_begin A (Call i a c ∷ M) = marked (Call i a c) (lives A M) A (lives_begin A M)
-lives_begin A (Answer i answer ∷ M) = marked (Answer i answer) (lives A M) A (lives_begin A M)
-lives_begin A (Refused i why ∷ M) = marked (Refused i why) (lives A M) A (lives_begin A M)
-lives_begin A (Cut i why ∷ M) = marked (Cut i why) (lives A M) A (lives_begin A M)
+lives_begin A (m ∷ M) = marked m (lives A M) A (lives_begin A M)
 
 -- a chain to a set is one to the same keys
 chain_same : (L : List Life) (S T : Keys) → Same S T → ChainTo L S → ChainTo L T

@@ -25,7 +25,6 @@ module _ (a : ℕ) where
   call_stays n (Up service disk) (CrashesIn b t) other goes = absurd (false≢true (sym goes))
   call_stays n (Down shape disk) Opens other goes = pass_of shape.passes a None
   call_stays n (Down shape disk) (OpenFails why true) other goes = refl
-  call_stays n (Down shape disk) (OpenFails why false) other goes = refl
   call_stays n _ _ other goes = refl
 
   -- after the life's end states that differ in the call alone are the same

@@ -1,16 +1,14 @@
 -- The counts of a call that finds no slot.
 use Rattle.std.proofs.{Common.{◌≡◌, ℕ, ◌+◌, List, [], ◌∷◌, length, Option, Some, None, refl, sym, ap, ◌∙◌, subst, arith}, lemmas.Bool.Decides.{nat_tests}}
 use Rattle.std.proofs.lemmas.List.{length-map}
-use Rattle.lz_allot.specs.{declared.counts.Counts.{Counts}, Uses.{Use, Free, Taken, Limbo, collect, collect_at, counts, lowest_free}}
-use Rattle.lz_allot.proofs.UseCounts.{counts_sum}
+use Rattle.lz_allot.{specs.{declared.counts.Counts.{Counts}, Uses.{Use, Free, collect, collect_at, counts, lowest_free}}, proofs.UseCounts.{counts_sum}}
 use Rattle.lz_machine.specs.{declared.event.{Event.TheVariants.{Reserve}, Outcome.TheVariants.{NoSlot}}, NoSlotCounts.{CountsAreRight}, Runs.{run, first_point}}
 use Rattle.lz_machine.{specs.{Table.{line, slot_found}, Yards.{Yard}}, proofs.{Runs.Course.{course_by}, Theorem.Reached.{reached_sound, up_at}}}
 
 none_counted : (uses : List Use) → lowest_free uses ≡ None → (counts uses).free ≡ 0
 none_counted [] none = refl
 none_counted (Free ∷ uses) none = absurd (grind (arith, nat_tests, none))
-none_counted (Taken ∷ uses) none = grind (arith, nat_tests, none_counted uses (grind (arith, nat_tests, none)))
-none_counted (Limbo sights ∷ uses) none = grind (arith, nat_tests, none_counted uses (grind (arith, nat_tests, none)))
+none_counted (u ∷ uses) none = grind (arith, nat_tests, none_counted uses (grind (arith, nat_tests, none)))
 
 found_none : (c : Counts) (o : Option ℕ) (uses : List Use) → slot_found o uses ≡ NoSlot c → (o ≡ None) × (counts uses ≡ c)
 found_none c None uses is = (refl, cc)

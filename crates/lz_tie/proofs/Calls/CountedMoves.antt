@@ -72,10 +72,8 @@ module _ (z : Sizes) (walkable : IsWalkable z) (c : Command) (P0 Q : Trace) wher
   walked_walk : (d : Command) (aim : Option ℕ) (pred : Place) (curr : Option ℕ) (met : Met) → OnWalk z c (walked d aim pred curr met) P0 Q
   walked_walk (Has k) aim pred curr (Unmarked s flags) = rests_walk s (may_answer flags) Yes
   walked_walk (Add k) aim pred curr (Unmarked s flags) = rests_walk s (may_answer flags) No
-  walked_walk (Add k) None pred curr Absent = tt
-  walked_walk (Add k) None pred curr (met_marked s flags) = tt
-  walked_walk (Add k) (Some t) pred curr Absent = tt
-  walked_walk (Add k) (Some t) pred curr (met_marked s flags) = tt
+  walked_walk (Add k) None pred curr _ = tt
+  walked_walk (Add k) (Some t) pred curr _ = tt
   walked_walk (Remove k) aim pred curr (Unmarked s flags) = tt
   walked_walk _ aim pred curr Absent = tt
   walked_walk _ aim pred curr (met_marked s flags) = rests_walk s (may_answer flags) No

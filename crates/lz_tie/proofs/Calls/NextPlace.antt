@@ -55,10 +55,8 @@ module _ (shape : Shape) (p : ℕ) (P : Trace) (none : P ≡ []) where
   walked_onward : (c : Command) (aim : Option ℕ) (pred : Place) (curr : Option ℕ) (met : Met) → Onward shape p c (walked c aim pred curr met) P
   walked_onward (Has k) aim pred curr (Unmarked s flags) = rests_onward (Has k) s (may_answer flags) Yes record { inside = refl; pass = tt; is_own = none; room = refl }
   walked_onward (Add k) aim pred curr (Unmarked s flags) = rests_onward (Add k) s (may_answer flags) No (answers_no (Add k))
-  walked_onward (Add k) None pred curr Absent = calm_onward shape p (Add k) P (Reserving false) refl tt refl refl none
-  walked_onward (Add k) None pred curr (met_marked s flags) = calm_onward shape p (Add k) P (Reserving false) refl tt refl refl none
-  walked_onward (Add k) (Some t) pred curr Absent = calm_onward shape p (Add k) P (Claiming (Some t) pred curr) refl tt refl refl none
-  walked_onward (Add k) (Some t) pred curr (met_marked s flags) = calm_onward shape p (Add k) P (Claiming (Some t) pred curr) refl tt refl refl none
+  walked_onward (Add k) None pred curr _ = calm_onward shape p (Add k) P (Reserving false) refl tt refl refl none
+  walked_onward (Add k) (Some t) pred curr _ = calm_onward shape p (Add k) P (Claiming (Some t) pred curr) refl tt refl refl none
   walked_onward (Remove k) aim pred curr (Unmarked s flags) = calm_onward shape p (Remove k) P (Claiming aim pred curr) refl tt refl refl none
   walked_onward c aim pred curr Absent = answers_no c
   walked_onward c aim pred curr (met_marked s flags) = rests_onward c s (may_answer flags) No (answers_no c)

@@ -21,8 +21,7 @@ calm p c (Playing (Removing s) i) P is h = absurd (false≢true is)
 calm p c (Playing (Halting reply) i) P is h = absurd (false≢true is)
 calm p c (Answering reply) P is h = absurd (false≢true is)
 calm p (Has k) at P is h = h
-calm p (Add k) at P is h = h
-calm p (Remove k) at P is h = h
+calm p _ at P is h = h
 
 pub calm_none : (p : ℕ) (c : Command) (at : Progress) (P : Trace) → is_calm at ≡ true → OwnAt p c at P → P ≡ []
 calm_none p c (Playing (Adding s) i) P is h = absurd (false≢true is)
@@ -30,8 +29,7 @@ calm_none p c (Playing (Removing s) i) P is h = absurd (false≢true is)
 calm_none p c (Playing (Halting reply) i) P is h = absurd (false≢true is)
 calm_none p c (Answering reply) P is h = absurd (false≢true is)
 calm_none p (Has k) at P is h = h
-calm_none p (Add k) at P is h = h
-calm_none p (Remove k) at P is h = h
+calm_none p _ at P is h = h
 
 -- a call that was cut off may have changed what it had
 pub none_cut : (p : ℕ) (c : Command) (P : Trace) → P ≡ [] → MayHaveChanged p c P
@@ -39,29 +37,18 @@ none_cut p (Has k) P h = h
 none_cut p _ P h = inl h
 
 pub own_cut : (p : ℕ) (c : Command) (at : Progress) (P : Trace) → OwnAt p c at P → MayHaveChanged p c P
-own_cut p (Has k) (Playing (Halting reply) i) P h = h
-own_cut p (Has k) (Answering Halted) P h = h
-own_cut p (Has k) (Answering Device) P h = h
-own_cut p (Has k) at P h = h
-own_cut p (Add k) (Playing (Adding s) zero) P h = inl h
-own_cut p (Add k) (Playing (Adding s) (suc zero)) P h = inl h
 own_cut p (Add k) (Playing (Adding s) (suc (suc i))) P h = inr (s, h)
-own_cut p (Add k) (Playing (Halting reply) i) P h = h
 own_cut p (Add k) (Answering Yes) P h = inr h
-own_cut p (Add k) (Answering Halted) P h = h
-own_cut p (Add k) (Answering Device) P h = h
-own_cut p (Add k) at P h = inl h
 own_cut p (Remove k) (Playing (Removing s) zero) P h = inl h
 own_cut p (Remove k) (Playing (Removing s) (suc zero)) P h = inl h
-own_cut p (Remove k) (Playing (Removing s) (suc (suc zero))) P h = inr (s, inl h)
-own_cut p (Remove k) (Playing (Removing s) (suc (suc (suc zero)))) P h = inr (s, inl h)
-own_cut p (Remove k) (Playing (Removing s) (suc (suc (suc (suc zero))))) P h = inr (s, inl h)
 own_cut p (Remove k) (Playing (Removing s) (suc (suc (suc (suc (suc i)))))) P h = inr (s, inr h)
-own_cut p (Remove k) (Playing (Halting reply) i) P h = h
+own_cut p (Remove k) (Playing (Removing s) _) P h = inr (s, inl h)
 own_cut p (Remove k) (Answering Yes) P h = inr (h.0, inr h.1)
-own_cut p (Remove k) (Answering Halted) P h = h
-own_cut p (Remove k) (Answering Device) P h = h
-own_cut p (Remove k) at P h = inl h
+own_cut p _ (Playing (Halting reply) i) P h = h
+own_cut p _ (Answering Halted) P h = h
+own_cut p _ (Answering Device) P h = h
+own_cut p (Has k) _ P h = h
+own_cut p _ _ P h = inl h
 
 pub cut_halting : (p : ℕ) (c : Command) (reply : Reply) (i : ℕ) (P : Trace) → MayHaveChanged p c P → OwnAt p c (Playing (Halting reply) i) P
 cut_halting p (Has k) reply i P h = h

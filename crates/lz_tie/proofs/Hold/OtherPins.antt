@@ -35,9 +35,8 @@ redirect_same w ps (Node s) next = record { heads = refl; links = refl; keys = r
 
 check_same : (w : Words) (ps : List ℕ) (place : Place) (curr : Option ℕ) → check (pins_of w ps) place curr ≡ check w place curr
 check_same w ps (Bucket b) None = refl
-check_same w ps (Bucket b) (Some s) = refl
-check_same w ps (Node t) None = refl
-check_same w ps (Node t) (Some s) = refl
+check_same w ps _ None = refl
+check_same w ps _ _ = refl
 
 if_same : (b : Bool) (x y x' y' : Words) → SameWords x y → SameWords x' y' → SameWords (if b then x else x') (if b then y else y')
 if_same true x y x' y' one other = one

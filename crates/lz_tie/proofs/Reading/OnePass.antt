@@ -6,7 +6,7 @@ use Rattle.lz_tie.proofs.Vocabulary.{published_on, publishes, settling, Start, S
 use Rattle.lz_tie.proofs.Vocabulary.{first_point, caller_at, next_event, Sizes, What, Note, Part, Extends, as_list, trace_of, Quiet, Knows, BoardId}
 use Rattle.lz_tie.{proofs.Reading.{CallPlaces.{place_reads, run_before}, OwnTraces.{own_append}}, specs.OnePass.{AreOwn, OnlyOwn}}
 use Rattle.lz_tie.specs.{NotedRuns.{TellsTurn, TellsFault, TellsStep, TellsOf, ReadsAs}, Holds.{IsLocked}}
-use Rattle.lz_vault.specs.declared.vault.Stage.TheVariants.{Closed, Open}
+use Rattle.lz_vault.specs.declared.vault.Stage.TheVariants.{Open}
 use Rattle.lz_machine.specs.{declared.{course.Course.TheVariants.{Plays}, event.Event.TheVariants.{Link, Mark, Settle, Unlink}}, Runs.{shape_of as shape_in}}
 use Rattle.lz_machine.proofs.{Frames.OneActor.{caller_range}, Runs.Shape.{run_keeps_shape}}
 use Rattle.lz_board.{specs.declared.view.What.TheVariants.{Found}, proofs.Upkeep.{Growth.{extends_both, extends_trans}, Splice.{low_or_not, least_load}}}
@@ -22,8 +22,7 @@ AreByPasses passes (n ∷ ns) = IsByPass passes n × AreByPasses passes ns
 -- what an actor's event changes is changed for it
 settling_own : (a : ℕ) (stage : Stage) (s : ℕ) → AreOwn a (settling stage s)
 settling_own a Open s = tt
-settling_own a Closed s = tt
-settling_own a stage s = tt
+settling_own a _ s = tt
 
 event_own : (y : Yard) (actor : Actor) (a : ℕ) (e : Event) → AreOwn a (publishes y actor a e)
 event_own y actor a Link = (refl, tt)

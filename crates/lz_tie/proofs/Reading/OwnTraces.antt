@@ -1,7 +1,6 @@
 -- What was published for one pass alone, and its parts.
 use Rattle.std.proofs.{Common.{◌≡◌, ℕ, [], ◌∷◌, ◌++◌, sym, ap, ◌∙◌, subst, append_assoc}, lemmas.List.{append_cancel_right}}
-use Rattle.lz_list.specs.declared.publishing.Publishing.TheVariants.{Linked as linked, Marked as marked, Unlinked as unlinked, Settled as settled}
-use Rattle.lz_list.specs.declared.publishing.Publishing.TheVariants.{KeyPrepared as key_prepared, LinkPrepared as link_prepared, Halted as halted}
+use Rattle.lz_list.specs.declared.publishing.Publishing.TheVariants.{Linked as linked, Marked as marked, Unlinked as unlinked}
 use Rattle.lz_tie.{proofs.Vocabulary.{Trace, Extends}, specs.OnePass.{AreOwn, OnlyOwn}}
 
 pub own_append : (p : ℕ) (P Q : Trace) → AreOwn p P → AreOwn p Q → AreOwn p (P ++ Q)
@@ -9,20 +8,14 @@ own_append p [] Q here there = there
 own_append p (linked k s q ∷ P) Q here there = (here.0, own_append p P Q here.1 there)
 own_append p (marked k s q ∷ P) Q here there = (here.0, own_append p P Q here.1 there)
 own_append p (unlinked k s q ∷ P) Q here there = (here.0, own_append p P Q here.1 there)
-own_append p (settled s r ∷ P) Q here there = own_append p P Q here there
-own_append p (key_prepared s v ∷ P) Q here there = own_append p P Q here there
-own_append p (link_prepared s v ∷ P) Q here there = own_append p P Q here there
-own_append p (halted ∷ P) Q here there = own_append p P Q here there
+own_append p (e ∷ P) Q here there = own_append p P Q here there
 
 pub own_newer : (p : ℕ) (P Q : Trace) → AreOwn p (P ++ Q) → AreOwn p P
 own_newer p [] Q are = tt
 own_newer p (linked k s q ∷ P) Q are = (are.0, own_newer p P Q are.1)
 own_newer p (marked k s q ∷ P) Q are = (are.0, own_newer p P Q are.1)
 own_newer p (unlinked k s q ∷ P) Q are = (are.0, own_newer p P Q are.1)
-own_newer p (settled s r ∷ P) Q are = own_newer p P Q are
-own_newer p (key_prepared s v ∷ P) Q are = own_newer p P Q are
-own_newer p (link_prepared s v ∷ P) Q are = own_newer p P Q are
-own_newer p (halted ∷ P) Q are = own_newer p P Q are
+own_newer p (e ∷ P) Q are = own_newer p P Q are
 
 -- what is its own since an earlier trace is so since a later one
 pub own_since : (p : ℕ) (R P Q : Trace) → OnlyOwn p R Q → Extends P R → Extends Q P → OnlyOwn p P Q

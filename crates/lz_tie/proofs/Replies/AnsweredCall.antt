@@ -46,25 +46,20 @@ module _ (slots buckets passes p : ℕ) (v : View) (format : Format) (pin : ℕ)
       → Promises shape p format c reply pin new P Q
   rows (Has k) Yes changes stands made is worn old full = let s = stands refl in (yes_since k P P0 Q s.from s.relies.0.1, subst (Changes p P Q) is made)
   rows (Has k) No changes stands made is worn old full = let s = stands refl in (no_since k P P0 Q s.from s.relies.0.1, subst (Changes p P Q) is made)
-  rows (Has k) (Full counts) changes stands made is worn old full = absurd (stands refl).relies.0.2
-  rows (Has k) Worn changes stands made is worn old full = (worn refl, subst (Changes p P Q) is made)
-  rows (Has k) OldFile changes stands made is worn old full = (old refl, subst (Changes p P Q) is made)
-  rows (Has k) Halted changes stands made is worn old full = record { halted = (stands refl).relies.0; own = changes; changes = made; may = is }
-  rows (Has k) Device changes stands made is worn old full = record { halted = (stands refl).relies.0; own = changes; changes = made; may = is }
   rows (Add k) Yes changes stands made is worn old full = let s = stands refl in added k p P P0 Q changes made is s.from s.to s.relies.0
   rows (Add k) No changes stands made is worn old full = let s = stands refl in (yes_since k P P0 Q s.from s.relies.0.1, subst (Changes p P Q) is made)
   rows (Add k) (Full counts) changes stands made is worn old full = full_row k counts (stands refl) (subst (Changes p P Q) is made) (full counts refl)
-  rows (Add k) Worn changes stands made is worn old full = (worn refl, subst (Changes p P Q) is made)
-  rows (Add k) OldFile changes stands made is worn old full = (old refl, subst (Changes p P Q) is made)
-  rows (Add k) Halted changes stands made is worn old full = record { halted = (stands refl).relies.0; own = changes; changes = made; may = is }
-  rows (Add k) Device changes stands made is worn old full = record { halted = (stands refl).relies.0; own = changes; changes = made; may = is }
   rows (Remove k) Yes changes stands made is worn old full = let s = stands refl in removed k p buckets slots P P0 Q changes law made is s.from s.to s.relies.0
   rows (Remove k) No changes stands made is worn old full = let s = stands refl in (no_since k P P0 Q s.from s.relies.0.1, subst (Changes p P Q) is made)
-  rows (Remove k) (Full counts) changes stands made is worn old full = absurd (stands refl).relies.0.2
-  rows (Remove k) Worn changes stands made is worn old full = (worn refl, subst (Changes p P Q) is made)
-  rows (Remove k) OldFile changes stands made is worn old full = (old refl, subst (Changes p P Q) is made)
-  rows (Remove k) Halted changes stands made is worn old full = record { halted = (stands refl).relies.0; own = changes; changes = made; may = is }
-  rows (Remove k) Device changes stands made is worn old full = record { halted = (stands refl).relies.0; own = changes; changes = made; may = is }
+  rows _ (Full counts) changes stands made is worn old full = absurd (stands refl).relies.0.2
+  rows (Has k) Worn changes stands made is worn old full = (worn refl, subst (Changes p P Q) is made)
+  rows _ Worn changes stands made is worn old full = (worn refl, subst (Changes p P Q) is made)
+  rows (Has k) OldFile changes stands made is worn old full = (old refl, subst (Changes p P Q) is made)
+  rows _ OldFile changes stands made is worn old full = (old refl, subst (Changes p P Q) is made)
+  rows (Has k) Halted changes stands made is worn old full = record { halted = (stands refl).relies.0; own = changes; changes = made; may = is }
+  rows _ Halted changes stands made is worn old full = record { halted = (stands refl).relies.0; own = changes; changes = made; may = is }
+  rows (Has k) Device changes stands made is worn old full = record { halted = (stands refl).relies.0; own = changes; changes = made; may = is }
+  rows _ Device changes stands made is worn old full = record { halted = (stands refl).relies.0; own = changes; changes = made; may = is }
 
 -- where its reply is that the pass is worn, the pass is outside
 worn_side : (pin : ℕ) (reply : Reply) → pin % 2 ≡ side_of (is_before_pin (Answering reply)) → reply ≡ Worn → pin % 2 ≡ 0

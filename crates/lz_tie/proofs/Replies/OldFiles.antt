@@ -4,7 +4,7 @@ use Rattle.std.{proofs.lemmas.Option.{none-some}, specs.Cmp.{both_ways}}
 use mathlib.Core.Bool.{false≢true}
 use Rattle.lz_tie.proofs.Vocabulary.{Command, Format, Trace, Reply, Progress, first_progress, is_old, Shape, What, Note, Part, note_by, place, placed}
 use Rattle.lz_tie.{proofs.Vocabulary.{shape_of_sizes}, specs.{Answers.{Promises, IsWithin, AreWithin, IsOneCall, Answers}, OneCaller.{tells_old}}}
-use Rattle.lz_slot.specs.declared.command.Command.TheVariants.{Add, Remove, Has}
+use Rattle.lz_slot.specs.declared.command.Command.TheVariants.{Has}
 use Rattle.lz_machine.specs.declared.{event.Reply.TheVariants.{OldFile}, caller.Progress.TheVariants.{Answering}}
 use Rattle.lz_board.specs.declared.view.What.TheVariants.{Called, Played}
 
@@ -39,8 +39,7 @@ module _ (shape : Shape) (p : ℕ) (F : Format) (c : Command) where
 -- and it is told of such a key alone
 told_is_old : (shape : Shape) (p : ℕ) (F : Format) (c : Command) (told : Reply) (pin : ℕ) (new : List Note) (P Q : Trace) → Promises shape p F c told pin new P Q → tells_old told ≡ true → is_old F c ≡ true
 told_is_old shape p F (Has k) OldFile pin new P Q h is = h.0
-told_is_old shape p F (Add k) OldFile pin new P Q h is = h.0
-told_is_old shape p F (Remove k) OldFile pin new P Q h is = h.0
+told_is_old shape p F _ OldFile pin new P Q h is = h.0
 told_is_old shape p F c told pin new P Q h is = absurd (false≢true is)
 
 pub old_is_told : (F : Format) (c : Command) (told : Reply) (before after : Part) → Answers F c told before after → tells_old told ≡ is_old F c

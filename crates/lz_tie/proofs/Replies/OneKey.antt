@@ -8,7 +8,7 @@ use Rattle.lz_tie.specs.KeyByKey.{AreFor, OnlyOwnOf, KeyRow, OneKeyIsPlain}
 use Rattle.lz_slot.specs.declared.command.Command.TheVariants.{Add, Remove, Has}
 use Rattle.lz_list.specs.declared.publishing.Publishing.TheVariants.{Linked as linked, Marked as marked, Unlinked as unlinked}
 use Rattle.lz_list.proofs.Traces.Hindsight.{lawful_begins}
-use Rattle.lz_machine.specs.declared.event.Reply.TheVariants.{Yes, No, Full, Worn, OldFile, Halted, Device}
+use Rattle.lz_machine.specs.declared.event.Reply.TheVariants.{Yes, No, Full, Worn, OldFile}
 use Rattle.lz_board.proofs.Upkeep.Growth.{extends_of}
 
 -- changes of other keys say nothing of k
@@ -146,15 +146,10 @@ module _ (shape : Shape) (p : ℕ) (F : Format) (pin : ℕ) (new : List Note) (P
   row (Remove k) No only h =
       let lacks = rested_no p k P Q only h.0 h.1 in
       (lacks, unchanged p k P Q only h.1 ∙ removed_already (k == k) (member k P) lacks)
-  row (Has k) Worn only h = unchanged p k P Q only h.1
-  row (Add k) Worn only h = unchanged p k P Q only h.1
-  row (Remove k) Worn only h = unchanged p k P Q only h.1
-  row (Has k) OldFile only h = unchanged p k P Q only h.1
-  row (Add k) OldFile only h = unchanged p k P Q only h.1
-  row (Remove k) OldFile only h = unchanged p k P Q only h.1
-  row c Halted only h = cut p P Q c only h
-  row c Device only h = cut p P Q c only h
+  row c Worn only h = unchanged p (key_of c) P Q only h.1
+  row c OldFile only h = unchanged p (key_of c) P Q only h.1
   row _ (Full counts) only h = absurd h
+  row c _ only h = cut p P Q c only h
 
 pub one_key : OneKeyIsPlain
 one_key F c told before after answers only = record {

@@ -2,7 +2,7 @@
 use Rattle.std.proofs.Common.{◌≡◌, ◌⊎◌, inl, inr, ⊎_elim, ℕ, false, true, ◌∷◌, sym, ◌∙◌}
 use mathlib.Core.Bool.{false≢true, true≢false}
 use Rattle.lz_tie.{proofs.Vocabulary.{Command, History, Keys, Same, after, Reply, mark_of, has_cut, IsPlain}, specs.{OneCaller.{PlainRow}, Sessions.{cuts_off}}}
-use Rattle.lz_slot.{specs.declared.{command.Command.TheVariants.{Add, Remove, Has}, history.Mark.TheVariants.{Call}}, proofs.Sets.{after_same}}
+use Rattle.lz_slot.{specs.declared.{command.Command.TheVariants.{Add}, history.Mark.TheVariants.{Call}}, proofs.Sets.{after_same}}
 use Rattle.lz_machine.specs.declared.event.Reply.TheVariants.{Yes, No, Full, Worn, OldFile, Halted, Device}
 
 -- the set after a call that wasn't cut off
@@ -14,39 +14,30 @@ after_told c _ S = S
 -- a call that wasn't cut off leaves that set
 pub row_leaves : (N : ℕ) (c : Command) (told : Reply) (S T : Keys) → cuts_off told ≡ false → PlainRow N c told S T → Same T (after_told c told S)
 row_leaves N (Add k) Yes S T whole row = row.2
-row_leaves N (Remove k) Yes S T whole row = row.1
-row_leaves N (Has k) Yes S T whole row = row.1
 row_leaves N (Add k) (Full counts) S T whole row = row.2
-row_leaves N (Remove k) (Full counts) S T whole row = absurd row
-row_leaves N (Has k) (Full counts) S T whole row = absurd row
-row_leaves N c Halted S T whole row = absurd (true≢false whole)
-row_leaves N c Device S T whole row = absurd (true≢false whole)
-row_leaves N _ No S T whole row = row.1
+row_leaves N _ (Full counts) S T whole row = absurd row
 row_leaves N _ Worn S T whole row = row
 row_leaves N _ OldFile S T whole row = row
+row_leaves N c Halted S T whole row = absurd (true≢false whole)
+row_leaves N c Device S T whole row = absurd (true≢false whole)
+row_leaves N _ _ S T whole row = row.1
 
 -- and so does any set with the same keys
 pub row_same : (N : ℕ) (c : Command) (told : Reply) (S T U : Keys) → cuts_off told ≡ false → PlainRow N c told S T → Same U (after_told c told S) → PlainRow N c told S U
 row_same N (Add k) Yes S T U whole row same = (row.0, row.1, same)
-row_same N (Remove k) Yes S T U whole row same = (row.0, same)
-row_same N (Has k) Yes S T U whole row same = (row.0, same)
 row_same N (Add k) (Full counts) S T U whole row same = (row.0, row.1, same)
-row_same N (Remove k) (Full counts) S T U whole row same = absurd row
-row_same N (Has k) (Full counts) S T U whole row same = absurd row
-row_same N c Halted S T U whole row same = absurd (true≢false whole)
-row_same N c Device S T U whole row same = absurd (true≢false whole)
-row_same N _ No S T U whole row same = (row.0, same)
+row_same N _ (Full counts) S T U whole row same = absurd row
 row_same N _ Worn S T U whole row same = same
 row_same N _ OldFile S T U whole row same = same
+row_same N c Halted S T U whole row same = absurd (true≢false whole)
+row_same N c Device S T U whole row same = absurd (true≢false whole)
+row_same N _ _ S T U whole row same = (row.0, same)
 
 -- one that was cut off leaves the set with it or without it
 pub row_cut : (N : ℕ) (c : Command) (told : Reply) (S T : Keys) → cuts_off told ≡ true → Same T S ⊎ Same T (after c S) → PlainRow N c told S T
 row_cut N (Add k) Halted S T cut left = left
-row_cut N (Remove k) Halted S T cut left = left
-row_cut N (Has k) Halted S T cut left = left
-row_cut N (Add k) Device S T cut left = left
-row_cut N (Remove k) Device S T cut left = left
-row_cut N (Has k) Device S T cut left = left
+row_cut N _ Halted S T cut left = left
+row_cut N _ Device S T cut left = left
 row_cut N c _ S T cut left = absurd (false≢true cut)
 
 -- The set to which a history leads is this one, or one with the same keys.

@@ -58,9 +58,8 @@ module _ (p : ℕ) (M : History) where
 
 -- of calls of which only the last may have been cut off, the first ones
 cut_first : (done left : AnsweredCalls) → CutLast (done ++ left) → CutLast done
-cut_first [] left cut = tt
-cut_first (call ∷ []) left cut = tt
 cut_first (call ∷ next ∷ done) left cut = (cut.0, cut_first (next ∷ done) left cut.1)
+cut_first _ left cut = tt
 
 -- and those before another one
 none_before : (done : AnsweredCalls) (call : Command × Reply) (more : AnsweredCalls) → CutLast (done ++ call ∷ more) → NoneCut done

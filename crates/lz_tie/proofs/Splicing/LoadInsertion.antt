@@ -5,10 +5,9 @@ use Rattle.std.{proofs.lemmas.List.Folds.{list_any-append}, specs.List.{list_any
 use mathlib.Core.Bool.{false≢true}
 use Rattle.lz_tie.proofs.Vocabulary.{Medium, Word, Publishing, Words, get, Trace, word_after, Course, Shape, Yard, actor_at, course, line, line_on}
 use Rattle.lz_tie.proofs.Vocabulary.{line_publishes, published_on, pin_of, event_at, loaded, Start, IsStart, State, Up, Down, Service, Caller, Transition}
-use Rattle.lz_tie.proofs.Vocabulary.{Calls, Turn, Fails, Looks, CrashesIn, Point, run, IsRun, MayStep, first_point, caller_at, next_event, HasTurn, is_of}
-use Rattle.lz_tie.proofs.Vocabulary.{SameBut, KeepsRun, next_hop, hop_of_caller, TraceSound, Sizes, What, Note, Load, as_list, trace_of, steps_of, Extends}
-use Rattle.lz_tie.proofs.{Vocabulary.{load_note, insert_load, Quiet, IsShared, Shown, place}, Reading.TraceNotes.{trace_reads}}
-use Rattle.lz_tie.proofs.Reading.CallPlaces.{place_reads, run_before}
+use Rattle.lz_tie.proofs.Vocabulary.{Calls, Turn, Fails, Looks, Point, run, IsRun, MayStep, first_point, caller_at, next_event, HasTurn, is_of, SameBut}
+use Rattle.lz_tie.proofs.Vocabulary.{KeepsRun, next_hop, hop_of_caller, TraceSound, Sizes, What, Note, Load, as_list, trace_of, steps_of, Extends, load_note}
+use Rattle.lz_tie.proofs.{Vocabulary.{insert_load, Quiet, IsShared, Shown, place}, Reading.{TraceNotes.{trace_reads}, CallPlaces.{place_reads, run_before}}}
 use Rattle.lz_tie.specs.NotedRuns.{TellsTurn, TellsFault, TellsStep, TellsLooks, TellsOf, NoteTells, ReadsAs, viewed, IsHopAt}
 use Rattle.lz_list.{specs.declared.word.Word.TheVariants.{Head, Link, Key, Pin as PinOf, Halt}, proofs.Tables.WordTable.{table_at}}
 use Rattle.lz_machine.specs.declared.{course.Course.TheVariants.{Refused, Plays}, event.{Event.TheVariants.{Hop}, Outcome.TheVariants.{Value, NotNow}}}
@@ -67,10 +66,6 @@ abbrev yard_or : Yard → State → Yard
 yard_or d (Up service disk) = service.yard
 yard_or d (Down shape disk) = d
 
-abbrev IsUp : State → Type 0
-IsUp (Up service disk) = Unit {0}
-IsUp (Down shape disk) = ⊥
-
 same_looks : (a q v : ℕ) (w w' : State) (new : List Transition) → SameBut a w w' → TellsLooks w q v new → TellsLooks w' q v new
 same_looks a q v (Up one disk) (Up other disk') new same t = record {
   looks = t.looks;
@@ -93,14 +88,7 @@ other_of : (a : ℕ) (w : State) (n : Note) (step : Transition) → n.by ≢ a �
 other_of a (Up service disk) n (Calls b c) away t = ne_eqb a b (λ is. away (t.0 ∙ sym is))
 other_of a (Up service disk) n (Turn b) away t = ne_eqb a b (λ is. away (t.0 ∙ sym is))
 other_of a (Up service disk) n (Fails b new) away t = ne_eqb a b (λ is. away (t.0 ∙ sym is))
-other_of a (Up service disk) n (Looks b) away t = absurd t
-other_of a (Up service disk) n (CrashesIn b x) away t = absurd t
-other_of a (Down shape disk) n (Calls b c) away t = absurd t
-other_of a (Down shape disk) n (Turn b) away t = absurd t
-other_of a (Down shape disk) n (Fails b new) away t = absurd t
-other_of a (Down shape disk) n (Looks b) away t = absurd t
-other_of a (Down shape disk) n (CrashesIn b x) away t = absurd t
-other_of a _ n _ away t = refl
+other_of a _ n _ away t = absurd t
 
 -- a pass with an open call doesn't look
 looks_away : (p : Point) (service : Service) (disk : Medium) (a k q : ℕ) (before : List Transition) → (run p before).state ≡ Up service disk → IsSome (caller_at service.callers a) → IsRun p (replicate k (Looks q) ++ before) → list_any (is_of a) (replicate k (Looks q)) ≡ false

@@ -1,18 +1,14 @@
 use Rattle.lz_vault.proofs.scan.Scan.note_shut.Goals as goal
 use Rattle.std.proofs.Common.{◌≡◌, ◌≢◌, None, refl}
 use Rattle.lz_slot.proofs.Files.ExactBytes.{zero_fits}
-use Rattle.lz_vault.specs.{Members.{member_in}, Stages.{Cell, IsSteady}, declared.vault.Stage.{Stage}}
-use Rattle.lz_vault.{specs.declared.vault.Stage.TheVariants.{Closed, Torn, KeyLoose, Keyed, Opening, Open, Closing}, proofs.Scanning.{fresh_pushed, note_more}}
-use Rattle.lz_vault.proofs.SlotOrder.{next_none}
+use Rattle.lz_vault.specs.{Members.{member_in}, Stages.{Cell, IsSteady}, declared.vault.Stage.{Stage, TheVariants.{Closed, Torn, Open}}}
+use Rattle.lz_vault.proofs.{Scanning.{fresh_pushed, note_more}, SlotOrder.{next_none}}
 
 no_member : (stage : Stage) → IsSteady stage → stage ≢ Open → member_in (record { stage = stage; key = 0 }) ≡ None
 no_member Closed steady shut = refl
 no_member Torn steady shut = refl
-no_member KeyLoose steady shut = absurd steady
-no_member Keyed steady shut = absurd steady
-no_member Opening steady shut = absurd steady
 no_member Open steady shut = absurd (shut refl)
-no_member Closing steady shut = absurd steady
+no_member _ steady shut = absurd steady
 
 pub returns-in-Ok-clause-fresh : goal.returns-in-Ok-clause-fresh
 returns-in-Ok-clause-fresh c = λ before.
