@@ -5,18 +5,19 @@ from __future__ import annotations
 import os
 import random
 import re
-from typing import Dict, FrozenSet, Iterator, List, NamedTuple, Sequence, Tuple
+from typing import Dict, FrozenSet, Iterable, Iterator, List, NamedTuple, Sequence, Tuple
 
 from trials.faults import needs_strace
 from trials.plain import FORMATS, SLOT_SIZE, Plain, Survey
-from trials.program import Key, Program
+from trials.program import Ended, Key, Program
 from trials.report import Wrong, expect
 
 SLOTS = 3
 LINES = 24
 VERBS = ("add", "add", "remove", "has")
 NUMBERS = (0, 7, 8, 10**18 - 1)
-CALLS = re.compile(r'^(pwrite64|write|fdatasync|fsync)\((\d+)(?:, "((?:\\x[0-9a-f]{2})*)", \d+(?:, (\d+))?)?\) += (\d+)')
+CALLS = re.compile(r'^(pwrite64|write|fdatasync|fsync)\((\d+)<([^>]*)>(?:, "((?:\\x[0-9a-f]{2})*)", \d+(?:, (\d+))?)?\) += (-?\d+)')
+STRACE = ("strace", "-y", "-xx", "-s", "65536", "-e", "trace=pwrite64,write,fdatasync,fsync,rename")
 
 # How many bytes that may be old or new are gone through in each combination, and else how many draws are made.
 ALL_OF = 10
@@ -26,31 +27,47 @@ Members = FrozenSet[Key]
 
 
 class Call(NamedTuple):
-    """A write of the file at a place; a write of standard output, or a sync, which have none."""
+    """A write of the file at a place; a write of standard output, a sync, or a rename, which have none. Whether it failed."""
 
     at: int
-    text: bytes
+    text: bytes = b""
+    has_failed: bool = False
 
 
-SYNC, TOLD = -1, -2
+SYNC, TOLD, RENAMED = -1, -2, -3
 
 
-def traced(program: Program, file: str, lines: str, log: str) -> List[Call]:
-    """The calls that a run makes over a file, in their order."""
-    words = ("strace", "-o", log, "-xx", "-s", "65536", "-e", "trace=pwrite64,write,fdatasync,fsync")
-    ended = program.run("run", file, lines=lines, before=words)
-    expect(ended.status, 0, f"the status of a run of {lines!r}")
-    calls: List[Call] = []
-    with open(log, encoding="ascii") as told:
-        for name, number, text, at, _ in (found.groups() for found in map(CALLS.match, told) if found):
-            written = bytes.fromhex((text or "").replace("\\x", ""))
-            if name == "pwrite64":
-                calls.append(Call(int(at), written))
-            elif name == "write" and number == "1":
-                calls.append(Call(TOLD, written))
-            elif name != "write":
-                calls.append(Call(SYNC, b""))
-    return calls
+def traced(program: Program, words: Sequence[str], file: str, log: str, lines: str = "", inject: str = "") -> Tuple[Ended, List[Call]]:
+    """How a command ends, and the calls that it makes on a file, in their order. It writes no other file. Where something is to be injected strace
+    has a call fail, or kills the command there."""
+    before = [*STRACE, "-o", log, *(("-e", f"inject={inject}") if inject else ())]
+    ended = program.run(*words, lines=lines, before=before)
+    with open(log, encoding="ascii", errors="surrogateescape") as told:
+        return ended, list(calls_in(told, os.path.realpath(file)))
+
+
+def calls_in(log: Iterable[str], file: str) -> Iterator[Call]:
+    """The calls on a file of which strace tells, in their order. One that was under way at a kill isn't told."""
+    for line in log:
+        found = CALLS.match(line)
+        if line.startswith("rename(") and line.endswith("= 0\n"):
+            yield Call(RENAMED)
+        if not found:
+            continue
+        name, number, path, text, at, gave = found.groups()
+        written, is_there = unescaped(text or ""), unescaped(path) == os.fsencode(file)
+        if name == "pwrite64":
+            expect((is_there, gave in ("-1", str(len(written)))), (True, True), f"that {file} is written, and all of the bytes: {line:.200}")
+            yield Call(int(at), written, gave == "-1")
+        elif name != "write" and is_there:
+            yield Call(SYNC, b"", gave == "-1")
+        elif (name, number) == ("write", "1"):
+            yield Call(TOLD, written)
+
+
+def unescaped(text: str) -> bytes:
+    """The bytes of which strace tells. Not each strace escapes those of a path."""
+    return bytes.fromhex(text.replace("\\x", "")) if text.startswith("\\x") else os.fsencode(text)
 
 
 class Disk:
@@ -137,7 +154,9 @@ def try_run(program: Program, folder: str, form: int, start: bytes, draw: random
         new.write(start)
     disk, left = Disk(start, form == 4), start
     members, told, count = sets_of(frozenset(Survey(start).members), lines), 0, 0
-    for call in traced(program, file, "".join(f"{line}\n" for line in lines), os.path.join(folder, "calls")):
+    ended, calls = traced(program, ("run", file), file, os.path.join(folder, "calls"), "".join(f"{line}\n" for line in lines))
+    expect(ended.status, 0, f"the status of a run of {lines}")
+    for call in calls:
         told += call.text.count(b"\n") if call.at == TOLD else 0
         disk.take(call)
         images = list(disk.images(draw))

@@ -90,9 +90,11 @@ def try_kills(program: Program, folder: str, seed: int, making: Making) -> None:
     print(f"         {KILLS} makings killed, of which {made} were done", flush=True)
 
 
-# The makings that are killed: of the empty set in as many slots as the older formats have, and of so many keys of a list.
+# The makings that are killed: of the empty set in as many slots as the older formats have, and of so many keys of a list. Each is written by many
+# writes, as parts of 64 KB.
 LARGEST = Making(MOST_SLOTS[2], 2)
 LOADED = Making(100_000, 3, keys_in_order(70_000))
+GATHERED = LOADED._replace(form=4)
 
 
 def try_faults(program: Program, folder: str, listed: str = "") -> None:
