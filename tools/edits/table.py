@@ -3,6 +3,7 @@
 from __future__ import annotations
 
 import os
+import re
 import threading
 from typing import Dict, Iterator, Tuple
 
@@ -12,6 +13,8 @@ from edits.record import files
 PARTS = ("src", "specs", "proofs")
 # How often the processes are looked at, in seconds: what a process takes after the last look isn't seen.
 PAUSE = 1.0
+# The lines of each crate's proofs when the program of dist/ was made (tools/release), and by which part they may grow unnamed.
+WRITTEN, MOST_GROWTH = "dist/PROOFS", 0.05
 
 
 class Watch:
@@ -73,3 +76,16 @@ def rows(top: str, watch: Watch) -> Iterator[str]:
     seconds = [watch.seconds(it.name) for it in crates]
     for name, lines, took in zip([*(it.name for it in crates), "all"], [*counts, map(sum, zip(*counts))], [*seconds, sum(seconds)]):
         yield f"{name:24}" + "".join(f"{it:9}" for it in lines) + (f"{took:9.0f}" if took else f"{'kept':>9}")
+
+
+def grown(top: str) -> Iterator[str]:
+    """The crates whose proofs have grown since they were written down."""
+    path = os.path.join(top, WRITTEN)
+    if not os.path.exists(path):
+        return
+    with open(path, encoding="ascii") as text:
+        before = {name: int(lines) for name, lines in re.findall(r"^(\w+) (\d+)$", text.read(), re.M)}
+    for crate in kit.crates(top):
+        lines, then = lines_of(crate, "proofs"), before.get(crate.name, 0)
+        if then and lines > then * (1 + MOST_GROWTH):
+            yield f"{crate.name} has {lines} lines of proofs, and had {then} when the program of dist/ was made"

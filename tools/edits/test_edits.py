@@ -469,6 +469,15 @@ class TableTest(EditsTest):
         self.assertEqual(all_crates.split()[1], str((LOW + HIGH).count("\n")))
         self.assertGreater(WATCHED[0].seconds("low"), 0)
 
+    def test_grown(self) -> None:
+        """A crate is named whose proofs have more than a twentieth more lines than when the program was made."""
+        self.assertEqual([*table.grown(self.repository.top)], [])
+        self.repository.write("crates/low/proofs/Lib.antt", "\n" * 100)
+        lines = table.lines_of(self.repository.crate("low"), "proofs")
+        for then, names in ((lines - 10, ["low"]), (lines - 1, []), (0, [])):
+            self.repository.write(table.WRITTEN, f"low {then}\nhigh 1000\n")
+            self.assertEqual([it.split()[0] for it in table.grown(self.repository.top)], names)
+
 
 class InOneFile(EditsTest):
     """A test whose wrong bodies stand in one file a crate."""
