@@ -3,3 +3,4 @@ pub mod Runs
 pub mod Services
 pub mod RunRows
 pub mod LifeRows
+pub mod ServiceRows

@@ -12,9 +12,11 @@ pub mod Listed
 pub mod ListPieces
 pub mod OneList
 pub mod ListRows
+pub mod ListingRows
 pub mod HeldKeys
 pub mod ShownLists
 pub mod ShownCounts
+pub mod CountRows
 pub mod SurveyEnds
 pub mod TornSlots
 pub mod TornFree

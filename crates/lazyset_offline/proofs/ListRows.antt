@@ -46,7 +46,7 @@ no_such_room : IsListFaultOf One (codes "3:8" ++ 10 ∷ []) (Line 1)
 no_such_room = starts_badly One (codes "3:8") [] refl (spelled_other One (codes "3:8") 3000000000000000008 refl (λ low. omega arith))
 
 -- a last line that doesn't end, and a key that stands in two lines, which must not be lists
-one_key_above : Lists Two (codes "7" ++ 10 ∷ []) (7 ∷ [])
+pub one_key_above : Lists Two (codes "7" ++ 10 ∷ []) (7 ∷ [])
 unfolding IsDistinct
 one_key_above = record { spelled = more (codes "7") [] 7 [] refl (spelled_by Two (codes "7") 7 refl (omega arith)) nothing; once = (tt, tt) }
 
@@ -72,7 +72,7 @@ seven_again = record {
   fault = (codes "0:7", 7, (refl, ([], refl)), spelled_by Two (codes "0:7") 7 refl (omega arith), refl);
 }
 
-not_ended_lists_none : (ks : List ℕ) → Lists Two (codes "7" ++ 10 ∷ codes "8") ks → ⊥
+pub not_ended_lists_none : (ks : List ℕ) → Lists Two (codes "7" ++ 10 ∷ codes "8") ks → ⊥
 not_ended_lists_none ks lists = no_bad_line Two (codes "7" ++ 10 ∷ codes "8") ks 2 lists not_ended
 
 seven_again_lists_none : (ks : List ℕ) → Lists Two (codes "7" ++ 10 ∷ codes "0:7" ++ 10 ∷ []) ks → ⊥

@@ -1,3 +1,4 @@
+pub mod CountRows
 pub mod JoinedLifeRows
 pub mod JoinedLives
 mod LeftRows
@@ -7,4 +8,6 @@ pub mod Plays
 pub mod ScanRows
 pub mod Scans
 pub mod StageRows
+pub mod TiedRows
 pub mod Welcome
+pub mod WelcomeRows
