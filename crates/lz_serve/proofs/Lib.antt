@@ -34,3 +34,4 @@ pub mod RunningLoops
 pub mod QueryRows
 pub mod Listings
 pub mod PageRows
+pub mod OptionRows
