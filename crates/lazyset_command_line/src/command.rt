@@ -9,7 +9,7 @@ const VERSION: &str = "1.14, logic dac8208d650f15bf";
 /// The same version's numbers.
 pub const MAJOR: usize = 1;
 
-pub const MINOR: usize = 13;
+pub const MINOR: usize = 14;
 
 /// Where a service listens.
 #[derive(Clone, Copy)]
