@@ -1,6 +1,8 @@
 //! The service of a file, until it is asked to stop.
-ghost use Rattle.std.specs.Prelude.{◌≤◌};
+ghost use Rattle.std.specs.Prelude.{◌≡◌, ◌⊎◌, ◌≤◌, option_map};
 ghost use Rattle.lz_slot.specs.Limits.{most_buckets, most_passes};
+ghost use Rattle.lz_vault.specs.Opens.{MayOpen};
+ghost use Rattle.lazyset_commands.specs.Services.{RanService, RefusedService};
 
 use crate::at_path::{SocketFile, listen_at};
 use crate::backlog::Backlog;
@@ -13,7 +15,7 @@ use crate::log::{Log, Stoppable, Surroundings};
 use crate::ready::Ready;
 use crate::watched::Watched;
 use lazyset_commands::{Listener, Place, ServeOptions, Status, serve_on};
-use lz_disk::FileDisk;
+use lz_disk::{Disk, FileDisk};
 use std::fs::File;
 use std::io::Write;
 use std::net::{Net, TcpListener, TcpStream};
@@ -117,7 +119,12 @@ where
     let place = at.place(rt);
     let socket = socket_of(rt, &place);
     let log = Log::new(rt, file, watched, around);
-    let (status, disk, waiting) = serve_until(
+    let Ended {
+        status,
+        disk,
+        waiting,
+        writer: _,
+    } = serve_until(
         rt,
         writer,
         &log,
@@ -140,33 +147,51 @@ where
     Ok(status)
 }
 
-// Serves the set while others hear whether it is to end. Hands back who asked for that.
-fn serve_until<R, W, O>(
+/// What a service leaves.
+pub struct Ended<D, W> {
+    pub status: Status,
+    pub disk: D,
+    pub writer: W,
+    /// Those who asked for its end, and wait for it.
+    pub waiting: Vec<UnixStream>,
+}
+
+/// Serves the set on this disk, whichever disk that is, while others hear whether it is to end.
+pub fn serve_until<R, W, O, D>(
     rt: &R,
-    writer: &mut W,
+    writer: W,
     log: &O,
-    disk: FileDisk,
+    disk: D,
     options: ServeOptions,
     place: Place<'_>,
     control: Option<&Control>,
     until_eof: bool,
-) -> (Status, FileDisk, Vec<UnixStream>)
+) -> Ended<D, W>
 where
     R: Net<Listener = TcpListener, Stream = TcpStream>,
     R: Threads + Wait + Clock + AllocGlobal + Sync,
     W: Write + Drop,
     O: Stoppable + Sync,
+    D: Disk + Send + Drop,
     requires passes { (1 ≤ options.passes) × (options.passes ≤ most_passes) }
     requires buckets { (1 ≤ options.buckets) × (options.buckets ≤ most_buckets) }
+    requires medium { MayOpen (D.device disk) }
+    ensures ran { RanService D.device options.buckets options.passes (option_map (λ p. p.now) place.entry.path) result.status (W.contents writer) (W.contents result.writer) disk result.disk
+        ⊎ RefusedService D.device result.status (W.contents writer) (W.contents result.writer) disk result.disk }
 {
+    // The closure holds a `Vec`: of one that holds an `Option<&str>`, as the place does, and none, the kit can't state the contract.
+    let nobody = Vec::new(rt.alloc());
     let is_over = AtomicBool::new(false);
     let is_over = &is_over;
     thread::scope(
         thread::scope_env(),
         rt,
-        move |scope| -> (Status, FileDisk, Vec<UnixStream>)
+        move |scope| -> Ended<D, W>
             requires passes { (1 ≤ options.passes) × (options.passes ≤ most_passes) }
             requires buckets { (1 ≤ options.buckets) × (options.buckets ≤ most_buckets) }
+            requires medium { MayOpen (D.device disk) }
+            ensures ran { RanService D.device options.buckets options.passes (option_map (λ p. p.now) place.entry.path) result.status (W.contents writer) (W.contents result.writer) disk result.disk
+                ⊎ RefusedService D.device result.status (W.contents writer) (W.contents result.writer) disk result.disk }
         {
             let hearing = match control {
                 Some(control) => scope
@@ -181,19 +206,25 @@ where
             } else {
                 None
             };
-            let (status, disk) = serve_on(rt, writer, log, disk, options, place);
+            let mut writer = writer;
+            let (status, disk) = serve_on(rt, &mut writer, log, disk, options, place);
             is_over.store(true, Ordering::SeqCst);
             if let Some(control) = control {
                 control.close();
             }
             let waiting = match hearing {
                 Some(hearing) => hearing.join(rt),
-                None => Vec::new(rt.alloc()),
+                None => nobody,
             };
             if let Some(reading) = reading {
                 reading.join(rt);
             }
-            (status, disk, waiting)
+            Ended {
+                status,
+                disk,
+                writer,
+                waiting,
+            }
         },
     )
 }
