@@ -1,57 +1,52 @@
 use Rattle.lz_disk.proofs.left.left_by_mask.Goals as goal
-use Rattle.std.proofs.{Common.{rules, ◌≡◌, ◌≤◌, ◌<◌, ℕ, Bool, true, false, length, get_or, if◌then◌else◌, sym, ◌∙◌, ap, arith}, lemmas.List.{set-get_or}}
-use Rattle.std.proofs.lemmas.Bool.{ltb-false}
-use Rattle.lz_disk.{specs.Picks.{is_taken}, proofs.MaskImages.{masking_begins, masking_pushes, masking_goes_on, masking_stops, masking_ends}}
+use Rattle.std.proofs.Common.{rules, ◌≡◌, ◌≤◌, ◌<◌, ◌+◌, [], ◌∷◌, ℕ, List, Bool, true, false, length, get_or, drop, if◌then◌else◌, sym, refl, ◌∙◌, ap, arith}
+use Rattle.std.proofs.lemmas.{List.{set-get_or, drop_all}, Bool.{ltb-false}}
+use Rattle.lz_disk.{specs.Picks.{is_taken, with_mask}, proofs.PartImages.{making_begins, making_pushes, making_goes_on, making_ends}}
 use Rattle.lz_disk.proofs.left.left_by_mask.Goals.{then-at-len, else-at-len, then-at-len-2+in_ok-push, else-at-len-2+then-is_taken-2}
 use Rattle.lz_disk.proofs.left.left_by_mask.Goals.{else-at-len-2+else-is_taken-2, then-loop-at-test+else-is_taken, else-loop-at-test}
 
 pub loop-at-init : goal.loop-at-init
-loop-at-init c = masking_begins c.args.sure.now c.args.seen.now c.args.mask c.in_ok-text.text.items (search rules)
-
-picked : (q : Bool) (b a : ℕ) → q ≡ true → b ≡ (if q then b else a)
-picked q b a is = ap (λ (p : Bool). if p then b else a) (sym is)
-
-kept : (q : Bool) (b a c : ℕ) → q ≡ false → c ≡ a → a ≡ (if q then b else c)
-kept q b a c is same = sym same ∙ ap (λ (p : Bool). if p then b else c) (sym is)
+loop-at-init c = making_begins (with_mask c.args.mask 0) c.args.sure.now c.args.seen.now c.in_ok-text.text.items (search rules)
 
 pub loop-at-preserved : goal.loop-at-preserved
 loop-at-preserved c =
-    let sure = c.args.sure.now in
-    let seen = c.args.seen.now in
-    let lt : c.loop-at.at < length seen = search rules in
+    let at = c.loop-at.at in
+    let byte = get_or c.args.seen.now at 0 in
+    let old = c.loop-at.text.items in
+    let new = c.if-at-len-2.text.items in
+    let zs = drop (at + 1) c.args.seen.now in
+    let next = with_mask c.args.mask (at + 1) in
+    let lt : at < length c.args.seen.now = search rules in
+    let either : (ys : List ℕ) (q : Bool) → is_taken c.args.mask at ≡ q → with_mask c.args.mask at (get_or old at 0 ∷ ys) (byte ∷ zs) ≡ (if q then byte else get_or old at 0) ∷ next ys zs =
+    λ ys q is. ap (λ (r : Bool). (if r then byte else get_or old at 0) ∷ next ys zs) is in
     elim c.if-at-len-2.branch [
       | then-at-len-2+in_ok-push w ↦
-          let long : length c.loop-at.text.items ≤ c.loop-at.at = search rules in
-          let taken : is_taken c.args.mask c.loop-at.at ≡ true = elim c.if-at-len.branch [
-            | then-at-len v ↦ (let low : c.loop-at.at < length c.loop-at.text.items = search rules in absurd (omega arith))
+          let taken : is_taken c.args.mask at ≡ true = elim c.if-at-len.branch [
+            | then-at-len v ↦ (let low : at < length old = search rules in absurd (omega arith))
             | else-at-len v ↦ cc
           ] in
-          masking_pushes sure seen c.args.mask c.loop-at.at c.loop-at.text.items c.if-at-len-2.text.items lt c.loop-at.invariant long taken
-          (search rules)
-      | else-at-len-2+then-is_taken-2 w ↦
-          let taken : is_taken c.args.mask c.loop-at.at ≡ true = cc in
-          masking_goes_on sure seen c.args.mask c.loop-at.at c.loop-at.text.items c.if-at-len-2.text.items lt (get_or seen c.loop-at.at 0) c.loop-at.invariant (search rules)
-          (λ a is. picked (is_taken c.args.mask c.loop-at.at) (get_or seen c.loop-at.at 0) a taken)
-          (search rules)
+          making_pushes c.loop-at.invariant next new lt (search rules) (ap (λ (q : Bool). if q then byte ∷ next [] zs else []) taken) (search rules)
+      | else-at-len-2+then-is_taken-2 w ↦ making_goes_on c.loop-at.invariant next new lt byte (search rules) (either _ true cc) (search rules)
       | else-at-len-2+else-is_taken-2 w ↦
-          let shut : is_taken c.args.mask c.loop-at.at ≡ false = cc in
-          let same : c.if-at-len-2.text.items ≡ c.loop-at.text.items = search rules in
-          masking_goes_on sure seen c.args.mask c.loop-at.at c.loop-at.text.items c.if-at-len-2.text.items lt (get_or c.loop-at.text.items c.loop-at.at 0) c.loop-at.invariant (search rules)
-          (λ a is. kept (is_taken c.args.mask c.loop-at.at) (get_or seen c.loop-at.at 0) (get_or c.loop-at.text.items c.loop-at.at 0) a shut is)
-          (same ∙ sym (set-get_or c.loop-at.text.items c.loop-at.at 0))
+          let same : new ≡ old = search rules in
+          making_goes_on c.loop-at.invariant next new lt (get_or old at 0) (search rules) (either _ false cc) (same ∙ sym (set-get_or old at 0))
     ]
+
+stops : (mask at : ℕ) (text seen : List ℕ) → text ≡ [] → is_taken mask at ≡ false → with_mask mask at text seen ≡ text
+stops mask at text [] none shut = refl
+stops mask at [] (b ∷ seen) none shut = ap (λ (q : Bool). if q then b ∷ with_mask mask (at + 1) [] seen else []) shut
+stops mask at (a ∷ text) (b ∷ seen) none shut = absurd (omega (arith, ap length none))
 
 pub returns : goal.returns
 returns c =
-    let sure = c.args.sure.now in
-    let seen = c.args.seen.now in
+    let at = c.loop-at.at in
+    let rest = drop at c.loop-at.text.items in
+    let seen = drop at c.args.seen.now in
     elim c.loop-at-test.branch [
       | then-loop-at-test+else-is_taken w ↦
           elim w.if-at-len.branch [
-            | then-at-len v ↦ (let high : w.len.result ≤ c.loop-at.at = ltb-false c.loop-at.at w.len.result (sym v.value-is ∙ w.if-is_taken.false) in absurd (omega arith))
-            | else-at-len v ↦
-                (let shut : is_taken c.args.mask c.loop-at.at ≡ false = cc in
-                masking_stops sure seen c.args.mask c.loop-at.at c.loop-at.text.items c.loop-at.text.items (search rules) c.loop-at.invariant (search rules) shut)
+            | then-at-len v ↦ (let high : w.len.result ≤ at = ltb-false at w.len.result (sym v.value-is ∙ w.if-is_taken.false) in absurd (omega arith))
+            | else-at-len v ↦ making_ends c.loop-at.invariant (stops c.args.mask at rest seen (drop_all at c.loop-at.text.items (search rules)) cc)
           ]
-      | else-loop-at-test w ↦ masking_ends sure seen c.args.mask c.loop-at.at c.loop-at.text.items c.loop-at.invariant (search rules)
+      | else-loop-at-test w ↦ making_ends c.loop-at.invariant (ap (with_mask c.args.mask at rest) (drop_all at c.args.seen.now (search rules)))
     ]
