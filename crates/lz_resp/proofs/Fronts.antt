@@ -36,15 +36,14 @@ words_found text line rest words e first front plain its fit back =
     let fits_so : fits (words_of line) ≡ true = ap fits (sym its) ∙ fit in
     line_first text line e first front ∙ rw (plain, fits_so) (cc (its, back))
 
--- words before those that were read
-abbrev pub with_front : List (List ℕ) → Front (List (List ℕ)) → Front (List (List ℕ))
-with_front front r = and_then r (λ words after. Ok (Some (front ++ words, after)))
+-- words or numbers before those that were read
+abbrev pub with_front : {A : Type 0} → List A → Front (List A) → Front (List A)
+with_front front r = and_then r (λ items after. Ok (Some (front ++ items, after)))
 
-front_more : (front : List (List ℕ)) (word : List ℕ) (r : Front (List (List ℕ)))
-    → with_front front (and_then r (λ words after. Ok (Some (word ∷ words, after)))) ≡ with_front (front ++ word ∷ []) r
-front_more front word (Ok None) = refl
-front_more front word (Ok (Some p)) = ap (λ (x : List (List ℕ)). Ok (Some (x, p.1))) (sym (append_assoc front (word ∷ []) p.0))
-front_more front word (Err f) = refl
+pub front_more : {A : Type 0} (front : List A) (item : A) (r : Front (List A)) → with_front front (and_then r (λ items after. Ok (Some (item ∷ items, after)))) ≡ with_front (front ++ item ∷ []) r
+front_more front item (Ok None) = refl
+front_more front item (Ok (Some p)) = ap (λ x. Ok (Some (x, p.1))) (sym (append_assoc front (item ∷ []) p.0))
+front_more front item (Err f) = refl
 
 pub one_less : (n k : ℕ) → k < n → n - k ≡ suc (n - (k + 1))
 one_less n k h = omega (arith, h)

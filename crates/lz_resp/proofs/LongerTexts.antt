@@ -1,6 +1,6 @@
 -- What was read of a text is read of it with more after it.
-use Rattle.std.proofs.Common.{◌≡◌, ℕ, zero, suc, ◌+◌, ◌-◌, ◌<◌, ◌≤◌, ◌⊎◌, inl, inr, List, [], ◌∷◌, ◌++◌, length, take, drop, true, false, nat_eq, nat_lt}
-use Rattle.std.proofs.{Common.{Option, Some, None, Ok, Err, refl, sym, ap, subst, ◌∙◌, arith, length-append, length-drop}, Math.Seq.{take-append-add}}
+use Rattle.std.proofs.Common.{◌≡◌, ℕ, zero, suc, ◌-◌, ◌<◌, ◌≤◌, ◌⊎◌, inl, inr, List, [], ◌∷◌, ◌++◌, length, take, drop, true, false, nat_eq, nat_lt, Option}
+use Rattle.std.proofs.{Common.{Some, None, Ok, Err, refl, sym, ap, subst, ◌∙◌, arith, length-append, length-drop}, Math.Seq.{take-append-add}}
 use Rattle.std.proofs.lemmas.{List.{take-append-le, drop-append-le, take_all, length-take}, Bool.{cond_both, Decides.{nat_tests}}}
 use Rattle.std.specs.Prelude.{◌==◌, option_map}
 use Rattle.lz_slot.specs.{Numerals.{number_in}, Texts.{parted}}
@@ -23,13 +23,11 @@ nothing = Ok None
 -- values that were read alike are alike
 value_in : {A : Type 0} → A → Front A → A
 value_in x (Ok (Some p)) = p.0
-value_in x (Ok None) = x
-value_in x (Err f) = x
+value_in x _ = x
 
 rest_in : {A : Type 0} → Front A → List ℕ
 rest_in (Ok (Some p)) = p.1
-rest_in (Ok None) = []
-rest_in (Err f) = []
+rest_in _ = []
 
 pub same_read : {A : Type 0} (x y : A) (s t : List ℕ) → given x s ≡ given y t → (x ≡ y) × (s ≡ t)
 unfolding value_in rest_in
@@ -42,9 +40,8 @@ pub record Then {A B : Type 0} (r : Front A) (next : A → List ℕ → Front B)
   pub second : next x rest ≡ to
 
 pub then_value : {A B : Type 0} (r : Front A) (next : A → List ℕ → Front B) (y : B) (after : List ℕ) → and_then r next ≡ Ok (Some (y, after)) → Then r next (Ok (Some (y, after)))
-then_value (Ok None) next y after h = absurd (cc)
 then_value (Ok (Some p)) next y after h = record { x = p.0; rest = p.1; first = refl; second = h }
-then_value (Err f) next y after h = absurd (cc)
+then_value _ next y after h = absurd (cc)
 
 then_fault : {A B : Type 0} (r : Front A) (next : A → List ℕ → Front B) (f : Fault) → and_then r next ≡ Err f → (r ≡ Err f) ⊎ Then r next (Err f)
 then_fault (Ok None) next f h = absurd (cc)
@@ -79,7 +76,7 @@ wrong g text = Err g
 pub stays_wrong : {A : Type 0} (g : Fault) → Stays {A = A} (wrong g)
 stays_wrong g = record { value = λ text more y rest h. absurd (cc); fault = λ text more f h. h }
 
-end_value : (fault : Fault) (text more : List ℕ) (x : Unit {0}) (rest : List ℕ) → end_at fault text ≡ Ok (Some (x, rest)) → (end_at fault (text ++ more) ≡ Ok (Some (x, rest ++ more))) × (length rest + 2 ≤ length text)
+end_value : (fault : Fault) (text more : List ℕ) (x : Unit {0}) (rest : List ℕ) → end_at fault text ≡ Ok (Some (x, rest)) → (end_at fault (text ++ more) ≡ Ok (Some (x, rest ++ more))) × (length rest ≤ length text)
 end_value fault [] more x rest h = absurd (cc)
 end_value fault (b ∷ []) more x rest h = grind (arith, cond_both)
 end_value fault (b ∷ c ∷ t) more x rest h = grind (arith, cond_both, same_read)
@@ -89,6 +86,9 @@ end_fault fault [] more f h = absurd (cc)
 end_fault fault (b ∷ []) [] f h = h
 end_fault fault (b ∷ []) (c ∷ t) f h = grind (arith, cond_both)
 end_fault fault (b ∷ c ∷ t) more f h = grind (arith, cond_both)
+
+stays_ended : (fault : Fault) (x : List ℕ) → Stays (λ text. and_then (end_at fault text) (λ _ after. Ok (Some (x, after))))
+stays_ended fault x = stays_then (end_at fault) (λ _ after. Ok (Some (x, after))) (record { value = end_value fault; fault = end_fault fault }) (λ _. stays_given x)
 
 -- a part before a byte stays
 pub record Parts (c : ℕ) (text more : List ℕ) (p : List ℕ × List ℕ) : Type 0 where
@@ -115,21 +115,12 @@ line_value : (fault : Fault) (text more : List ℕ) (x rest : List ℕ) (q : Opt
 line_value fault text more x rest None is h = absurd (cc)
 line_value fault text more x rest (Some p) is h =
     let parts = parts_stay carriage_return text more p is in
-    let t = then_value (end_at fault (carriage_return ∷ p.1)) (λ _ after. Ok (Some (p.0, after))) x rest h in
-    let a = end_value fault (carriage_return ∷ p.1) more t.x t.rest t.first in
-    let same = same_read p.0 x t.rest rest t.second in (
-      ap (line_of fault) parts.still ∙ ap (λ r. and_then r (λ _ after. Ok (Some (p.0, after)))) a.0 ∙ cc (same.0, ap (λ (t : List ℕ). t ++ more) same.1),
-      omega (arith, a.1, parts.shorter, ap length same.1),
-    )
+    let so = (stays_ended fault p.0).value (carriage_return ∷ p.1) more x rest h in
+    (ap (line_of fault) parts.still ∙ so.0, omega (arith, so.1, parts.shorter))
 
 line_fault : (fault : Fault) (text more : List ℕ) (f : Fault) (q : Option (List ℕ × List ℕ)) → parted carriage_return text ≡ q → line_of fault q ≡ Err f → line_at fault (text ++ more) ≡ Err f
 line_fault fault text more f None is h = absurd (cc)
-line_fault fault text more f (Some p) is h =
-    let parts = parts_stay carriage_return text more p is in
-    ap (line_of fault) parts.still ∙ elim (then_fault (end_at fault (carriage_return ∷ p.1)) (λ _ after. Ok (Some (p.0, after))) f h) [
-      | inl e ↦ ap (λ r. and_then r (λ _ after. Ok (Some (p.0, after)))) (end_fault fault (carriage_return ∷ p.1) more f e)
-      | inr t ↦ absurd (let both = t.second in cc)
-    ]
+line_fault fault text more f (Some p) is h = ap (line_of fault) (parts_stay carriage_return text more p is).still ∙ (stays_ended fault p.0).fault (carriage_return ∷ p.1) more f h
 
 pub stays_line : (fault : Fault) → Stays (line_at fault)
 stays_line fault = record { value = λ text more x rest h. line_value fault text more x rest (parted carriage_return text) refl h; fault = λ text more f h. line_fault fault text more f (parted carriage_return text) refl h }
@@ -148,12 +139,8 @@ word_value n text more x rest =
     (λ enough_left h.
     let enough = long_enough n text more enough_left in
     let cut = stays_cut n text more enough.0 in
-    let t = then_value (end_at NoEnd (drop n text)) (λ _ after. Ok (Some (take n text, after))) x rest h in
-    let a = end_value NoEnd (drop n text) more t.x t.rest t.first in
-    let same = same_read (take n text) x t.rest rest t.second in (
-      rw (enough.1, cut.0, cut.1) (ap (λ r. and_then r (λ _ after. Ok (Some (take n text, after)))) a.0 ∙ cc (same.0, ap (λ (t : List ℕ). t ++ more) same.1)),
-      omega (arith, a.1, length-drop n text, ap length same.1),
-    ))
+    let so = (stays_ended NoEnd (take n text)).value (drop n text) more x rest h in
+    (rw (enough.1, cut.0, cut.1) so.0, omega (arith, so.1, length-drop n text)))
 
 word_fault : (n : ℕ) (text more : List ℕ) (f : Fault) → word_of (Some n) text ≡ Err f → word_of (Some n) (text ++ more) ≡ Err f
 word_fault n text more f =
@@ -163,10 +150,7 @@ word_fault n text more f =
     (λ enough_left h.
     let enough = long_enough n text more enough_left in
     let cut = stays_cut n text more enough.0 in
-    rw (enough.1, cut.0, cut.1) (elim (then_fault (end_at NoEnd (drop n text)) (λ _ after. Ok (Some (take n text, after))) f h) [
-      | inl e ↦ ap (λ r. and_then r (λ _ after. Ok (Some (take n text, after)))) (end_fault NoEnd (drop n text) more f e)
-      | inr t ↦ absurd (let both = t.second in cc)
-    ]))
+    rw (enough.1, cut.0, cut.1) ((stays_ended NoEnd (take n text)).fault (drop n text) more f h))
 
 stays_word_of : (n : Option ℕ) → Stays (word_of n)
 stays_word_of None = stays_wrong Length
@@ -338,8 +322,7 @@ short_by : (text : List ℕ) (r : Front (List (List ℕ))) → first_by text r �
 short_by text (Ok None) h =
     cond_both (nat_lt most_frame (length text)) (Err TooLong) (Ok None) (λ r. r ≡ Ok None → length text ≤ most_frame)
     (λ _ h. absurd (cc)) (λ near h. grind (arith, nat_tests)) h
-short_by text (Ok (Some p)) h = absurd (cc)
-short_by text (Err f) h = absurd (cc)
+short_by text _ h = absurd (cc)
 
 -- a text that waits is no longer than a frame
 pub short_waits : (text : List ℕ) → first_of text ≡ Ok None → length text ≤ most_frame

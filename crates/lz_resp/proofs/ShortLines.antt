@@ -25,9 +25,6 @@ Begins text n rest = (text ≡ decimal n ++ line_end ++ rest) × (n < 100)
 
 -- a line of one digit
 pub line_of_one : (text : List ℕ) (n : ℕ) → 3 ≤ length text → digit_of (get_or text 0 0) ≡ Some n → get_or text 1 0 ≡ 13 → get_or text 2 0 ≡ 10 → Begins text n (take (length text - 3) (drop 3 text))
-line_of_one [] n long is cr lf = absurd (omega (arith, long))
-line_of_one (a ∷ []) n long is cr lf = absurd (omega (arith, long))
-line_of_one (a ∷ b ∷ []) n long is cr lf = absurd (omega (arith, long))
 line_of_one (a ∷ b ∷ c ∷ rest) n long is cr lf =
     let so = digit_is a n is in
     let digits : a ∷ [] ≡ decimal n = ap (λ (x : ℕ). x ∷ []) so.0 ∙ sym (decimal_digit n (omega (arith, so.1))) in
@@ -36,14 +33,11 @@ line_of_one (a ∷ b ∷ c ∷ rest) n long is cr lf =
       whole ∙ ap (λ (d : List ℕ). d ++ line_end ++ rest) digits ∙ ap (λ (t : List ℕ). decimal n ++ line_end ++ t) tail,
       omega (arith, so.1),
     )
+line_of_one _ n long is cr lf = absurd (omega (arith, long))
 
 -- a line of two digits
 pub line_of_two : (text : List ℕ) (m n : ℕ) → 4 ≤ length text → digit_of (get_or text 0 0) ≡ Some m → digit_of (get_or text 1 0) ≡ Some n → (m ≡ 0 → ⊥) → get_or text 2 0 ≡ 13
     → get_or text 3 0 ≡ 10 → Begins text (10 * m + n) (take (length text - 4) (drop 4 text))
-line_of_two [] m n long is its some cr lf = absurd (omega (arith, long))
-line_of_two (a ∷ []) m n long is its some cr lf = absurd (omega (arith, long))
-line_of_two (a ∷ b ∷ []) m n long is its some cr lf = absurd (omega (arith, long))
-line_of_two (a ∷ b ∷ c ∷ []) m n long is its some cr lf = absurd (omega (arith, long))
 line_of_two (a ∷ b ∷ c ∷ d ∷ rest) m n long is its some cr lf =
     let tens = digit_is a m is in
     let units = digit_is b n its in
@@ -54,15 +48,15 @@ line_of_two (a ∷ b ∷ c ∷ d ∷ rest) m n long is its some cr lf =
     let tail : rest ≡ take (length (a ∷ b ∷ c ∷ d ∷ rest) - 4) rest = sym (ap (λ (k : ℕ). take k rest) (omega arith) ∙ take-length rest) in
     let whole : a ∷ b ∷ c ∷ d ∷ rest ≡ (a ∷ b ∷ []) ++ line_end ++ rest = cc (cr, lf) in
     (whole ∙ ap (λ (d : List ℕ). d ++ line_end ++ rest) digits ∙ ap (λ (t : List ℕ). decimal (10 * m + n) ++ line_end ++ t) tail, low)
+line_of_two _ m n long is its some cr lf = absurd (omega (arith, long))
 
 -- what follows CR and LF
 ended_found : (ended : List ℕ) → 2 ≤ length ended → get_or ended 0 0 ≡ 13 → get_or ended 1 0 ≡ 10 → end_at NoEnd ended ≡ Ok (Some (tt, take (length ended - 2) (drop 2 ended)))
-ended_found [] long cr lf = absurd (omega (arith, long))
-ended_found (a ∷ []) long cr lf = absurd (omega (arith, long))
 ended_found (a ∷ b ∷ rest) long cr lf =
     let test : (a == carriage_return) && (b == line_feed) ≡ true = grind (arith, nat_tests) in
     let tail : rest ≡ take (length (a ∷ b ∷ rest) - 2) rest = sym (ap (λ (k : ℕ). take k rest) (omega arith) ∙ take-length rest) in
     rw test (ap (λ (t : List ℕ). Ok (Some (tt, t))) tail)
+ended_found _ long cr lf = absurd (omega (arith, long))
 
 word_cut : (n : ℕ) (front word ended : List ℕ) → n ≤ length front → word ≡ take n front → ended ≡ drop n front → 2 ≤ length ended → get_or ended 0 0 ≡ 13 → get_or ended 1 0 ≡ 10
     → word_of (Some n) front ≡ Ok (Some (word, take (length ended - 2) (drop 2 ended)))
@@ -92,14 +86,11 @@ three_words a b c first second third rest h k l = one_more 2 a b rest first (sec
 
 frame_of_three : (text : List ℕ) (words : List (List ℕ)) (rest : List ℕ) → 4 ≤ length text → get_or text 0 0 ≡ 42 → get_or text 1 0 ≡ 51 → get_or text 2 0 ≡ 13 → get_or text 3 0 ≡ 10
     → words_at 3 (take (length text - 4) (drop 4 text)) ≡ Ok (Some (words, rest)) → frame_at text ≡ Ok (Some (words, rest))
-frame_of_three [] words rest long star three cr lf is = absurd (omega (arith, long))
-frame_of_three (a ∷ []) words rest long star three cr lf is = absurd (omega (arith, long))
-frame_of_three (a ∷ b ∷ []) words rest long star three cr lf is = absurd (omega (arith, long))
-frame_of_three (a ∷ b ∷ c ∷ []) words rest long star three cr lf is = absurd (omega (arith, long))
 frame_of_three (a ∷ b ∷ c ∷ d ∷ t) words rest long star three cr lf is =
     let whole : a ∷ b ∷ c ∷ d ∷ t ≡ 42 ∷ 51 ∷ 13 ∷ 10 ∷ t = cc (star, three, cr, lf) in
     let tail : t ≡ take (length (a ∷ b ∷ c ∷ d ∷ t) - 4) t = sym (ap (λ (k : ℕ). take k t) (omega arith) ∙ take-length t) in
     ap frame_at whole ∙ ap (words_at 3) tail ∙ is
+frame_of_three _ words rest long star three cr lf is = absurd (omega (arith, long))
 
 -- a frame of three words
 pub three_found : (text window a b first second third rest : List ℕ) → window ≡ take most_frame text → 4 ≤ length window → get_or window 0 0 ≡ 42 → get_or window 1 0 ≡ 51 → get_or window 2 0 ≡ 13

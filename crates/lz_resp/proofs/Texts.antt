@@ -4,15 +4,12 @@ use Rattle.std.{proofs.{Common.{arith, append_assoc}, lemmas.List.{append-nil, n
 use Rattle.lz_resp.specs.{Limits.{most_frame}, Reading.{Front, first_of}, Keys.{at_first}, Commands.{item_of, selected_after}, Replies.{fault_text}}
 use Rattle.lz_resp.specs.Pieces.{AnyPieces, Feeds, FeedsAll, Items, OneListOfItems, Place, Reads, Step, followed, goes, start, step, step_by, step_of}
 use Rattle.lz_resp.specs.{Pieces.{step_with, stopped, stops, unfinished, waits}, declared.{fault.Fault.{Fault}, naming.Selected.{Selected}, item.Item.{Item}}}
-use Rattle.lz_resp.{specs.declared.item.Item.TheVariants.{Asks, Says, Lists, Tells, Ends}, proofs.LongerTexts.{first_fault, first_value, short_waits}}
+use Rattle.lz_resp.{specs.declared.item.Item.TheVariants.{Ends}, proofs.LongerTexts.{first_fault, first_value, short_waits}}
 
 by_goes : (item : Item) (selected : Selected) (after more : List ℕ) (items : List Item) (next : Selected) (rest : List ℕ) → step_by item selected after ≡ goes items next rest
     → (step_by item selected (after ++ more) ≡ goes items next (rest ++ more)) × (after ≡ rest)
-by_goes (Asks form requests) selected after more items next rest h = let same : after ≡ rest = cc in (cc (ap (λ (t : List ℕ). t ++ more) same), same)
-by_goes (Says text) selected after more items next rest h = let same : after ≡ rest = cc in (cc (ap (λ (t : List ℕ). t ++ more) same), same)
-by_goes (Lists scan) selected after more items next rest h = let same : after ≡ rest = cc in (cc (ap (λ (t : List ℕ). t ++ more) same), same)
-by_goes (Tells query) selected after more items next rest h = let same : after ≡ rest = cc in (cc (ap (λ (t : List ℕ). t ++ more) same), same)
 by_goes (Ends text) selected after more items next rest h = absurd (cc)
+by_goes _ selected after more items next rest h = let same : after ≡ rest = cc in (cc (ap (λ (t : List ℕ). t ++ more) same), same)
 
 with_goes : (selected : Selected) (words : List (List ℕ)) (after more : List ℕ) (items : List Item) (next : Selected) (rest : List ℕ) → step_with selected words after ≡ goes items next rest
     → (step_with selected words (after ++ more) ≡ goes items next (rest ++ more)) × (after ≡ rest)
@@ -20,11 +17,8 @@ with_goes selected [] after more items next rest h = let same : after ≡ rest =
 with_goes selected (word ∷ words) after more items next rest h = by_goes (item_of selected (word ∷ words)) (selected_after selected (word ∷ words)) after more items next rest h
 
 by_stops : (item : Item) (selected : Selected) (after more : List ℕ) (items : List Item) → step_by item selected after ≡ stops items → step_by item selected (after ++ more) ≡ stops items
-by_stops (Asks form requests) selected after more items h = absurd (cc)
-by_stops (Says text) selected after more items h = absurd (cc)
-by_stops (Lists scan) selected after more items h = absurd (cc)
-by_stops (Tells query) selected after more items h = absurd (cc)
 by_stops (Ends text) selected after more items h = h
+by_stops _ selected after more items h = absurd (cc)
 
 with_stops : (selected : Selected) (words : List (List ℕ)) (after more : List ℕ) (items : List Item) → step_with selected words after ≡ stops items → step_with selected words (after ++ more) ≡ stops items
 with_stops selected [] after more items h = absurd (cc)
@@ -169,11 +163,8 @@ any_pieces naming pieces items new fed =
     items_end first (concat pieces) items new (fed_all first [] [] (Some (start naming)) pieces items new (step_empty first [] refl, λ rest others is. is) fed)
 
 by_waits : (item : Item) (selected : Selected) (rest : List ℕ) → step_by item selected rest ≡ waits → ⊥
-by_waits (Asks form requests) selected rest h = absurd (cc)
-by_waits (Says text) selected rest h = absurd (cc)
-by_waits (Lists scan) selected rest h = absurd (cc)
-by_waits (Tells query) selected rest h = absurd (cc)
 by_waits (Ends text) selected rest h = absurd (cc)
+by_waits _ selected rest h = absurd (cc)
 
 of_waits : (selected : Selected) (r : Front (List (List ℕ))) → step_of selected r ≡ waits → r ≡ Ok None
 of_waits selected (Ok None) h = refl
