@@ -3,6 +3,7 @@ pub mod Hashed
 pub mod Joined
 pub mod KeyRows
 pub mod LongerTexts
+pub mod Many
 pub mod PageFronts
 pub mod PageRows
 pub mod PageTexts

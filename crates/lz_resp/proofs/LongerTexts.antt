@@ -2,7 +2,7 @@
 use Rattle.std.proofs.Common.{◌≡◌, ℕ, zero, suc, ◌-◌, ◌<◌, ◌≤◌, ◌⊎◌, inl, inr, List, [], ◌∷◌, ◌++◌, length, take, drop, true, false, nat_eq, nat_lt, Option}
 use Rattle.std.proofs.{Common.{Some, None, Ok, Err, refl, sym, ap, subst, ◌∙◌, arith, length-append, length-drop}, Math.Seq.{take-append-add}}
 use Rattle.std.proofs.lemmas.{List.{take-append-le, drop-append-le, take_all, length-take}, Bool.{cond_both, Decides.{nat_tests}}}
-use Rattle.std.specs.Prelude.{◌==◌, option_map}
+use Rattle.std.specs.Prelude.{◌==◌, option_map, if◌then◌else◌}
 use Rattle.lz_slot.specs.{Numerals.{number_in}, Texts.{parted}}
 use Rattle.lz_resp.specs.{Limits.{most_frame, most_word}, Frames.{star, dollar}, Reading.{Front, and_then, array_at, array_of, bulk_at, count_of, end_at}}
 use Rattle.lz_resp.specs.Reading.{first_by, first_of, frame_at, inline_at, inline_of, line_at, line_of, word_at, word_of, words_at}
@@ -159,20 +159,25 @@ stays_word_of (Some n) = record { value = word_value n; fault = word_fault n }
 stays_bulk : Stays bulk_at
 stays_bulk = stays_then (line_at Length) (λ digits rest. word_of (number_in 0 most_word digits) rest) (stays_line Length) (λ digits. stays_word_of (number_in 0 most_word digits))
 
-word_at_value : (text more x rest : List ℕ) → word_at text ≡ Ok (Some (x, rest)) → (word_at (text ++ more) ≡ Ok (Some (x, rest ++ more))) × (length rest ≤ length text)
-word_at_value [] more x rest h = absurd (cc)
-word_at_value (b ∷ t) more x rest h =
-    cond_both (b == dollar) (bulk_at t) (Err (NoBulk b)) (λ r. r ≡ Ok (Some (x, rest)) → (word_at (b ∷ (t ++ more)) ≡ Ok (Some (x, rest ++ more))) × (length rest ≤ length (b ∷ t)))
-    (λ yes h. let so = stays_bulk.value t more x rest h in (rw yes so.0, omega (arith, so.1))) (λ _ h. absurd (cc)) h
+-- what is read after a first byte of one kind
+module _ {A : Type 0} (c : ℕ) (other : ℕ → Fault) (read whole : List ℕ → Front A) (none : whole [] ≡ Ok None) (some : (b : ℕ) (t : List ℕ) → whole (b ∷ t) ≡ (if b == c then read t else Err (other b))) (stays : Stays read) where
+  after_value : (text more : List ℕ) (x : A) (rest : List ℕ) → whole text ≡ Ok (Some (x, rest)) → (whole (text ++ more) ≡ Ok (Some (x, rest ++ more))) × (length rest ≤ length text)
+  after_value [] more x rest h = absurd (let both = sym none ∙ h in cc)
+  after_value (b ∷ t) more x rest h =
+      cond_both (b == c) (read t) (Err (other b)) (λ r. r ≡ Ok (Some (x, rest)) → (whole (b ∷ (t ++ more)) ≡ Ok (Some (x, rest ++ more))) × (length rest ≤ length (b ∷ t)))
+      (λ yes h. let so = stays.value t more x rest h in (some b (t ++ more) ∙ rw yes so.0, omega (arith, so.1))) (λ _ h. absurd (cc)) (sym (some b t) ∙ h)
 
-word_at_fault : (text more : List ℕ) (f : Fault) → word_at text ≡ Err f → word_at (text ++ more) ≡ Err f
-word_at_fault [] more f h = absurd (cc)
-word_at_fault (b ∷ t) more f h =
-    cond_both (b == dollar) (bulk_at t) (Err (NoBulk b)) (λ r. r ≡ Err f → word_at (b ∷ (t ++ more)) ≡ Err f)
-    (λ yes h. rw yes (stays_bulk.fault t more f h)) (λ other h. rw other h) h
+  after_fault : (text more : List ℕ) (f : Fault) → whole text ≡ Err f → whole (text ++ more) ≡ Err f
+  after_fault [] more f h = absurd (let both = sym none ∙ h in cc)
+  after_fault (b ∷ t) more f h =
+      cond_both (b == c) (read t) (Err (other b)) (λ r. r ≡ Err f → whole (b ∷ (t ++ more)) ≡ Err f)
+      (λ yes h. some b (t ++ more) ∙ rw yes (stays.fault t more f h)) (λ not h. some b (t ++ more) ∙ rw not h) (sym (some b t) ∙ h)
+
+  pub stays_after : Stays whole
+  stays_after = record { value = after_value; fault = after_fault }
 
 pub stays_word : Stays word_at
-stays_word = record { value = word_at_value; fault = word_at_fault }
+stays_word = stays_after dollar NoBulk bulk_at word_at refl (λ b t. refl) stays_bulk
 
 pub stays_words : (n : ℕ) → Stays (words_at n)
 stays_words zero = stays_given []

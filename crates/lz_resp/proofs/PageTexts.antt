@@ -1,13 +1,13 @@
 -- What is read is a page, and each page is read.
 use Rattle.std.proofs.Common.{◌≡◌, ℕ, zero, suc, ◌≤◌, List, [], ◌∷◌, ◌++◌, length, Bool, true, false, nat_le, decimal, Option, Some, None, Ok, Err, refl, sym}
-use Rattle.std.proofs.{Common.{ap, subst, ◌∙◌, arith, append_assoc}, lemmas.{Bool.{cond_both, Decides.{nat_tests}}, Fmt.{length-decimal-le}}}
+use Rattle.std.proofs.{Common.{ap, ◌∙◌, arith, append_assoc}, lemmas.{Bool.{cond_both, Decides.{nat_tests}}, Fmt.{length-decimal-le}}}
 use Rattle.std.specs.{Prelude.{◌==◌, if◌then◌else◌}, Fmt.{digits}, List.{flat_map, list_all}}
 use Rattle.lz_slot.{specs.{Limits.{largest_number, most_slots}, Numerals.{number_in}}, proofs.Texts.Numerals.{decimal_read, number_told_of}}
 use Rattle.lz_slot.proofs.Texts.Spellings.{decimal_lacks}
 use Rattle.lz_resp.specs.{Frames.{bulk, star}, Limits.{most_word, most_words}, Pages.{FaultsHaveNoPage, IsPage, PagesAreRead, PagesAreSpelled, counted}}
 use Rattle.lz_resp.specs.Pages.{count_at, heading_at, members_at, number_at, number_text, numbers_at, page_at, page_of, parts_at, told_text}
-use Rattle.lz_resp.specs.{Reading.{Front, and_then, line_at, word_at}, declared.fault.Fault.{Fault, TheVariants.{Count}}}
-use Rattle.lz_resp.proofs.LongerTexts.{Stays, given, same_read, stays_given, stays_line, stays_then, stays_word, stays_wrong, then_value}
+use Rattle.lz_resp.{specs.{Reading.{and_then, line_at, word_at}, declared.fault.Fault.TheVariants.{Count}}, proofs.Many.{AreMany, many_read, many_spelled}}
+use Rattle.lz_resp.proofs.LongerTexts.{Stays, given, same_read, stays_after, stays_given, stays_line, stays_then, stays_word, stays_wrong, then_value}
 use Rattle.lz_resp.proofs.Spellings.{line_read, line_spelled, word_read, word_spelled}
 
 heading_read : (n : ℕ) (more : List ℕ) → n ≤ most_words → heading_at (42 ∷ (decimal n ++ 13 ∷ 10 ∷ more)) ≡ given n more
@@ -20,18 +20,9 @@ number_short n small = let short : length (decimal n) ≤ 18 = length-decimal-le
 number_read : (high n : ℕ) (more : List ℕ) → high ≤ largest_number → n ≤ high → number_at high (number_text n ++ more) ≡ given n more
 number_read high n more within small = grind (arith, word_read, decimal, number_short, decimal_read, small)
 
-small_first : (n : ℕ) (numbers : List ℕ) → list_all (λ number. nat_le number largest_number) (n ∷ numbers) ≡ true
-    → (n ≤ largest_number) × (list_all (λ number. nat_le number largest_number) numbers ≡ true)
-small_first n numbers h = (grind (arith, nat_tests), grind (arith, nat_tests))
-
 numbers_read : (numbers more : List ℕ) → list_all (λ number. nat_le number largest_number) numbers ≡ true → numbers_at (length numbers) (flat_map number_text numbers ++ more) ≡ given numbers more
-numbers_read [] more small = refl
-numbers_read (n ∷ numbers) more small =
-    let both = small_first n numbers small in
-    let rest = flat_map number_text numbers ++ more in
-    ap (numbers_at (suc (length numbers))) (append_assoc (number_text n) (flat_map number_text numbers) more)
-    ∙ ap (λ (r : Front ℕ). and_then r (λ number rest. and_then (numbers_at (length numbers) rest) (λ numbers after. Ok (Some (number ∷ numbers, after))))) (number_read largest_number n rest (omega arith) both.0)
-    ∙ ap (λ (r : Front (List ℕ)). and_then r (λ numbers after. Ok (Some (n ∷ numbers, after)))) (numbers_read numbers more both.1)
+numbers_read = many_read number_text (λ number. nat_le number largest_number) (number_at largest_number) numbers_at (λ text. refl) (λ n text. refl)
+    (λ n rest small. number_read largest_number n rest (omega arith) (grind (arith, nat_tests)))
 
 -- the parts of a page's text
 regroup : (a b c rest : List ℕ)
@@ -73,28 +64,10 @@ number_spelled high text n rest h =
     let word = word_spelled text t.x t.rest t.first in
     (told.0, word.whole ∙ ap (λ (w : List ℕ). bulk w ++ t.rest) told.1 ∙ ap (λ (r : List ℕ). number_text n ++ r) told.2)
 
-record AreNumbers (n : ℕ) (text numbers rest : List ℕ) : Type 0 where
-  pub whole : text ≡ flat_map number_text numbers ++ rest
-  pub count : length numbers ≡ n
-  pub small : list_all (λ number. nat_le number largest_number) numbers ≡ true
-
-numbers_spelled : (n : ℕ) (text numbers rest : List ℕ) → numbers_at n text ≡ given numbers rest → AreNumbers n text numbers rest
-numbers_spelled zero text numbers rest h =
-    let same = same_read [] numbers text rest h in
-    subst (λ (x : List ℕ). AreNumbers zero text x rest) same.0 (record { whole = same.1; count = refl; small = refl })
-numbers_spelled (suc n) text numbers rest h =
-    let t = then_value (number_at largest_number text) (λ number rest. and_then (numbers_at n rest) (λ numbers after. Ok (Some (number ∷ numbers, after)))) numbers rest h in
-    let u = then_value (numbers_at n t.rest) (λ numbers after. Ok (Some (t.x ∷ numbers, after))) numbers rest t.second in
-    let first = number_spelled largest_number text t.x t.rest t.first in
-    let others = numbers_spelled n t.rest u.x u.rest u.first in
-    let same = same_read (t.x ∷ u.x) numbers u.rest rest u.second in
-    let small : nat_le t.x largest_number ≡ true = grind (arith, nat_tests, first.0) in
-    subst (λ (x : List ℕ). AreNumbers (suc n) text x rest) same.0
-    (record {
-      whole = first.1 ∙ ap (λ (x : List ℕ). number_text t.x ++ x) (others.whole ∙ ap (λ (x : List ℕ). flat_map number_text u.x ++ x) same.1) ∙ sym (append_assoc (number_text t.x) (flat_map number_text u.x) rest);
-      count = omega (arith, others.count);
-      small = rw small others.small;
-    })
+numbers_spelled : (n : ℕ) (text numbers rest : List ℕ) → numbers_at n text ≡ given numbers rest → AreMany number_text (λ number. nat_le number largest_number) n text numbers rest
+numbers_spelled = many_spelled number_text (λ number. nat_le number largest_number) (number_at largest_number) numbers_at (λ text. refl) (λ n text. refl) (λ text n rest h.
+    let its = number_spelled largest_number text n rest h in
+    (grind (arith, nat_tests, its.0), its.1))
 
 -- the cursor and the members of a page, and what follows them
 record AreParts (text : List ℕ) (next : ℕ) (numbers rest : List ℕ) : Type 0 where
@@ -108,7 +81,7 @@ members_spelled text numbers rest h =
     let first = heading_spelled text t.x t.rest t.first in
     let told = numbers_spelled t.x t.rest numbers rest t.second in (
       omega (arith, first.0, told.count),
-      told.small,
+      told.each,
       first.1 ∙ ap (λ (k : ℕ). 42 ∷ (decimal k ++ 13 ∷ 10 ∷ t.rest)) (sym told.count) ∙ ap (λ (r : List ℕ). 42 ∷ (decimal (length numbers) ++ 13 ∷ 10 ∷ r)) told.whole,
     )
 
@@ -148,20 +121,8 @@ stays_counted (Some n) = stays_given n
 stays_count : Stays count_at
 stays_count = stays_then (line_at Count) (λ digits rest. counted (number_in 0 most_words digits) rest) (stays_line Count) (λ digits. stays_counted (number_in 0 most_words digits))
 
-heading_value : (text more : List ℕ) (x : ℕ) (rest : List ℕ) → heading_at text ≡ Ok (Some (x, rest)) → (heading_at (text ++ more) ≡ Ok (Some (x, rest ++ more))) × (length rest ≤ length text)
-heading_value [] more x rest h = absurd (cc)
-heading_value (b ∷ t) more x rest h =
-    cond_both (b == star) (count_at t) (Err Count) (λ r. r ≡ Ok (Some (x, rest)) → (heading_at (b ∷ (t ++ more)) ≡ Ok (Some (x, rest ++ more))) × (length rest ≤ length (b ∷ t)))
-    (λ yes h. let so = stays_count.value t more x rest h in (rw yes so.0, omega (arith, so.1))) (λ _ h. absurd (cc)) h
-
-heading_fault : (text more : List ℕ) (f : Fault) → heading_at text ≡ Err f → heading_at (text ++ more) ≡ Err f
-heading_fault [] more f h = absurd (cc)
-heading_fault (b ∷ t) more f h =
-    cond_both (b == star) (count_at t) (Err Count) (λ r. r ≡ Err f → heading_at (b ∷ (t ++ more)) ≡ Err f)
-    (λ yes h. rw yes (stays_count.fault t more f h)) (λ other h. rw other h) h
-
 stays_heading : Stays heading_at
-stays_heading = record { value = heading_value; fault = heading_fault }
+stays_heading = stays_after star (λ _. Count) count_at heading_at refl (λ b t. refl) stays_count
 
 stays_number : (high : ℕ) → Stays (number_at high)
 stays_number high = stays_then word_at (λ word rest. counted (number_in 0 high word) rest) stays_word (λ word. stays_counted (number_in 0 high word))

@@ -1,6 +1,6 @@
 -- What is read is a frame, and each frame is read.
-use Rattle.std.proofs.Common.{◌≡◌, ℕ, zero, suc, ◌-◌, ◌≤◌, inl, inr, List, [], ◌∷◌, ◌++◌, length, take, drop, true, false, nat_eq, nat_lt, nat_le, decimal}
-use Rattle.std.proofs.Common.{codes, Option, Some, None, Ok, Err, refl, sym, ap, subst, ◌∙◌, arith, append_assoc, length-append}
+use Rattle.std.proofs.Common.{◌≡◌, ℕ, ◌-◌, ◌≤◌, inl, inr, List, [], ◌∷◌, ◌++◌, length, take, drop, true, false, nat_eq, nat_lt, nat_le, decimal, codes, Option}
+use Rattle.std.proofs.Common.{Some, None, Ok, Err, refl, sym, ap, subst, ◌∙◌, arith, append_assoc, length-append}
 use Rattle.std.proofs.{Math.Seq.{drop-append_seam, take-append_seam}, lemmas.{List.{length-take, take-append-drop}, Bool.{cond_both}}}
 use Rattle.std.{proofs.lemmas.{Bool.Decides.{nat_tests, Decides-eqb}, Slice.Eq.{starts_is}}, specs.Prelude.{◌==◌, ◌&&◌, option_map, if◌then◌else◌}}
 use Rattle.std.specs.List.{flat_map, list_all, list_any, starts_with}
@@ -10,7 +10,7 @@ use Rattle.lz_resp.specs.Limits.{most_frame, most_word, most_words}
 use Rattle.lz_resp.specs.{Frames.{IsFrame, IsInline, array, bulk, dollar, fits, is_quote, less_than_none, line_end, star, words_of}, Reading.{Front, and_then}}
 use Rattle.lz_resp.specs.Reading.{array_at, array_of, bulk_at, count_of, end_at, first_by, first_of, frame_at, inline_at, inline_of, line_at, line_of, word_at}
 use Rattle.lz_resp.specs.{Reading.{word_of, words_at}, Pieces.{FaultsHaveNoFrame, FramesAreRead, FramesAreSpelled}, declared.fault.Fault.{Fault}}
-use Rattle.lz_resp.specs.declared.fault.Fault.TheVariants.{Count, Length, NoBulk, NoEnd, Quotes, TooLong}
+use Rattle.lz_resp.{specs.declared.fault.Fault.TheVariants.{Count, Length, NoBulk, NoEnd, Quotes, TooLong}, proofs.Many.{AreMany, many_read, many_spelled}}
 use Rattle.lz_resp.proofs.LongerTexts.{first_fault, first_told, given, same_read, take_more, then_value}
 use Rattle.lz_proto.specs.Lines.{carriage_return, line_feed}
 
@@ -34,18 +34,8 @@ word_read word more short =
     ∙ ap (λ (n : Option ℕ). word_of n tail) (decimal_read 0 most_word (length word) (omega arith) (omega arith) short)
     ∙ rw (long, drop-append_seam word (13 ∷ 10 ∷ more), take-append_seam word (13 ∷ 10 ∷ more)) refl
 
-short_first : (word : List ℕ) (words : List (List ℕ)) → list_all (λ word. nat_le (length word) most_word) (word ∷ words) ≡ true
-    → (length word ≤ most_word) × (list_all (λ word. nat_le (length word) most_word) words ≡ true)
-short_first word words h = (grind (arith, nat_tests), grind (arith, nat_tests))
-
 words_read : (words : List (List ℕ)) (more : List ℕ) → list_all (λ word. nat_le (length word) most_word) words ≡ true → words_at (length words) (flat_map bulk words ++ more) ≡ given words more
-words_read [] more short = refl
-words_read (word ∷ words) more short =
-    let both = short_first word words short in
-    let rest = flat_map bulk words ++ more in
-    ap (words_at (suc (length words))) (append_assoc (bulk word) (flat_map bulk words) more)
-    ∙ ap (λ (r : Front (List ℕ)). and_then r (λ word rest. and_then (words_at (length words) rest) (λ words after. Ok (Some (word ∷ words, after))))) (word_read word rest both.0)
-    ∙ ap (λ (r : Front (List (List ℕ))). and_then r (λ words after. Ok (Some (word ∷ words, after)))) (words_read words more both.1)
+words_read = many_read bulk (λ word. nat_le (length word) most_word) word_at words_at (λ text. refl) (λ n text. refl) (λ word rest short. word_read word rest (grind (arith, nat_tests)))
 
 no_minus : (t : List ℕ) → is_number t ≡ true → starts_with nat_eq t (codes "-") ≡ false
 no_minus [] h = absurd (cc)
@@ -158,28 +148,10 @@ word_spelled (b ∷ text) word rest h =
     (bulk_by t.x text t.rest word rest (number_in 0 most_word t.x) refl (line_spelled Length text t.x t.rest t.first) t.second))
     (λ _ h. absurd (cc)) h
 
-pub record AreBulks (n : ℕ) (text : List ℕ) (words : List (List ℕ)) (rest : List ℕ) : Type 0 where
-  pub whole : text ≡ flat_map bulk words ++ rest
-  pub count : length words ≡ n
-  pub short : list_all (λ word. nat_le (length word) most_word) words ≡ true
-
-words_spelled : (n : ℕ) (text : List ℕ) (words : List (List ℕ)) (rest : List ℕ) → words_at n text ≡ Ok (Some (words, rest)) → AreBulks n text words rest
-words_spelled zero text words rest h =
-    let same = same_read [] words text rest h in
-    subst (λ (x : List (List ℕ)). AreBulks zero text x rest) same.0 (record { whole = same.1; count = refl; short = refl })
-words_spelled (suc n) text words rest h =
-    let t = then_value (word_at text) (λ word rest. and_then (words_at n rest) (λ words after. Ok (Some (word ∷ words, after)))) words rest h in
-    let u = then_value (words_at n t.rest) (λ words after. Ok (Some (t.x ∷ words, after))) words rest t.second in
-    let first = word_spelled text t.x t.rest t.first in
-    let others = words_spelled n t.rest u.x u.rest u.first in
-    let same = same_read (t.x ∷ u.x) words u.rest rest u.second in
-    let small : nat_le (length t.x) most_word ≡ true = grind (arith, nat_tests, first.short) in
-    subst (λ (x : List (List ℕ)). AreBulks (suc n) text x rest) same.0
-    (record {
-      whole = first.whole ∙ ap (λ (x : List ℕ). bulk t.x ++ x) (others.whole ∙ ap (λ (x : List ℕ). flat_map bulk u.x ++ x) same.1) ∙ sym (append_assoc (bulk t.x) (flat_map bulk u.x) rest);
-      count = omega (arith, others.count);
-      short = rw small others.short;
-    })
+words_spelled : (n : ℕ) (text : List ℕ) (words : List (List ℕ)) (rest : List ℕ) → words_at n text ≡ Ok (Some (words, rest)) → AreMany bulk (λ word. nat_le (length word) most_word) n text words rest
+words_spelled = many_spelled bulk (λ word. nat_le (length word) most_word) word_at words_at (λ text. refl) (λ n text. refl) (λ text word rest h.
+    let its = word_spelled text word rest h in
+    (grind (arith, nat_tests, its.short), its.whole))
 
 -- a frame within its limits stands at the front of a text
 pub record Stands (text : List ℕ) (words : List (List ℕ)) (rest : List ℕ) : Type 0 where
@@ -202,7 +174,7 @@ array_stands digits text mid words rest n is spelled h =
       whole = ap (λ (t : List ℕ). 42 ∷ t) (spelled ∙ ap (λ (t : List ℕ). digits ++ 13 ∷ 10 ∷ t) bulks.whole
           ∙ ap (λ (t : List ℕ). t ++ 13 ∷ 10 ∷ (flat_map bulk words ++ rest)) length_is ∙ sym (ended_line (decimal (length words)) (flat_map bulk words) rest));
       its = inl refl;
-      fit = fits_tells words (omega (arith, number.1, bulks.count)) bulks.short;
+      fit = fits_tells words (omega (arith, number.1, bulks.count)) bulks.each;
     }
 
 none_stands : (digits text mid : List ℕ) (words : List (List ℕ)) (rest : List ℕ) (m : ℕ) → number_in 1 largest_read (drop 1 digits) ≡ Some m → digits ≡ 45 ∷ drop 1 digits
