@@ -36,21 +36,13 @@ module _ (ranges : List (ℕ × List ℕ)) where
   first_not_shorter n i sure [] = omega arith
   first_not_shorter zero i sure (b ∷ seen) = omega arith
   first_not_shorter (suc n) i [] (b ∷ seen) = omega arith
-  first_not_shorter (suc n) i (a ∷ sure) (b ∷ seen) =
-      elim (is_loose ranges i) as (λ q. suc (length sure) ≤ length (if q then b ∷ with_first ranges n (i + 1) sure seen else a ∷ with_first ranges (suc n) (i + 1) sure seen)) [
-        | true ↦ omega (arith, first_not_shorter n (i + 1) sure seen)
-        | false ↦ omega (arith, first_not_shorter (suc n) (i + 1) sure seen)
-      ]
+  first_not_shorter (suc n) i (a ∷ sure) (b ∷ seen) = grind (arith, first_not_shorter n (i + 1) sure seen, first_not_shorter (suc n) (i + 1) sure seen) steps 100000
 
   first_not_longer : (n i : ℕ) (sure seen : List ℕ) → length sure ≤ length seen → length (with_first ranges n i sure seen) ≤ length seen
   first_not_longer n i sure [] le = omega arith
   first_not_longer zero i sure (b ∷ seen) le = omega arith
   first_not_longer (suc n) i [] (b ∷ seen) le = omega (arith, first_not_longer n (i + 1) [] seen (omega arith))
-  first_not_longer (suc n) i (a ∷ sure) (b ∷ seen) le =
-      elim (is_loose ranges i) as (λ q. length (if q then b ∷ with_first ranges n (i + 1) sure seen else a ∷ with_first ranges (suc n) (i + 1) sure seen) ≤ suc (length seen)) [
-        | true ↦ omega (arith, first_not_longer n (i + 1) sure seen (omega arith))
-        | false ↦ omega (arith, first_not_longer (suc n) (i + 1) sure seen (omega arith))
-      ]
+  first_not_longer (suc n) i (a ∷ sure) (b ∷ seen) le = grind (arith, first_not_longer n (i + 1) sure seen (omega arith), first_not_longer (suc n) (i + 1) sure seen (omega arith)) steps 100000
 
   first_sure : (n i : ℕ) (sure seen : List ℕ) (k : ℕ) → k < length sure → is_loose ranges (i + k) ≡ false → get_or (with_first ranges n i sure seen) k 0 ≡ get_or sure k 0
   first_sure n i sure [] k lt shut = refl
@@ -60,10 +52,7 @@ module _ (ranges : List (ℕ × List ℕ)) where
   first_sure (suc n) i (a ∷ sure) (b ∷ seen) (suc k) lt shut =
       let there : (i + 1) + k ≡ i + suc k = omega arith in
       let rest : is_loose ranges ((i + 1) + k) ≡ false = ap (is_loose ranges) there ∙ shut in
-      elim (is_loose ranges i) as (λ q. get_or (if q then b ∷ with_first ranges n (i + 1) sure seen else a ∷ with_first ranges (suc n) (i + 1) sure seen) (suc k) 0 ≡ get_or sure k 0) [
-        | true ↦ first_sure n (i + 1) sure seen k (omega arith) rest
-        | false ↦ first_sure (suc n) (i + 1) sure seen k (omega arith) rest
-      ]
+      grind (arith, first_sure n (i + 1) sure seen k (omega arith) rest, first_sure (suc n) (i + 1) sure seen k (omega arith) rest) steps 100000
 
   -- each byte of it is a durable one or one as read
   first_either : (n i : ℕ) (sure seen : List ℕ) (k : ℕ) → k < length sure → (get_or (with_first ranges n i sure seen) k 0 ≡ get_or sure k 0) ⊎ (get_or (with_first ranges n i sure seen) k 0 ≡ get_or seen k 0)
@@ -71,11 +60,7 @@ module _ (ranges : List (ℕ × List ℕ)) where
   first_either zero i sure (b ∷ seen) k lt = inl refl
   first_either (suc n) i [] (b ∷ seen) k lt = absurd (omega arith)
   first_either (suc n) i (a ∷ sure) (b ∷ seen) zero lt = grind (arith, get_or)
-  first_either (suc n) i (a ∷ sure) (b ∷ seen) (suc k) lt =
-      elim (is_loose ranges i) as (λ q. (get_or (if q then b ∷ with_first ranges n (i + 1) sure seen else a ∷ with_first ranges (suc n) (i + 1) sure seen) (suc k) 0 ≡ get_or sure k 0) ⊎ (get_or (if q then b ∷ with_first ranges n (i + 1) sure seen else a ∷ with_first ranges (suc n) (i + 1) sure seen) (suc k) 0 ≡ get_or seen k 0)) [
-        | true ↦ first_either n (i + 1) sure seen k (omega arith)
-        | false ↦ first_either (suc n) (i + 1) sure seen k (omega arith)
-      ]
+  first_either (suc n) i (a ∷ sure) (b ∷ seen) (suc k) lt = grind (arith, first_either n (i + 1) sure seen k (omega arith), first_either (suc n) (i + 1) sure seen k (omega arith)) steps 100000
 
 -- the durable text, and that with one byte at each loose position of a disk that isn't bytewise
 sure_image : (disk : Medium) → IsConsistent disk → AreBytes disk.sure → IsImage disk disk.sure
