@@ -5,9 +5,8 @@ use Rattle.lz_disk.specs.{Images.{WasWritten, is_loose}, Picks.{nth_written, wit
 
 module _ (mask : ℕ) where
   pub mask_not_shorter : (i : ℕ) (sure seen : List ℕ) → length sure ≤ length (with_mask mask i sure seen)
-  mask_not_shorter i sure [] = omega arith
-  mask_not_shorter i [] (b ∷ seen) = omega arith
   mask_not_shorter i (a ∷ sure) (b ∷ seen) = omega (arith, mask_not_shorter (i + 1) sure seen)
+  mask_not_shorter i _ _ = omega arith
 
   pub mask_not_longer : (i : ℕ) (sure seen : List ℕ) → length sure ≤ length seen → length (with_mask mask i sure seen) ≤ length seen
   mask_not_longer i sure [] le = omega arith

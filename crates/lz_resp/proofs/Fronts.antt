@@ -41,9 +41,8 @@ abbrev pub with_front : {A : Type 0} → List A → Front (List A) → Front (Li
 with_front front r = and_then r (λ items after. Ok (Some (front ++ items, after)))
 
 pub front_more : {A : Type 0} (front : List A) (item : A) (r : Front (List A)) → with_front front (and_then r (λ items after. Ok (Some (item ∷ items, after)))) ≡ with_front (front ++ item ∷ []) r
-front_more front item (Ok None) = refl
 front_more front item (Ok (Some p)) = ap (λ x. Ok (Some (x, p.1))) (sym (append_assoc front (item ∷ []) p.0))
-front_more front item (Err f) = refl
+front_more front item _ = refl
 
 pub one_less : (n k : ℕ) → k < n → n - k ≡ suc (n - (k + 1))
 one_less n k h = omega (arith, h)

@@ -168,9 +168,8 @@ by_waits _ selected rest h = absurd (cc)
 
 of_waits : (selected : Selected) (r : Front (List (List ℕ))) → step_of selected r ≡ waits → r ≡ Ok None
 of_waits selected (Ok None) h = refl
-of_waits selected (Ok (Some ([], rest))) h = absurd (cc)
 of_waits selected (Ok (Some (word ∷ words, rest))) h = absurd (by_waits (item_of selected (word ∷ words)) (selected_after selected (word ∷ words)) rest h)
-of_waits selected (Err f) h = absurd (cc)
+of_waits selected _ h = absurd (cc)
 
 -- what is kept is no longer than a frame
 pub step_short : (selected : Selected) (text : List ℕ) → step selected text ≡ waits → length text ≤ most_frame

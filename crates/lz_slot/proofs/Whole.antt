@@ -19,13 +19,12 @@ shut_after x t shut = grind (arith, nat_tests)
 -- it is closed, or all of the list
 mixed : (t whole : List ℕ) → IsPartOf t whole → (is_shut t ≡ true) ⊎ (t ≡ whole)
 mixed [] [] part = inr refl
-mixed [] (y ∷ whole) part = absurd (omega (arith, part.0))
-mixed (x ∷ t) [] part = absurd (omega (arith, part.0))
 mixed (x ∷ t) (y ∷ whole) part =
     ⊎_elim
     (λ none. inl (shut_here x t none))
     (λ same. ⊎_elim (λ shut. inl (shut_after x t shut)) (λ rest. inr (λ i. same i ∷ rest i)) (mixed t whole (part_tail x y t whole part)))
     (part.1 0 (omega arith))
+mixed _ _ part = absurd (omega (arith, part.0))
 
 pub mixtures_are_whole : MixturesAreWhole
 mixtures_are_whole k t part = mixed t (whole_slot k) part
@@ -33,12 +32,11 @@ mixtures_are_whole k t part = mixed t (whole_slot k) part
 -- a zero stays one
 pub shut_stays_shut : ShutStaysShut
 shut_stays_shut [] [] part shut = shut
-shut_stays_shut [] (x ∷ t) part shut = absurd (omega (arith, part.0))
-shut_stays_shut (y ∷ bytes) [] part shut = absurd (omega (arith, part.0))
 shut_stays_shut (y ∷ bytes) (x ∷ t) part shut = elim (eqb_tells y 0) [
   | inl here ↦ shut_here x t (⊎_elim (λ none. none) (λ same. same ∙ here.1) (part.1 0 (omega arith)))
   | inr other ↦ shut_after x t (shut_stays_shut bytes t (part_tail x y t bytes part) (sym (rw other.0 refl) ∙ shut))
 ]
+shut_stays_shut _ _ part shut = absurd (omega (arith, part.0))
 
 -- what is spelled of bytes spells them again, has no zero, and has each four bits with their complement
 low_byte : (b : ℕ) → b < 256 → 16 * ((15 * (b / 16 + 1)) / 16) + (15 * (b % 16 + 1)) / 16 ≡ b
@@ -82,15 +80,8 @@ whole_passes : (shut none pairs : Bool) (x k : ℕ) → whole_tests shut none pa
 whole_passes shut none pairs x k is = grind (arith, nat_tests)
 
 bytes_fit : (k i : ℕ) → get_or (big_bytes 8 k) i 0 < 256
-bytes_fit k zero = omega arith
-bytes_fit k (suc zero) = omega arith
-bytes_fit k (suc (suc zero)) = omega arith
-bytes_fit k (suc (suc (suc zero))) = omega arith
-bytes_fit k (suc (suc (suc (suc zero)))) = omega arith
-bytes_fit k (suc (suc (suc (suc (suc zero))))) = omega arith
-bytes_fit k (suc (suc (suc (suc (suc (suc zero)))))) = omega arith
-bytes_fit k (suc (suc (suc (suc (suc (suc (suc zero))))))) = omega arith
 bytes_fit k (suc (suc (suc (suc (suc (suc (suc (suc i)))))))) = omega arith
+bytes_fit k _ = omega arith
 
 -- the bytes of a key's slot are bytes
 spelled_bytes : (bytes : List ℕ) → ((i : ℕ) → get_or bytes i 0 < 256) → (i : ℕ) → get_or (spelled bytes) i 0 < 256
@@ -120,21 +111,18 @@ two_paired x y bytes all = grind (arith, nat_tests)
 
 spelled_again : (n : ℕ) (bytes : List ℕ) → length bytes ≡ 2 * n → ((i : ℕ) → get_or bytes i 0 < 256) → list_all is_paired bytes ≡ true → (spelled (spells bytes) ≡ bytes) × (length (spells bytes) ≡ n)
 spelled_again zero [] long fits all = (refl, refl)
-spelled_again (suc n) [] long fits all = absurd (omega arith)
-spelled_again n (x ∷ []) long fits all = absurd (omega arith)
-spelled_again zero (x ∷ y ∷ bytes) long fits all = absurd (omega arith)
 spelled_again (suc n) (x ∷ y ∷ bytes) long fits all =
     let two = two_paired x y bytes all in
     let rest = spelled_again n bytes (omega arith) (λ i. fits (suc (suc i))) two.2 in
     let one = paired_high x y two.0 two.1 (fits 1) in
     let next = paired_low x y two.1 (fits 1) in
     ((λ i. one i ∷ next i ∷ rest.0 i), ap suc rest.1)
+spelled_again _ _ long fits all = absurd (omega arith)
 
 spelled_fit : (bytes : List ℕ) → ((i : ℕ) → get_or bytes i 0 < 256) → (i : ℕ) → get_or (spells bytes) i 0 < 256
-spelled_fit [] fits i = omega arith
-spelled_fit (x ∷ []) fits i = omega arith
 spelled_fit (x ∷ y ∷ bytes) fits zero = let high = fits 0 in let low = fits 1 in omega arith
 spelled_fit (x ∷ y ∷ bytes) fits (suc i) = spelled_fit bytes (λ j. fits (suc (suc j))) i
+spelled_fit _ fits i = omega arith
 
 pub whole_fits : (bytes : List ℕ) (k : ℕ) → whole_read bytes ≡ Member k → k ≤ largest_key
 whole_fits bytes k is = (whole_passes (is_shut bytes) (list_all (λ b. b == 0) bytes) (list_all is_paired bytes) (big_number 8 (spells bytes)) k is).3
@@ -163,12 +151,11 @@ torn_is_shut bytes is = shut_tests (is_shut bytes) (list_all (λ b. b == 0) byte
 
 pub zeros : (xs : List ℕ) (n : ℕ) → length xs ≡ n → list_all (λ b. b == 0) xs ≡ true → xs ≡ replicate n 0
 zeros [] zero long all = refl
-zeros [] (suc n) long all = absurd (omega arith)
-zeros (x ∷ xs) zero long all = absurd (omega arith)
 zeros (x ∷ xs) (suc n) long all = elim (eqb_tells x 0) [
   | inl t ↦ let rest = rw t.0 at all in let ih = zeros xs n (omega arith) rest in cc (t.1, ih)
   | inr f ↦ let rest = rw f.0 at all in absurd cc
 ]
+zeros _ _ long all = absurd (omega arith)
 
 pub closed_is_zeros : (bytes : List ℕ) → length bytes ≡ 16 → whole_read bytes ≡ Closed → bytes ≡ replicate 16 0
 closed_is_zeros bytes long is = zeros bytes 16 long (closed_tests (is_shut bytes) (list_all (λ b. b == 0) bytes) (list_all is_paired bytes) (big_number 8 (spells bytes)) is)
