@@ -117,8 +117,6 @@ module _ (kinds : List Kind) (queue : List ℕ) (rows : List Row) (uses : List U
     where
       found : (s : ℕ) → s < length kinds → (was : Kind) → kind_at kinds s ≡ was → kind_at (set_each kinds (take k queue) kind.Free) s ≡ kind.Limbo
           → (j : ℕ) × (j < length (drop k queue)) × (get_or (drop k queue) j 0 ≡ s)
-      found s low kind.Free was limbo = absurd (let e : kind_at (set_each kinds (take k queue) kind.Free) s ≡ kind.Free = plain_kind s (λ never. absurd (cc)) ∙ was in cc)
-      found s low kind.Taken was limbo = absurd (let e : kind_at (set_each kinds (take k queue) kind.Free) s ≡ kind.Taken = plain_kind s (λ never. absurd (cc)) ∙ was in cc)
       found s low kind.Limbo was limbo = ⊎_elim
           (λ (early : (i : ℕ) × (i < k) × (get_or queue i 0 ≡ s)).
           absurd (let e : kind_at (set_each kinds (take k queue) kind.Free) s ≡ kind.Free = ap (kind_at (set_each kinds (take k queue) kind.Free)) (sym early.2) ∙ kind_first early.0 early.1 in cc))
@@ -126,6 +124,7 @@ module _ (kinds : List Kind) (queue : List ℕ) (rows : List Row) (uses : List U
           let there : k + (late.0 - k) ≡ late.0 = omega (arith, late.1) in
           (late.0 - k, omega (arith, late.1, late.2, dropped_length), dropped_at (late.0 - k) ∙ ap (λ (n : ℕ). get_or queue n 0) there ∙ late.3))
           (where_is s low was)
+      found s low other was limbo = absurd (let e : kind_at (set_each kinds (take k queue) kind.Free) s ≡ other = plain_kind s (λ never. absurd (cc)) ∙ was in cc)
 
   pub rows_are_freed : (p : ℕ) → p < length (rows_freed k rows) → IsRow (length (drop k queue)) (get_or (rows_freed k rows) p first_row)
   rows_are_freed p lt =

@@ -116,14 +116,12 @@ more_than_zero w = grind (arith, nat_tests)
 same_tests : (x y : Bool) → beq x y ≡ true → x ≡ y
 same_tests false false e = refl
 same_tests true true e = refl
-same_tests false true e = absurd cc
-same_tests true false e = absurd cc
+same_tests _ _ e = absurd cc
 
 other_tests : (x y : Bool) → beq x y ≡ false → not x ≢ not y
 other_tests false false e = λ same. absurd cc
 other_tests true true e = λ same. absurd cc
-other_tests false true e = λ same. absurd cc
-other_tests true false e = λ same. absurd cc
+other_tests _ _ e = λ same. absurd cc
 
 pub kept_by : (was now : ℕ) → beq (eqb was 0) (eqb now 0) ≡ true → nat_lt 0 was ≡ nat_lt 0 now
 kept_by was now e = more_than_zero was ∙ ap not (same_tests (eqb was 0) (eqb now 0) e) ∙ sym (more_than_zero now)

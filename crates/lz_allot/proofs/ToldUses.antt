@@ -59,13 +59,12 @@ module _ (kinds : List Kind) (queue : List ℕ) (rows : List Row) where
         (λ s lt. let low : s < length kinds = omega (arith, length_told) in use_told_at s low ∙ same s low (kind_at kinds s) refl (shows.plain s low))
       where
         same : (s : ℕ) → s < length kinds → (k : Kind) → kind_at kinds s ≡ k → IsPlain k (use_of uses s) → use_told queue rows s k ≡ use_of uses s
-        same s low kind.Free here plain = sym plain
-        same s low kind.Taken here plain = sym plain
         same s low kind.Limbo here plain =
             let place = is.found s low here in
             ap (λ (p : ℕ). Limbo (sights_at p rows)) (ap (place_of queue) (sym place.2) ∙ place_is place.0 place.1)
             ∙ sym (shows.limbo place.0 place.1)
             ∙ ap (use_of uses) place.2
+        same s low _ here plain = sym plain
 
 -- A slot that isn't in limbo gets another use outside it.
 module _ (kinds : List Kind) (queue : List ℕ) (rows : List Row) (uses : List Use) (is : IsQueue kinds queue) (shows : Shows kinds queue rows uses)

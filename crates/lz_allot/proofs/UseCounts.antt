@@ -117,9 +117,8 @@ limbo_queued kinds queue rows uses is shows =
     (λ s low limbo. let inside : s < length kinds = omega (arith, shows.size) in is.found s inside (in_limbo s (kind_at kinds s) refl (shows.plain s inside) limbo))
   where
     in_limbo : (s : ℕ) (k : Kind) → kind_at kinds s ≡ k → IsPlain k (use_of uses s) → is_limbo (use_of uses s) ≡ true → kind_at kinds s ≡ kind.Limbo
-    in_limbo s kind.Free is plain limbo = absurd (let e : false ≡ true = sym (ap is_limbo plain) ∙ limbo in cc)
-    in_limbo s kind.Taken is plain limbo = absurd (let e : false ≡ true = sym (ap is_limbo plain) ∙ limbo in cc)
     in_limbo s kind.Limbo is plain limbo = is
+    in_limbo s _ is plain limbo = absurd (let e : false ≡ true = sym (ap is_limbo plain) ∙ limbo in cc)
 
 -- the free slots are those of that kind
 pub free_told : (kinds : List Kind) (queue : List ℕ) (rows : List Row) (uses : List Use) → IsQueue kinds queue → Shows kinds queue rows uses → map is_free uses ≡ map is_free_kind kinds
@@ -130,9 +129,8 @@ free_told kinds queue rows uses is shows =
     get_or-map is_free uses s Taken false (omega (arith, shows.size)) ∙ same s (kind_at kinds s) refl (shows.plain s low) low ∙ sym (get_or-map is_free_kind kinds s kind.Taken false low))
   where
     same : (s : ℕ) (k : Kind) → kind_at kinds s ≡ k → IsPlain k (use_of uses s) → s < length kinds → is_free (use_of uses s) ≡ is_free_kind k
-    same s kind.Free at plain low = ap is_free plain
-    same s kind.Taken at plain low = ap is_free plain
     same s kind.Limbo at plain low = let place = is.found s low at in ap (λ (n : ℕ). is_free (use_of uses n)) (sym place.2) ∙ ap is_free (shows.limbo place.0 place.1)
+    same s _ at plain low = ap is_free plain
 
 pub free_counted : (uses : List Use) (kinds : List Kind) → map is_free uses ≡ map is_free_kind kinds → (counts uses).free ≡ count_by is_free_kind kinds
 free_counted uses kinds same = sym (count_map is_free uses) ∙ ap (λ (bs : List Bool). count_by (λ b. b) bs) same ∙ count_map is_free_kind kinds

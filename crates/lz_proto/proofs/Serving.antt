@@ -231,13 +231,11 @@ next_cut answers old mid new a b d items i item h is p q =
 pub next_fails : {S : Type 0} (answers : S → Request → Reply → S → Type 0) (old mid new : S) (a b d : Option (List ℕ)) (items : List Item) (i : ℕ) (item : Item) (fault : SessionFault)
     → i < length items → get_or items i item ≡ item → Writes a b (λ written. Answered answers old (take i items) mid written ends.Done)
     → Writes b d (λ written. AnswersTell answers mid (item ∷ []) new written (Err fault)) → Writes a d (λ written. AnswersTell answers old items new written (Err fault))
-next_fails answers old mid new a b d items i item Read h is p q = absurd q.2
 next_fails answers old mid new a b d items i item Write h is p q = next_cut answers old mid new a b d items i item h is p q
-next_fails answers old mid new a b d items i item Memory h is p q = absurd q.2
+next_fails answers old mid new a b d items i item _ h is p q = absurd q.2
 
 -- of the items of a piece
 pub piece_fails : {S : Type 0} (answers : S → Request → Reply → S → Type 0) (old new : S) (a d : Option (List ℕ)) (kept left : Option (List ℕ)) (piece : List ℕ) (items : List Item) (fault : SessionFault)
     → Feeds kept piece items left → Writes a d (λ written. AnswersTell answers old items new written (Err fault)) → Writes a d (λ written. PieceTells answers kept piece left old new written (Err fault))
-piece_fails answers old new a d kept left piece items Read fed q = absurd q.2
 piece_fails answers old new a d kept left piece items Write fed q = (q.0, q.1, (items, fed, q.2))
-piece_fails answers old new a d kept left piece items Memory fed q = absurd q.2
+piece_fails answers old new a d kept left piece items _ fed q = absurd q.2

@@ -5,7 +5,7 @@ use Rattle.std.proofs.{Common.{append_assoc, length-append}, Math.Seq.{take-appe
 use Rattle.std.proofs.lemmas.List.{take-append-drop, drop_more, get_or-take, get_or_default, take_rest, take_all, append-nil, length-take, nil_from_length}
 use Rattle.std.{proofs.lemmas.{List.Folds.{list_any-append, list_any_none}, Bool.{eq-eqb, eqb-true, cond_both, Decides.{nat_tests}}}, specs.List.{concat}}
 use Rattle.memchr.specs.Find.{IsFirstByte, Nowhere, Passes, is_byte}
-use Rattle.lz_proto.specs.declared.{request.Request.TheVariants.{Add, Remove, Has, Quit}, fault.Bad.{Bad, TheVariants.{TooLong, NoEnd}}, item.Item.{Item}}
+use Rattle.lz_proto.specs.declared.{request.Request.TheVariants.{Quit}, fault.Bad.{Bad, TheVariants.{TooLong, NoEnd}}, item.Item.{Item}}
 use Rattle.lz_proto.specs.declared.item.Item.TheVariants.{Asks, Faulty}
 use Rattle.lz_proto.specs.{Lines.{IsItem, Items, nothing, no_end, line, quits, has_line_feed, line_feed, without_return, item_of}, Limits.{most_kept}}
 use Rattle.lz_proto.specs.{Pieces.{Adds, AnyPieces, Ends, FeedsAll, OneListOfItems, Reads, Feeds, faults_of}, Reading.{request_read}}
@@ -119,10 +119,7 @@ first_items t rest item clear says (inr goes) its = (item ∷ its.0, line t item
 
 quit_or_not : (item : Item) → (item ≡ Asks Quit) ⊎ (item ≢ Asks Quit)
 quit_or_not (Asks Quit) = inl refl
-quit_or_not (Asks (Add k)) = inr (λ e. cc)
-quit_or_not (Asks (Remove k)) = inr (λ e. cc)
-quit_or_not (Asks (Has k)) = inr (λ e. cc)
-quit_or_not (Faulty bad) = inr (λ e. cc)
+quit_or_not _ = inr (λ e. cc)
 
 some_step : (front text : List ℕ) (b : ℕ) (ends : Bool) → nat_eq line_feed b ≡ ends → has_line_feed front ≡ false → SomeItems text
     → (has_line_feed (front ++ b ∷ []) ≡ false → SomeItems ((front ++ b ∷ []) ++ text)) → SomeItems (front ++ b ∷ text)
