@@ -136,18 +136,13 @@ pub filling_on : (changes : List Record) (byte left i : ℕ) (old text text' : L
     → IsFilling changes byte left old text → IsFilling changes byte i old text'
 filling_on changes byte left i old text text' r at bytes on is loosens filled held = record {
   within = omega (arith, on, held.within);
-  same = λ b start.
-      filled (after b start (take i changes)).loose
-      ∙ ap (λ (l : List (ℕ × List ℕ)). with_loose l byte 0 text) (sym (ap (λ (d : Medium). d.loose) (last_change changes left i r on held.within is b start) ∙ loosens (after b start (take i changes))))
-      ∙ held.same b start;
+  same = λ b start. grind (arith, filled (after b start (take i changes)).loose, last_change changes left i r on held.within is b start, loosens (after b start (take i changes)), held.same b start) steps 100000;
 }
 
 pub filling_meets_sync : (changes : List Record) (byte left i : ℕ) (old text : List ℕ) (r : Record) → left ≡ i + 1 → r ≡ get_or changes i r → r ≡ Synced
     → IsFilling changes byte left old text → (b : Bool) (start : List ℕ) → text ≡ with_loose (after b start changes).loose byte 0 old
 filling_meets_sync changes byte left i old text r on is sync held b start =
-    sym (none_loose byte 0 text)
-    ∙ ap (λ (l : List (ℕ × List ℕ)). with_loose l byte 0 text) (sym (ap (λ (d : Medium). d.loose) (last_change changes left i r on held.within is b start ∙ ap (after_record (after b start (take i changes))) sync)))
-    ∙ held.same b start
+    grind (arith, none_loose byte 0 text, last_change changes left i r on held.within is b start, sync, held.same b start) steps 100000
 
 pub filling_ends : (changes : List Record) (byte left : ℕ) (old text : List ℕ) → left ≤ 0 → IsFilling changes byte left old text → (b : Bool) (start : List ℕ) → text ≡ with_loose (after b start changes).loose byte 0 old
 filling_ends changes byte left old text none held b start = grind (arith, none_loose)

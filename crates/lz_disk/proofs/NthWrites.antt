@@ -1,21 +1,8 @@
 -- How the writes of one place are counted, one change after another, and the picked byte is found.
-use Rattle.std.proofs.Common.{◌≡◌, ℕ, suc, ◌+◌, ◌-◌, ◌≤◌, ◌<◌, nat_le, Bool, true, false, ◌&&◌, List, [], ◌∷◌, length, get_or, take, if◌then◌else◌, sym, refl}
-use Rattle.std.proofs.{Common.{◌∙◌, ap, arith}, lemmas.Bool.{cases_Bool}}
+use Rattle.std.proofs.Common.{◌≡◌, ℕ, ◌+◌, ◌-◌, ◌≤◌, ◌<◌, nat_le, Bool, true, false, List, [], ◌∷◌, length, get_or, take, if◌then◌else◌, sym, refl, ◌∙◌, ap}
+use Rattle.std.proofs.{Common.{arith}, lemmas.Bool.{cases_Bool}}
 use Rattle.lz_disk.specs.{Images.{Medium}, Picks.{covers, nth_written, times_written}, Records.{after, after_record}, declared.memory.Record.{Record}}
 use Rattle.lz_disk.{specs.declared.memory.Record.TheVariants.{Synced}, proofs.ByteImages.{last_change}}
-
-module _ (w : ℕ × List ℕ) (writes : List (ℕ × List ℕ)) (n i b : ℕ) where
-  there : covers w i ≡ true → nth_written (w ∷ writes) n i b ≡ (if nat_le (times_written writes i) n then get_or w.1 (i - w.0) 0 else nth_written writes n i b)
-  there is = ap (λ (q : Bool). if q && nat_le (times_written writes i) n then get_or w.1 (i - w.0) 0 else nth_written writes n i b) is
-
-  once_more : covers w i ≡ true → times_written (w ∷ writes) i ≡ suc (times_written writes i)
-  once_more is = ap (λ (q : Bool). if q then suc (times_written writes i) else times_written writes i) is
-
-  elsewhere : covers w i ≡ false → nth_written (w ∷ writes) n i b ≡ nth_written writes n i b
-  elsewhere is = ap (λ (q : Bool). if q && nat_le (times_written writes i) n then get_or w.1 (i - w.0) 0 else nth_written writes n i b) is
-
-  no_more : covers w i ≡ false → times_written (w ∷ writes) i ≡ times_written writes i
-  no_more is = ap (λ (q : Bool). if q then suc (times_written writes i) else times_written writes i) is
 
 -- up to some change the writes of a place are counted, and the byte is found that those are to leave
 pub record IsChoosing (changes : List Record) (number at byte index times found : ℕ) : Type 0 where
@@ -39,27 +26,16 @@ module _ (changes : List Record) (number at byte index times found times' found'
     counts here more choice = record {
       within = omega arith;
       few = omega (arith, held.few);
-      counted = λ b start.
-          let next : times' ≡ suc (times_written (so_far b start).loose at) = omega (arith, held.counted b start) in
-          next ∙ sym (once_more (s, bytes) (so_far b start).loose number at byte here) ∙ sym (ap (λ (l : List (ℕ × List ℕ)). times_written l at) (loose_is b start));
-      picked = λ b start.
-          choice
-          ∙ ap (λ (t : ℕ). if nat_le t number then get_or bytes (at - s) 0 else found) (held.counted b start)
-          ∙ ap (λ (f : ℕ). if nat_le (times_written (so_far b start).loose at) number then get_or bytes (at - s) 0 else f) (held.picked b start)
-          ∙ sym (there (s, bytes) (so_far b start).loose number at byte here)
-          ∙ sym (ap (λ (l : List (ℕ × List ℕ)). nth_written l number at byte) (loose_is b start));
+      counted = λ b start. grind (arith, more, here, held.counted b start, loose_is b start) steps 100000;
+      picked = λ b start. grind (arith, choice, here, held.counted b start, held.picked b start, loose_is b start) steps 100000;
     }
 
     passes : covers (s, bytes) at ≡ false → times' ≡ times → found' ≡ found → IsChoosing changes number at byte (index + 1) times' found'
     passes not_here same kept = record {
       within = omega arith;
       few = omega (arith, held.few);
-      counted = λ b start.
-          same ∙ held.counted b start ∙ sym (no_more (s, bytes) (so_far b start).loose number at byte not_here)
-          ∙ sym (ap (λ (l : List (ℕ × List ℕ)). times_written l at) (loose_is b start));
-      picked = λ b start.
-          kept ∙ held.picked b start ∙ sym (elsewhere (s, bytes) (so_far b start).loose number at byte not_here)
-          ∙ sym (ap (λ (l : List (ℕ × List ℕ)). nth_written l number at byte) (loose_is b start));
+      counted = λ b start. grind (arith, same, not_here, held.counted b start, loose_is b start) steps 100000;
+      picked = λ b start. grind (arith, kept, not_here, held.picked b start, loose_is b start) steps 100000;
     }
 
     -- a write is added
