@@ -289,10 +289,7 @@ first_value text more words rest h =
 
 -- a fault of a window is the text's, or the text is too long for its first frame
 fault_told : (text : List ℕ) (f : Fault) (r : Front (List (List ℕ))) → first_by text r ≡ Err f → (r ≡ Err f) ⊎ ((most_frame < length text) × (r ≡ Ok None) × (TooLong ≡ f))
-fault_told text f (Ok None) h =
-    cond_both (nat_lt most_frame (length text)) (Err TooLong) (Ok None)
-    (λ r. r ≡ Err f → (nothing {A = List (List ℕ)} ≡ Err f) ⊎ ((most_frame < length text) × (nothing {A = List (List ℕ)} ≡ Ok None) × (TooLong ≡ f)))
-    (λ far h. inr (grind (arith, nat_tests), refl, (cc))) (λ _ h. absurd (cc)) h
+fault_told text f (Ok None) h = grind (arith, cond_both, nat_tests) steps 100000
 fault_told text f (Ok (Some p)) h = absurd (cc)
 fault_told text f (Err g) h = inl (let same : g ≡ f = cc in ap (λ (k : Fault). Err k) same)
 
@@ -324,9 +321,7 @@ first_fault text more f h = elim (fault_told text f (frame_at (take most_frame t
 ]
 
 short_by : (text : List ℕ) (r : Front (List (List ℕ))) → first_by text r ≡ Ok None → length text ≤ most_frame
-short_by text (Ok None) h =
-    cond_both (nat_lt most_frame (length text)) (Err TooLong) (Ok None) (λ r. r ≡ Ok None → length text ≤ most_frame)
-    (λ _ h. absurd (cc)) (λ near h. grind (arith, nat_tests)) h
+short_by text (Ok None) h = grind (arith, cond_both, nat_tests) steps 100000
 short_by text _ h = absurd (cc)
 
 -- a text that waits is no longer than a frame

@@ -50,12 +50,7 @@ count_spelled text n rest h =
 
 heading_spelled : (text : List ℕ) (n : ℕ) (rest : List ℕ) → heading_at text ≡ given n rest → (n ≤ most_words) × (text ≡ 42 ∷ (decimal n ++ 13 ∷ 10 ∷ rest))
 heading_spelled [] n rest h = absurd (cc)
-heading_spelled (b ∷ text) n rest h =
-    cond_both (b == star) (count_at text) (Err Count) (λ r. r ≡ given n rest → (n ≤ most_words) × (b ∷ text ≡ 42 ∷ (decimal n ++ 13 ∷ 10 ∷ rest)))
-    (λ yes h.
-    let first : b ≡ 42 = grind (arith, nat_tests) in
-    let told = count_spelled text n rest h in (told.0, cc (first, told.1)))
-    (λ _ h. absurd (cc)) h
+heading_spelled (b ∷ text) n rest h = grind (arith, cond_both, nat_tests, count_spelled text n rest) steps 100000
 
 number_spelled : (high : ℕ) (text : List ℕ) (n : ℕ) (rest : List ℕ) → number_at high text ≡ given n rest → (n ≤ high) × (text ≡ number_text n ++ rest)
 number_spelled high text n rest h =

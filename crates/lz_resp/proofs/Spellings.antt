@@ -2,7 +2,7 @@
 use Rattle.std.proofs.Common.{◌≡◌, ℕ, ◌-◌, ◌≤◌, inl, inr, List, [], ◌∷◌, ◌++◌, length, take, drop, true, false, nat_eq, nat_lt, nat_le, decimal, codes, Option}
 use Rattle.std.proofs.Common.{Some, None, Ok, Err, refl, sym, ap, subst, ◌∙◌, arith, append_assoc, length-append}
 use Rattle.std.proofs.{Math.Seq.{drop-append_seam, take-append_seam}, lemmas.{List.{length-take, take-append-drop}, Bool.{cond_both}}}
-use Rattle.std.{proofs.lemmas.{Bool.Decides.{nat_tests, Decides-eqb}, Slice.Eq.{starts_is}}, specs.Prelude.{◌==◌, ◌&&◌, option_map, if◌then◌else◌}}
+use Rattle.std.{proofs.lemmas.{Bool.Decides.{nat_tests, Decides-eqb}, Slice.Eq.{starts_is}}, specs.Prelude.{◌==◌, option_map, if◌then◌else◌}}
 use Rattle.std.specs.List.{flat_map, list_all, list_any, starts_with}
 use Rattle.lz_slot.{specs.{Numerals.{is_number, largest_read, number_in}, Texts.{parted}}, proofs.Texts.Cuts.{AreParts, Lacks, parted_clear, parted_whole}}
 use Rattle.lz_slot.proofs.Texts.{Numerals.{decimal_number, decimal_read, number_told_of}, Spellings.{decimal_lacks}}
@@ -12,7 +12,6 @@ use Rattle.lz_resp.specs.Reading.{array_at, array_of, bulk_at, count_of, end_at,
 use Rattle.lz_resp.specs.{Reading.{word_of, words_at}, Pieces.{FaultsHaveNoFrame, FramesAreRead, FramesAreSpelled}, declared.fault.Fault.{Fault}}
 use Rattle.lz_resp.{specs.declared.fault.Fault.TheVariants.{Count, Length, NoBulk, NoEnd, Quotes, TooLong}, proofs.Many.{AreMany, many_read, many_spelled}}
 use Rattle.lz_resp.proofs.LongerTexts.{first_fault, first_told, given, same_read, take_more, then_value}
-use Rattle.lz_proto.specs.Lines.{carriage_return, line_feed}
 
 -- a line that lacks CR is read up to its end
 pub line_read : (fault : Fault) (line tail : List ℕ) → Lacks 13 line → line_at fault (line ++ 13 ∷ 10 ∷ tail) ≡ given line tail
@@ -87,12 +86,7 @@ frames_are_read text rest words is within =
 end_spelled : (fault : Fault) (text : List ℕ) (x : Unit {0}) (rest : List ℕ) → end_at fault text ≡ Ok (Some (x, rest)) → text ≡ 13 ∷ 10 ∷ rest
 end_spelled fault [] x rest h = absurd (cc)
 end_spelled fault (b ∷ []) x rest h = grind (arith, cond_both)
-end_spelled fault (b ∷ c ∷ t) x rest h =
-    cond_both ((b == carriage_return) && (c == line_feed)) (Ok (Some (tt, t))) (Err fault) (λ r. r ≡ Ok (Some (x, rest)) → b ∷ c ∷ t ≡ 13 ∷ 10 ∷ rest)
-    (λ yes h.
-    let first : b ≡ 13 = grind (arith, nat_tests) in
-    let second : c ≡ 10 = grind (arith, nat_tests) in
-    let same = same_read tt x t rest h in cc (first, second, same.1)) (λ _ h. absurd (cc)) h
+end_spelled fault (b ∷ c ∷ t) x rest h = grind (arith, cond_both, nat_tests, same_read tt x t rest) steps 100000
 
 line_parts : (fault : Fault) (text line rest : List ℕ) (q : Option (List ℕ × List ℕ)) → AreParts 13 text q → line_of fault q ≡ Ok (Some (line, rest)) → text ≡ line ++ 13 ∷ 10 ∷ rest
 line_parts fault text line rest None is h = absurd (cc)

@@ -1,6 +1,6 @@
 -- What the service tells of a page is read by a client.
 use Rattle.std.proofs.Common.{◌≡◌, ℕ, ◌≤◌, List, [], ◌∷◌, ◌++◌, length, true, nat_le, decimal, Option, Some, None, refl, sym, ap, ◌∙◌, arith}
-use Rattle.std.proofs.lemmas.{Bool.{cond_both, Decides.{nat_tests}}, List.{length-map, Sums.{count_by-le-length, length-filter}}}
+use Rattle.std.proofs.lemmas.{Bool.Decides.{nat_tests}, List.{length-map, Sums.{count_by-le-length, length-filter}}}
 use Rattle.std.specs.{Prelude.{IfSome, codes, count_by, filter}, List.{flat_map, list_all}}
 use Rattle.lz_slot.specs.{Limits.{largest_number, most_slots}, Rooms.{number_of}}
 use Rattle.lz_resp.specs.{Frames.{line_end}, Pages.{PagesAreToldAndRead, number_text, numbers_in, page_at, told_text}}
@@ -11,19 +11,11 @@ counted room keys = length-map (filter (is_in room) keys) number_of ∙ length-f
 
 texts : (room : ℕ) (keys : List ℕ) → flat_map (member_text room) keys ≡ flat_map number_text (numbers_in room keys)
 texts room [] = refl
-texts room (k ∷ keys) =
-    cond_both (is_in room k) true true (λ _. flat_map (member_text room) (k ∷ keys) ≡ flat_map number_text (numbers_in room (k ∷ keys)))
-    (λ yes. rw yes (ap (λ (t : List ℕ). number_text (number_of k) ++ t) (texts room keys)))
-    (λ other. rw other (texts room keys))
+texts room (k ∷ keys) = grind (arith, texts room keys) steps 100000
 
 small : (room : ℕ) (keys : List ℕ) → list_all (λ number. nat_le number largest_number) (numbers_in room keys) ≡ true
 small room [] = refl
-small room (k ∷ keys) =
-    let fits : number_of k ≤ largest_number = omega arith in
-    let test : nat_le (number_of k) largest_number ≡ true = grind (arith, nat_tests, fits) in
-    cond_both (is_in room k) true true (λ _. list_all (λ number. nat_le number largest_number) (numbers_in room (k ∷ keys)) ≡ true)
-    (λ yes. rw (yes, test) (small room keys))
-    (λ other. rw other (small room keys))
+small room (k ∷ keys) = let fits : number_of k ≤ largest_number = omega arith in grind (arith, nat_tests, fits, small room keys) steps 100000
 
 told : (room : ℕ) (keys : List ℕ) (next : Option ℕ) → page_text room keys next ≡ told_text (cursor_of next) (numbers_in room keys)
 told room keys next =
