@@ -1,11 +1,28 @@
-"""The machine on which is measured, and how much of it the host took away."""
+"""The machine on which is measured, how much of it the host took away, and what keeps it from that."""
 
 from __future__ import annotations
 
+import contextlib
 import datetime
 import os
 import platform
-from typing import List, Sequence
+import subprocess
+import sys
+from typing import Iterator, List, Sequence
+
+SPIN = "import os; os.sched_setscheduler(0, os.SCHED_IDLE, os.sched_param(0))\nwhile True: pass"
+
+
+@contextlib.contextmanager
+def awake() -> Iterator[None]:
+    """Keeps each processor busy with what yields to all other work. A virtual one that waits is given away by its host, and has to be waited for."""
+    spinning = [subprocess.Popen([sys.executable, "-c", SPIN]) for _ in range(os.cpu_count() or 1)]
+    try:
+        yield
+    finally:
+        for it in spinning:
+            it.kill()
+            it.wait()
 
 
 def times() -> List[int]:
