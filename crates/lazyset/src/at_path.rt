@@ -29,7 +29,7 @@ where
 }
 
 /// Whether somebody waits there to be accepted.
-pub fn has_waiting(listener: &UnixListener) -> bool {
+pub fn has_waiting<L: AsRawFd>(listener: &L) -> bool {
     let mut asked = [pollfd {
         fd: listener.as_raw_fd(),
         events: POLLIN,

@@ -198,12 +198,17 @@ where
         }
     }
 
-    // How many connections wait there, where the system tells it: of a path no more than that none does.
+    // How many connections wait there, where the system tells it: of a path no more than whether some do. Its table of all connections
+    // takes milliseconds to read, and is read only then.
     fn waiting_at(&self, listener: &Listener) -> Option<u64> {
-        match listener {
-            Listener::Port(_) => self.around.backlog.at(self.rt.alloc(), listener.port()?),
-            Listener::Path(listener) => { if has_waiting(listener) { None } else { Some(0) } }
+        let some_wait = match listener {
+            Listener::Port(listener) => has_waiting(listener),
+            Listener::Path(listener) => has_waiting(listener),
+        };
+        if !some_wait {
+            return Some(0);
         }
+        self.around.backlog.at(self.rt.alloc(), listener.port()?)
     }
 
     // How many buckets, passes and loops it has.
