@@ -1,11 +1,11 @@
 -- What the calls of the vault ask for, and what they make of an event.
-use Rattle.std.proofs.{Common.{◌≡◌, ℕ, ◌<◌, Bool, true, false, ◌&&◌, length, sym, ◌∙◌, arith}, lemmas.Option.{same_Some, slice_get-get_or}}
-use Rattle.std.specs.Prelude.{Some, Ok, slice_get, slice_set}
+use Rattle.std.proofs.lemmas.{Bool.Decides.{nat_tests}, Option.{same_Some, slice_get-get_or}}
+use Rattle.std.{proofs.Common.{◌≡◌, ℕ, ◌<◌, Bool, true, false, ◌&&◌, length, sym, ◌∙◌, arith}, specs.Prelude.{Some, Ok, slice_get, slice_set}}
 use Rattle.lz_disk.specs.Devices.{Device}
-use Rattle.lz_vault.specs.{Members.{no_cell}, Stages.{Cell, stage_put}, Vaults.{Vaulted, Called, key_call}}
+use Rattle.lz_vault.specs.{Stages.{Cell, stage_put}, Vaults.{Vaulted, Called, key_call}}
 use Rattle.lz_list.specs.{declared.word.Word.TheVariants.{Key as key_at}, Words.{set}, Lists.{Listed}}
 use Rattle.lz_machine.specs.declared.{event.{Event.TheVariants.{WriteKey}, Outcome.TheVariants.{Done}}, course.Course.TheVariants.{Plays}}
-use Rattle.lz_machine.specs.{Yards.{Yard, actor_at, cell_at}, Ready.{IsReady}}
+use Rattle.lz_machine.specs.{Yards.{Yard, actor_at}, Ready.{IsReady}}
 use Rattle.lz_yard.specs.Parts.{Does, Known, PartsFit}
 
 -- an event that a dead vault refuses is played on one that isn't dead
@@ -22,7 +22,4 @@ pub write_key_does : (y : Yard) (a k s v : ℕ) (list : Listed) (new : Vaulted) 
     → s < length y.vault.cells
     → ((cell : Cell) → slice_get y.vault.cells s ≡ Some cell → Called (key_call y.vault.format cell.stage s k) (slice_set y.vault.cells s (record { stage = stage_put y.vault.format cell.stage; key = k })) y.vault new before after (Ok done))
     → Does y a (WriteKey k) (Ok Done) (record { shape = y.shape; words = list.words; locks = list.locks; vault = new; uses = y.uses; actors = y.actors }) before after
-write_key_does y a k s v list new before after done known slot key is within call =
-    let called = call (cell_at y s) (slice_get-get_or y.vault.cells s no_cell within) in
-    let alive = lives y.vault.dead known.2 in
-    grind (arith, called, alive)
+write_key_does y a k s v list new before after done known slot key is within call = grind (arith, nat_tests, slice_get-get_or, lives)

@@ -4,7 +4,7 @@ use Rattle.std.proofs.{Common.{ap, ◌∙◌, subst, arith, IsTrue}, lemmas.List
 use Rattle.std.proofs.lemmas.{List.FromFn.{length-range_with_len, get_or-range_with_len}, Option.{slice_get-get_or}, Bool.{cases_eq, cases_Bool}}
 use Rattle.std.{proofs.lemmas.Bool.Decides.{nat_tests}, specs.{Prelude.{slice_get, Some, replicate, slice_index_or, if◌then◌else◌}, List.{range_with_len}}}
 use mathlib.Core.Bool.{false≢true}
-use Rattle.lz_slot.specs.declared.slot.SlotRead.{SlotRead, TheVariants.{Closed as Closed_read, Torn as Torn_read, Member as Member_read, BadKey as BadKey_read}}
+use Rattle.lz_slot.specs.declared.slot.SlotRead.{SlotRead, TheVariants.{Closed as Closed_read, Member as Member_read, BadKey as BadKey_read}}
 use Rattle.lz_slot.specs.{declared.format.Format.{Format}, Limits.{most_slots_of, most_buckets, most_passes}, Rooms.{largest_of}, Sets.{members}}
 use Rattle.lz_slot.specs.{Bytes.{Holds, format_of, open_byte, header_body, slot_at, held, held_key}, Nodes.{has_node}}
 use Rattle.lz_disk.specs.{Images.{AreBytes, at_rest}, Devices.{Device}}
@@ -22,20 +22,11 @@ use Rattle.lz_yard.proofs.Opening.{FilledTables.{opened}, SlotReads.{read_length
 
 append_cases : (k s : ℕ) (c d : Chain) → has_node k s (c ++ d) ≡ true → (has_node k s c ≡ true) ⊎ (has_node k s d ≡ true)
 append_cases k s [] d there = inr there
-append_cases k s (f ∷ c) d there = elim (node_cases k s f (c ++ d) there) [
-  | inl first ↦ inl (grind (arith, nat_tests, first.0, first.1))
-  | inr later ↦ elim (append_cases k s c d later) [
-    | inl left ↦ inl (grind (arith, left))
-    | inr right ↦ inr right
-  ]
-]
+append_cases k s (f ∷ c) d there = grind (arith, nat_tests, node_cases, append_cases k s c d)
 
 -- what is said of a slot, and its cell
 cell_same : (r : SlotRead) (cell : Cell) → IsCellOf r cell → (cell.stage ≢ Open → cell.key ≡ 0) → cell ≡ cell_read r
-cell_same Closed_read cell is blank = let key = blank (λ opened. absurd cc) in (λ i. record { stage = is i; key = key i })
-cell_same Torn_read cell is blank = let key = blank (λ opened. absurd cc) in (λ i. record { stage = is i; key = key i })
-cell_same (Member_read k) cell is blank = (λ i. record { stage = is.0 i; key = is.1 i })
-cell_same BadKey_read cell is blank = absurd is
+cell_same r cell is blank = grind arith
 
 module _ (t : List ℕ) where
   read_at : (n i : ℕ) (d : SlotRead) → i < n → slice_index_or (slots_read t n) i d ≡ slot_at t i
@@ -52,10 +43,7 @@ module _ (t : List ℕ) where
 
   held_node : (n k s : ℕ) → has_node k s (held t n) ≡ true → (s < n) × (slot_at t s ≡ Member_read k)
   held_node zero k s there = absurd (false≢true there)
-  held_node (suc n) k s there = elim (append_cases k s (held t n) (held_key (slot_at t n) n) there) [
-    | inl before ↦ let was = held_node n k s before in (omega (arith, was.0), was.1)
-    | inr last ↦ let is = held_read n k s (slot_at t n) refl last in (omega (arith, is.0), is.1)
-  ]
+  held_node (suc n) k s there = grind (arith, nat_tests, append_cases, held_node n k s, held_read)
 
   module _ (vault : Vaulted) (B S : ℕ) (list : Listed) (allot : Allotted) (actors : List Actor) (are : AreTables vault.cells B S list allot actors)
       (fresh : (vault.syncs ≡ 0) × (vault.dead ≡ false)) (named : vault.format ≡ format_of t) (each : (i : ℕ) (cell : Cell) → slice_get vault.cells i ≡ Some cell → IsCellOf (slot_at t i) cell) (blank : AreBlank vault.cells) where
@@ -110,9 +98,7 @@ module _ (t : List ℕ) where
       where
         free : (r : SlotRead) → slot_at t i ≡ r → Free ≡ use_read r
         free (Member_read k) is = absurd (false≢true (sym has ∙ node_slot k i es (are.found.all k i low (is_member i k low is))))
-        free Closed_read is = refl
-        free Torn_read is = refl
-        free BadKey_read is = refl
+        free _ is = refl
 
     uses_are : allot.uses ≡ map use_read (slots_read t N)
     uses_are = are.uses ∙ ext_get_or Taken (map use_of (range_with_len 0 N)) (map use_read (slots_read t N))

@@ -32,8 +32,7 @@ are_found cells N (f ∷ es) up each = (
 )
   where
     no_key : (b : Bool) → has_key f.0 es ≡ b → has_key f.0 es ≡ false
-    no_key false is = is
-    no_key true is = let node = key_node f.0 es is in absurd (omega (arith, up.0 f.0 node.0 node.1))
+    no_key b is = grind (arith, nat_tests, key_node)
 
     no_slot : (b : Bool) → has_slot f.1 es ≡ b → has_slot f.1 es ≡ false
     no_slot false is = is

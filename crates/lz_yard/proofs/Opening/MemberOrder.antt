@@ -1,5 +1,5 @@
 -- The words after an opening don't depend on the order in which its members stand.
-use Rattle.std.proofs.Common.{◌≡◌, ◌⊎◌, inl, inr, ℕ, suc, ◌≤◌, Bool, true, false, ◌==◌, [], ◌∷◌, refl, sym, ap, ◌∙◌, subst, arith}
+use Rattle.std.proofs.Common.{◌≡◌, ◌⊎◌, inl, inr, ℕ, suc, ◌≤◌, Bool, true, false, ◌==◌, [], ◌∷◌, refl, sym, ap, ◌∙◌, arith}
 use Rattle.std.proofs.lemmas.Bool.{cases_eq, cases_Bool, Decides.{nat_tests, leb_tells, eqb_tells}}
 use mathlib.Core.Bool.{false≢true}
 use Rattle.lz_list.specs.Traces.{Trace, Chain, WordsShow, rank_at, on, IsFound, insert, bucket_of, chain, chain_of, place_of, has_slot, head_word, node_next}
@@ -34,10 +34,7 @@ same_list (n ∷ c) (m ∷ d) up up' in' out = elim (node_cases n.0 n.1 m d (in'
 -- a chain that is shown ascends
 shown_above : (next keys : ℕ → ℕ) (x : ℕ) (c : Chain) → WordsShow next keys x c → (k s : ℕ) → has_node k s c ≡ true → rank_at keys x ≤ k
 shown_above next keys x [] shows k s there = absurd (false≢true there)
-shown_above next keys x (n ∷ c) shows k s there = elim (node_cases k s n c there) [
-  | inl first ↦ omega (arith, shows.2, first.0)
-  | inr later ↦ let high : suc (keys n.1) ≤ k = shown_above next keys (suc n.1) c shows.3 k s later in omega (arith, shows.1, shows.2, high)
-]
+shown_above next keys x (n ∷ c) shows k s there = grind (arith, nat_tests, node_cases, shown_above next keys (suc n.1) c shows.3 k s)
 
 shown_ascends : (next keys : ℕ → ℕ) (x : ℕ) (c : Chain) → WordsShow next keys x c → Ascends c
 shown_ascends next keys x [] shows = tt
@@ -49,16 +46,7 @@ shown_ascends next keys x (n ∷ c) shows = (
 -- what stands on a chain after an insertion
 insert_cases : (k s j t : ℕ) (c : Chain) → has_node k s (insert j t c) ≡ true → ((j ≡ k) × (t ≡ s)) ⊎ (has_node k s c ≡ true)
 insert_cases k s j t [] there = node_cases k s (j, t) [] there
-insert_cases k s j t (n ∷ c) there = elim (leb_tells (suc n.0) j) [
-  | inl e ↦ elim (node_cases k s n (insert j t c) (rw e.0 at there)) [
-    | inl first ↦ inr (subst (λ (q : ℕ). has_node q s (n ∷ c) ≡ true) first.0 (subst (λ (q : ℕ). has_node n.0 q (n ∷ c) ≡ true) first.1 (node_first n c)))
-    | inr later ↦ elim (insert_cases k s j t c later) [
-      | inl new ↦ inl new
-      | inr old ↦ inr (node_later k s n c old)
-    ]
-  ]
-  | inr f ↦ node_cases k s (j, t) (n ∷ c) (rw f.0 at there)
-]
+insert_cases k s j t (n ∷ c) there = grind (arith, nat_tests, leb_tells, node_cases, node_first, insert_cases k s j t c, node_later)
 
 insert_new : (j t : ℕ) (c : Chain) → has_node j t (insert j t c) ≡ true
 insert_new j t [] = node_first (j, t) []
@@ -66,53 +54,26 @@ insert_new j t (n ∷ c) = grind (arith, insert_new j t c)
 
 insert_old : (k s j t : ℕ) (c : Chain) → has_node k s c ≡ true → has_node k s (insert j t c) ≡ true
 insert_old k s j t [] there = absurd (false≢true there)
-insert_old k s j t (n ∷ c) there = elim (leb_tells (suc n.0) j) [
-  | inl e ↦ rw e.0 (elim (node_cases k s n c there) [
-    | inl first ↦ subst (λ (q : ℕ). has_node q s (n ∷ insert j t c) ≡ true) first.0 (subst (λ (q : ℕ). has_node n.0 q (n ∷ insert j t c) ≡ true) first.1 (node_first n (insert j t c)))
-    | inr later ↦ node_later k s n (insert j t c) (insert_old k s j t c later)
-  ])
-  | inr f ↦ rw f.0 (node_later k s (j, t) (n ∷ c) there)
-]
+insert_old k s j t (n ∷ c) there = grind (arith, nat_tests, leb_tells, node_cases, node_first, node_later, insert_old k s j t c)
 
 -- a chain's next links are told by it
 same_next : (next keys other keys' : ℕ → ℕ) (x : ℕ) (c : Chain) → WordsShow next keys x c → WordsShow other keys' x c → (y : ℕ) → on x c y ≡ true → next y ≡ other y
 same_next next keys other keys' x [] shows shows' y there = grind arith
-same_next next keys other keys' x (n ∷ c) shows shows' y there = elim (cases_eq y x) [
-  | inl at ↦ ap next at ∙ shows.0 ∙ sym shows'.0 ∙ ap other (sym at)
-  | inr away ↦ same_next next keys other keys' (suc n.1) c shows.3 shows'.3 y (grind (arith, nat_tests, there, away))
-]
+same_next next keys other keys' x (n ∷ c) shows shows' y there = grind (arith, nat_tests, cases_eq, same_next next keys other keys' (suc n.1) c shows.3 shows'.3 y)
 
 node_stands : (k s x : ℕ) (c : Chain) → has_node k s c ≡ true → on x c (suc s) ≡ true
 node_stands k s x [] there = absurd (false≢true there)
-node_stands k s x (n ∷ c) there = elim (node_cases k s n c there) [
-  | inl first ↦ grind (arith, nat_tests, first.1, on_start (suc n.1) c)
-  | inr later ↦ grind (arith, nat_tests, node_stands k s (suc n.1) c later)
-]
+node_stands k s x (n ∷ c) there = grind (arith, nat_tests, node_cases, on_start, node_stands k s (suc n.1) c)
 
 module _ (B : ℕ) where
   -- the nodes of a chain are those of its bucket
   chain_has : (b k s : ℕ) (F : Chain) → has_node k s (chain B b (opening B F)) ≡ true → (bucket_of B k ≡ b) × (has_node k s F ≡ true)
   chain_has b k s [] there = absurd (false≢true there)
-  chain_has b k s (f ∷ F) there = elim (eqb_tells (bucket_of B f.0) b) [
-    | inl e ↦ elim (insert_cases k s f.0 f.1 (chain B b (opening B F)) (rw e.0 at there)) [
-      | inl new ↦ (ap (bucket_of B) (sym new.0) ∙ e.1, subst (λ (q : ℕ). has_node q s (f ∷ F) ≡ true) new.0 (subst (λ (q : ℕ). has_node f.0 q (f ∷ F) ≡ true) new.1 (node_first f F)))
-      | inr old ↦ let rest = chain_has b k s F old in (rest.0, node_later k s f F rest.1)
-    ]
-    | inr g ↦ let rest = chain_has b k s F (rw g.0 at there) in (rest.0, node_later k s f F rest.1)
-  ]
+  chain_has b k s (f ∷ F) there = grind (arith, nat_tests, eqb_tells, insert_cases, node_first, chain_has b k s F, node_later)
 
   has_chain : (b k s : ℕ) (F : Chain) → bucket_of B k ≡ b → has_node k s F ≡ true → has_node k s (chain B b (opening B F)) ≡ true
   has_chain b k s [] here there = absurd (false≢true there)
-  has_chain b k s (f ∷ F) here there = elim (eqb_tells (bucket_of B f.0) b) [
-    | inl e ↦ rw e.0 (elim (node_cases k s f F there) [
-      | inl first ↦ subst (λ (q : ℕ). has_node q s (insert f.0 f.1 (chain B b (opening B F))) ≡ true) first.0 (subst (λ (q : ℕ). has_node f.0 q (insert f.0 f.1 (chain B b (opening B F))) ≡ true) first.1 (insert_new f.0 f.1 (chain B b (opening B F))))
-      | inr later ↦ insert_old k s f.0 f.1 (chain B b (opening B F)) (has_chain b k s F here later)
-    ])
-    | inr g ↦ rw g.0 (elim (node_cases k s f F there) [
-      | inl first ↦ absurd (g.1 (ap (bucket_of B) first.0 ∙ here))
-      | inr later ↦ has_chain b k s F here later
-    ])
-  ]
+  has_chain b k s (f ∷ F) here there = grind (arith, nat_tests, eqb_tells, node_cases, insert_new, insert_old, has_chain b k s F here)
 
   -- the words of a slot that holds none
   none_next : (s : ℕ) (F : Chain) → has_slot s F ≡ false → node_next B s (opening B F) ≡ 0
@@ -136,16 +97,7 @@ module _ (B : ℕ) where
   -- and of one that holds a member
   some_key : (N k s : ℕ) (F : Chain) → IsFound N F → has_node k s F ≡ true → key_word s (opening B F) ≡ k
   some_key N k s [] found there = absurd (false≢true there)
-  some_key N k s (f ∷ F) found there = elim (node_cases k s f F there) [
-    | inl first ↦ grind (arith, nat_tests, first.0, first.1)
-    | inr later ↦
-        let other : (f.1 == s) ≡ false = apart (f.1 == s) refl (node_slot k s F later) in
-        rw other (some_key N k s F found.3 later)
-  ]
-    where
-      apart : (q : Bool) → (f.1 == s) ≡ q → has_slot s F ≡ true → (f.1 == s) ≡ false
-      apart false is has = is
-      apart true is has = let at : f.1 ≡ s = grind (arith, nat_tests, is) in absurd (false≢true (sym found.2 ∙ ap (λ (q : ℕ). has_slot q F) at ∙ has))
+  some_key N k s (f ∷ F) found there = grind (arith, nat_tests, node_cases, node_slot, some_key N k s F found.3, false≢true)
 
   added_slots : (s : ℕ) (F : Chain) → has_added s (opening B F) ≡ has_slot s F
   added_slots s [] = refl
