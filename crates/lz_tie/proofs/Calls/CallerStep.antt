@@ -1,7 +1,7 @@
 -- The steps of a call under way, in the words of the caller that counts them.
-use Rattle.std.proofs.Common.{◌≡◌, ℕ, List, sym, ap, ◌∙◌, subst, Option, Some, None}
+use Rattle.std.proofs.{Common.{arith, ◌≡◌, ℕ, List, sym, ap, ◌∙◌, subst, Option, None}, lemmas.Bool.Decides.{nat_tests}}
 use Rattle.lz_tie.proofs.Vocabulary.{Command, Format, Publishing, Word, Trace, word_after, Event, Outcome, Progress, event_at, progress_after, hop_of, Calling}
-use Rattle.lz_tie.proofs.Vocabulary.{HasPass, shape_with, reply_at, Sizes, Note, Part, note_by, shape_of_sizes, IsShared, index, loading, IsShownTo, BoardId}
+use Rattle.lz_tie.proofs.Vocabulary.{shape_with, reply_at, Sizes, Note, Part, note_by, shape_of_sizes, IsShared, index, loading, IsShownTo, BoardId}
 use Rattle.lz_tie.{proofs.Calls.{CallLoad.{loaded}, CallTurn.{turned}}, specs.{Holds.{HasCall, HoldNotes, Turned}, UnderWay.{UnderWay}}}
 use Rattle.lz_machine.{specs.declared.event.{Event.TheVariants.{Hop}, Outcome.TheVariants.{Value}}, proofs.Runs.EventOrder.{shaped, same_event, same_follows}}
 use Rattle.lz_board.specs.declared.view.What.TheVariants.{Played}
@@ -13,11 +13,7 @@ IsCallerOn b c k = (k.command ≡ c) × (k.buckets ≡ b.sizes.buckets) × (k.pa
 module _ (b : BoardId) (c : Command) (format : Format) (before : Part) (k : Calling) (on : IsCallerOn b c k) (h : Part) (U : UnderWay b c format before k.progress h) where
   -- the pass has its call open
   pub has_call : HasCall h k
-  has_call = record {
-    next = U.call.next;
-    at = U.call.at ∙ ap (λ (q : Command). Some (q, k.progress)) (sym on.0);
-    pass = subst (λ (q : Command). HasPass h.sizes.passes (event_at (shape_of_sizes h.sizes) q k.progress)) (sym on.0) U.call.pass;
-  }
+  has_call = grind (arith, nat_tests, event_at, shape_of_sizes)
 
   -- how many slots there are plays no part in it
   same_shape : shaped 0 h.sizes.buckets h.sizes.passes ≡ shape_with k

@@ -1,5 +1,5 @@
 -- Where a call comes to by its next event, with what is published for its pass then.
-use Rattle.std.proofs.Common.{◌≡◌, ℕ, zero, suc, ◌+◌, ◌≤◌, nat_lt, Bool, true, false, List, [], ◌∷◌, ◌++◌, refl, sym, ◌∙◌, subst, arith, if◌then◌else◌, ◌==◌}
+use Rattle.std.proofs.Common.{◌≡◌, ℕ, zero, suc, ◌+◌, ◌≤◌, nat_lt, Bool, true, false, List, [], ◌∷◌, ◌++◌, refl, sym, ◌∙◌, subst, arith, if◌then◌else◌}
 use Rattle.std.proofs.{Common.{unwrap_or, Option, Some, None}, lemmas.Bool.Decides.{nat_tests}}
 use Rattle.lz_tie.proofs.Vocabulary.{Command, History, Medium, collect, lowest_free, counts, Place, Met, get, is_pair_free, check, Hopped, More, End, Trace, on}
 use Rattle.lz_tie.proofs.Vocabulary.{chain_of, bucket_of, key_word, Need, may_answer, Actor, Hold, Outcome, Reply, Progress, Shape, Yard, actor_at, cell_at}
@@ -66,11 +66,7 @@ module _ (shape : Shape) (p : ℕ) (P : Trace) (none : P ≡ []) where
   hop_onward c aim (End pred curr met) = walked_onward c aim pred curr met
 
   pub halt_onward : (c : Command) (value : ℕ) → Onward shape p c (halt_loaded value) P
-  halt_onward c value = go (value == 1)
-    where
-      go : (halted : Bool) → Onward shape p c (if halted then Answering Halted else Walking None AtHead) P
-      go true = record { inside = refl; pass = tt; is_own = cut_halted p c P (none_cut p c P none); room = refl }
-      go false = calm_onward shape p c P (Walking None AtHead) refl tt refl refl none
+  halt_onward c value = grind (arith, nat_tests, cut_halted, none_cut, calm_onward)
 
   -- after a test that held
   changes_onward : (c : Command) (aim curr : Option ℕ) → Onward shape p c (changes c aim curr) P

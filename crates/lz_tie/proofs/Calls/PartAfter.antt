@@ -1,10 +1,10 @@
 -- What a hold leaves of a pass's part, in the words of the part before its call.
-use Rattle.std.proofs.Common.{◌≡◌, ◌≢◌, ⊎_elim, ℕ, ◌%◌, Bool, true, List, [], ◌∷◌, ◌++◌, map, sym, ap, ◌∙◌, subst, append_assoc, eq-eqb, ne_eqb, if◌then◌else◌}
-use Rattle.std.proofs.{Common.{Option, None}, lemmas.{Bool.{cases_eq}, List.Elements.{filter-append}}}
-use Rattle.lz_tie.proofs.Vocabulary.{Command, Format, Counts, Publishing, Trace, Begins, halt_word, Event, Outcome, Reply, Progress, event_at, progress_after}
-use Rattle.lz_tie.proofs.Vocabulary.{is_before_pin, side_of, HasPass, reply_at, is_old, IsInside, IsLate, Sizes, Note, Load, Part, note_by, stamped, as_list}
-use Rattle.lz_tie.proofs.Vocabulary.{own, is_for, trace_of, load_note, place, placed, unless_replied, shape_of_sizes, Changes, BoardId}
-use Rattle.lz_tie.specs.{Answers.{IsWithin, AreWithin}, Holds.{HasCall, HoldNotes}, NotedRuns.{AreNext}, UnderWay.{OwnAt, FoundFull, UnderWay}}
+use Rattle.std.proofs.Common.{arith, ◌≡◌, ℕ, ◌%◌, true, List, [], ◌∷◌, ◌++◌, map, sym, ap, ◌∙◌, subst, append_assoc, eq-eqb, ne_eqb, Option, None}
+use Rattle.std.proofs.lemmas.{Bool.{cases_eq, Decides.{nat_tests}}, List.Elements.{filter-append}}
+use Rattle.lz_tie.proofs.Vocabulary.{Command, Format, Counts, Publishing, Trace, Begins, halt_word, Event, Outcome, Progress, event_at, progress_after}
+use Rattle.lz_tie.proofs.Vocabulary.{is_before_pin, side_of, HasPass, reply_at, is_old, IsInside, IsLate, Note, Load, Part, note_by, stamped, as_list, own}
+use Rattle.lz_tie.proofs.Vocabulary.{is_for, trace_of, load_note, place, placed, unless_replied, shape_of_sizes, Changes, BoardId}
+use Rattle.lz_tie.specs.{Answers.{IsWithin, AreWithin}, Holds.{HasCall, HoldNotes}, UnderWay.{OwnAt, FoundFull, UnderWay}}
 use Rattle.lz_machine.specs.declared.{event.Reply.TheVariants.{Full, OldFile}, caller.Progress.TheVariants.{Answering}}
 use Rattle.lz_board.{specs.declared.view.What.TheVariants.{Called, Played}, proofs.Upkeep.{Growth.{begins_of}, Splice.{trace_splice}}}
 
@@ -29,10 +29,7 @@ changes_after opened was is n h h' P changed H C =
 
 -- a pass that is inside went in since then
 pub begins_after : (opened : Trace) (was is : List Note) (n : Note) (h h' : Part) (P : Trace) → HoldNotes opened was is n h h' → Begins P h'.known → (IsInside h.pin → Begins P h.begun) → IsInside h'.pin → Begins P h'.begun
-begins_after opened was is n h h' P H now before inside = ⊎_elim
-    (λ (same : h'.pin ≡ h.pin). subst (Begins P) (sym (H.begun ∙ ap (λ (t : Bool). if t then h.begun else h'.known) (eq-eqb h'.pin h.pin same))) (before (subst IsInside same inside)))
-    (λ (away : h'.pin ≢ h.pin). subst (Begins P) (sym (H.begun ∙ ap (λ (t : Bool). if t then h.begun else h'.known) (ne_eqb h'.pin h.pin away))) now)
-    (cases_eq h'.pin h.pin)
+begins_after opened was is n h h' P H now before inside = grind (arith, nat_tests, eq-eqb, ne_eqb, cases_eq)
 
 pub begins_changed : (p : ℕ) (P Q changed : Trace) → Changes p P Q changed → Begins P Q
 begins_changed p P Q changed C = begins_of P Q (C.since, C.goes_on)
@@ -52,19 +49,10 @@ module _ (b : BoardId) (c : Command) (format : Format) (before : Part) (at : Pro
   steps_since = stamped H.moment (note_by h.number (Played e o) x) ∷ (map (load_note h.number) h.loads ++ U.within)
 
   steps_are : h'.steps ≡ steps_since ++ (note_by h'.number (Called c format) None ∷ before.steps)
-  steps_are =
-      H.steps ∙ ap (λ (l : List Note). stamped H.moment (note_by h.number (Played e o) x) ∷ (map (load_note h.number) h.loads ++ l)) U.steps
-      ∙ sym (append_assoc (stamped H.moment (note_by h.number (Played e o) x) ∷ map (load_note h.number) h.loads) U.within (note_by h.number (Called c format) None ∷ before.steps))
-      ∙ ap (λ (p : ℕ). steps_since ++ (note_by p (Called c format) None ∷ before.steps)) (sym H.number)
+  steps_are = grind (arith, nat_tests, stamped, note_by, load_note, append_assoc)
 
   call_is : reply_at at ≡ None → HasPass h.sizes.passes (event_at (shape_of_sizes h.sizes) c next) → HasCall h' record { command = c; buckets = b.sizes.buckets; passes = b.sizes.passes; progress = next }
-  call_is going pass = record {
-    next = subst (λ (l : List Load). AreNext (shape_of_sizes h'.sizes) h'.number l h'.steps) (sym H.no_loads) tt;
-    at =
-        ap (λ (q : Sizes × List Load × List Note). place (shape_of_sizes q.0) (map (load_note h'.number) q.1 ++ q.2)) (λ i. (H.sizes i, H.no_loads i, H.steps i))
-        ∙ ap (placed (shape_of_sizes h.sizes) (Played e o)) U.call.at ∙ ap (λ (r : Option Reply). unless_replied r c next) going;
-    pass = subst (λ (s : Sizes). HasPass s.passes (event_at (shape_of_sizes s) c next)) (sym H.sizes) pass;
-  }
+  call_is going pass = grind (arith, nat_tests, shape_of_sizes, place, load_note, placed, unless_replied, event_at)
 
   -- The call is under way where it has come to by its event.
   pub goes : reply_at at ≡ None → IsWithin (Played e o) → HasPass h.sizes.passes (event_at (shape_of_sizes h.sizes) c next) → h'.pin % 2 ≡ side_of (is_before_pin next) → OwnAt h.number c next (own h.number (as_list x) ++ U.own)

@@ -1,9 +1,9 @@
 -- Two notes of the pen that no event gives: a pin word that was found, and a call that was made.
-use Rattle.std.proofs.Common.{◌≡◌, ◌≢◌, ◌⊎◌, inl, inr, ⊎_elim, ℕ, zero, suc, ◌+◌, ◌-◌, ◌≤◌, Bool, true, false, List, [], ◌∷◌, ◌++◌, refl, sym, ap, ◌∙◌, subst}
-use Rattle.std.proofs.Common.{arith, replicate, Option, Some, None, IsNone, IsTrue, is_some}
+use Rattle.std.proofs.{lemmas.Bool.Decides.{nat_tests}, Common.{◌≡◌, ◌≢◌, ◌⊎◌, inl, inr, ⊎_elim, ℕ, zero, suc, ◌+◌, ◌-◌, ◌≤◌, Bool, true, false, List, [], ◌∷◌}}
+use Rattle.std.proofs.Common.{◌++◌, refl, sym, ap, ◌∙◌, subst, arith, replicate, Option, Some, None, IsNone, IsTrue, is_some}
 use mathlib.Core.Bool.{false≢true}
 use Rattle.lz_tie.proofs.Vocabulary.{Command, of_pass, set_of_pass, largest_key, Vaulted, key_of, Medium, is_outside, Trace, Progress, Shape, Yard, idle_actor}
-use Rattle.lz_tie.proofs.Vocabulary.{pin_of, last_pin, is_old, MayPlay, State, Up, Down, Service, Caller, Calls, Looks, Point, run, IsRun, MayStep, first_point}
+use Rattle.lz_tie.proofs.Vocabulary.{pin_of, last_pin, is_old, MayPlay, State, Up, Service, Caller, Calls, Looks, Point, run, IsRun, MayStep, first_point}
 use Rattle.lz_tie.proofs.Vocabulary.{caller_at, state_after, looked, invoked, Note, note_by, steps_of, place, pin_after, is_calling, PinTold, found_note}
 use Rattle.lz_tie.proofs.Reading.{CallPlaces.{Placed, place_reads}, PinWords.{count_pins, pin_in_state, pin_reads}}
 use Rattle.lz_tie.{proofs.Hold.Alike.{alike_is, alike_then, with_own_pin}, specs.{NotedRuns.{TellsStep, viewed, SameButAllPins, IsTied}, Holds.{sizes_of}}}
@@ -37,11 +37,7 @@ module _ (opened : Trace) (ns : List Note) (y : Yard) (honest : Bool) (disk : Me
   pin_is q low high = ap (λ w. pin_in_state t.start t.starts w q) (sym pl.state) ∙ pin_reads t.start t.starts ns t.steps t.runs t.reads q low (subst (λ (s : Shape). q ≤ s.passes) shape_is high)
 
   same_yard : SameButAllPins y pl.service.yard
-  same_yard = subst (λ (w : State). SameButAllPins y (yard_or w)) (sym t.state ∙ pl.state) t.yard
-    where
-      yard_or : State → Yard
-      yard_or (Up service disk) = service.yard
-      yard_or (Down shape disk) = t.service.yard
+  same_yard = grind (arith, nat_tests, pl)
 
   -- looks of a pass without a call, as far as its pin word goes
   record Looked (k q : ℕ) (w : State) : Type 0 where
@@ -79,11 +75,7 @@ module _ (opened : Trace) (ns : List Note) (y : Yard) (honest : Bool) (disk : Me
       )
 
   medium_is : pl.disk ≡ t.medium
-  medium_is = ap (disk_or t.medium) (sym pl.state ∙ t.state)
-    where
-      disk_or : Medium → State → Medium
-      disk_or d (Up service disk) = disk
-      disk_or d (Down shape disk) = disk
+  medium_is = grind (arith, nat_tests, pl)
 
   found_by : (k q v : ℕ) → 1 ≤ q → q ≤ y.shape.passes → v ≤ last_pin → pin_after q ns + k ≡ v → (k ≡ 0) ⊎ IsNone (caller_at pl.service.callers q) → IsTied opened (found_note q v ∷ ns) y honest disk
   found_by k q v low high worn sum idle =

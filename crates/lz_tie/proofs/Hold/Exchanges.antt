@@ -1,5 +1,5 @@
 -- The exchange on the board that goes with a turn's note.
-use Rattle.std.proofs.Common.{◌≡◌, ◌≢◌, ℕ, refl, sym, ap, ◌∙◌, subst, Option, Some, None}
+use Rattle.std.proofs.{Common.{arith, ◌≡◌, ◌≢◌, ℕ, refl, sym, ap, ◌∙◌, subst, Option, Some, None}, lemmas.Bool.Decides.{nat_tests}}
 use Rattle.lz_tie.proofs.Vocabulary.{Word, Words, get}
 use Rattle.lz_list.specs.declared.word.Word.TheVariants.{Link, Pin as pin_at}
 
@@ -26,10 +26,7 @@ word_exchange words _ before other = (refl, refl, refl)
 
 module _ (words : Words) (changed : Option Word) (before : ℕ) where
   pub of_word : (seen : Words) (w : Word) (after : ℕ) → changed ≡ Some w → ((q : ℕ) → w ≢ pin_at q) → after ≡ get seen w → seen ≡ words → IsExchange words changed before (Some (record { word = w; before = before; after = after }))
-  of_word seen w after is other reads same =
-      subst (λ (o : Option Word). IsExchange words o before (Some (record { word = w; before = before; after = after }))) (sym is)
-      (subst (λ (n : ℕ). IsExchange words (Some w) before (Some (record { word = w; before = before; after = n }))) (sym (reads ∙ ap (λ (q : Words). get q w) same))
-      (word_exchange words w before other))
+  of_word seen w after is other reads same = grind (arith, nat_tests, get, word_exchange)
 
   pub of_none : changed ≡ None → (s : ℕ) → s ≡ 0 → IsExchange words changed before (Some (record { word = Link s; before = 2; after = 2 }))
   of_none is s first = subst (λ (o : Option Word). IsExchange words o before (Some (record { word = Link s; before = 2; after = 2 }))) (sym is) (ap Link first, refl, refl)

@@ -1,7 +1,7 @@
 -- What the tie before a hold and after it say of the board: the words, and that the store of a hold publishes what its note
 -- says.
-use Rattle.std.proofs.Common.{◌≡◌, ◌≢◌, ⊎_elim, ℕ, List, ◌∷◌, ◌++◌, refl, sym, ap, ◌∙◌, ◌<◌, subst, arith, ne_eqb, Bool, true, false, ◌==◌, length}
-use Rattle.std.proofs.{Common.{if◌then◌else◌, [], Option, Some, None, option_to_list}, lemmas.{Bool.{eq-eqb, cases_eq, cases_lt}, List.{get_or_past}}}
+use Rattle.std.proofs.{lemmas.{Bool.{eq-eqb, cases_eq, cases_lt, Decides.{nat_tests}}, List.{get_or_past}}, Common.{◌≡◌, ◌≢◌, ⊎_elim, ℕ, List, ◌∷◌, ◌++◌, refl}}
+use Rattle.std.proofs.Common.{sym, ap, ◌∙◌, ◌<◌, subst, arith, ne_eqb, Bool, ◌==◌, length, if◌then◌else◌, [], Option, Some, None, option_to_list}
 use mathlib.Core.Bool.{false≢true}
 use Rattle.lz_tie.proofs.Vocabulary.{of_pass, Device, Medium, Vaulted, Use, Taken, use_of, Publishing, Word, get, IsWord, Trace, Lawful, IsLoose, word_after}
 use Rattle.lz_tie.proofs.Vocabulary.{Actor, Shape, Yard, idle_actor, run, first_point, TraceSound, SlotStands, is_node, is_held, is_limbo, SlotsSound, Sizes}
@@ -19,11 +19,7 @@ listed_is (Some x) = refl
 
 pub listed_none : (x : Option Publishing) → as_list x ≡ [] → x ≡ None
 listed_none None is = refl
-listed_none (Some x) is = absurd (false≢true (sym (ap is_cons is)))
-  where
-    is_cons : List Publishing → Bool
-    is_cons [] = false
-    is_cons (x ∷ xs) = true
+listed_none (Some x) is = grind (arith, nat_tests, false≢true)
 
 -- a yard that is the same but for pin words is tied too
 pub alike_tied : (opened : Trace) (ns : List Note) (y z : Yard) (dev : Device) → IsTied opened ns y dev.honest dev.medium → SameButAllPins z y → IsTied opened ns z dev.honest dev.medium

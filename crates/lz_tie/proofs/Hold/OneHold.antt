@@ -1,6 +1,6 @@
 -- One hold, from the step of the pass that has joined the pen to what the lock keeps and the pass has.
-use Rattle.std.proofs.Common.{◌≡◌, ◌≢◌, ◌<◌, ◌≤◌, ℕ, suc, Bool, true, false, List, [], ◌∷◌, ◌++◌, refl, sym, ap, ◌∙◌, subst, arith, ◌+◌, if◌then◌else◌, IsTrue}
-use Rattle.std.proofs.Common.{Option, None}
+use Rattle.std.proofs.lemmas.Bool.Decides.{nat_tests}
+use Rattle.std.proofs.Common.{◌≡◌, ◌≢◌, ◌<◌, ◌≤◌, ℕ, suc, List, [], ◌∷◌, ◌++◌, refl, sym, ap, ◌∙◌, subst, arith, ◌+◌, IsTrue, Option, None}
 use Rattle.lz_tie.proofs.Vocabulary.{Command, Format, Device, IsTimely, Publishing, Trace, Event, Outcome, Calling, mark_of_turn, reply_at, is_old, Yard, Pen}
 use Rattle.lz_tie.proofs.Vocabulary.{Sizes, What, Note, Part, Knows, Since, note_by, pin_after, shape_of_sizes, trace_of, found_note, knowing, BoardId, IsPenOf}
 use Rattle.lz_tie.proofs.{Vocabulary.{notes}, Hold.Joining.{joined_turn, seen_turned}, Lives.{HeldLives.{life_on}, ToldFailures.{fault_counted, faults_held}}}
@@ -10,7 +10,7 @@ use Rattle.lz_tie.specs.{Held.{Began, IsNextOf, WentOn, found_for}, Holds.{HoldN
 use Rattle.lz_tie.specs.{Lives.{KeepsLife, LivesOn, faults_in, faults_with}, Marks.{last_call_number}}
 use Rattle.lz_tie.specs.{Moments.{HoldExplains, MomentsGoOn, LeftSince, RepliesStay}, NotedRuns.{seen_event}, OnePass.{OnlyOwn}}
 use Rattle.lz_slot.specs.declared.history.Mark.TheVariants.{Call}
-use Rattle.lz_machine.specs.declared.event.{Event.TheVariants.{Invoke, SeePin}, Outcome.TheVariants.{Fault, OldFile, Done}}
+use Rattle.lz_machine.specs.declared.event.{Event.TheVariants.{Invoke, SeePin}, Outcome.TheVariants.{Fault}}
 use Rattle.lz_board.specs.declared.view.What.TheVariants.{Called, Played}
 
 -- The step that a hold has played.
@@ -25,17 +25,10 @@ pub record Stepped (b : BoardId) (ns is : List Note) (y y' : Yard) (dev dev' : D
 
 -- of what a hold notes only one thing rests on what the pass has seen
 before_join : (opened : Trace) (found is : List Note) (n : Note) (h hj h' : Part) (seen : Trace) → hj ≡ knowing seen h → Since h.number (trace_of opened found) h.known → HoldNotes opened found is n hj h' → HoldNotes opened found is n h h'
-before_join opened found is n h hj h' seen part since H = go (subst (λ (q : Part). HoldNotes opened found is n q h') part H)
-  where
-    go : HoldNotes opened found is n (knowing seen h) h' → HoldNotes opened found is n h h'
-    go k = record { moment = k.moment; notes = k.notes; sizes = k.sizes; number = k.number; steps = k.steps; no_loads = k.no_loads; known = k.known; since = since; pin = k.pin; begun = k.begun; lawful = k.lawful; kept = k.kept }
+before_join opened found is n h hj h' seen part since H = grind (arith, nat_tests, knowing)
 
 no_fault : (F : Format) (c : Command) → begins_with F c ≡ Fault → ⊥
-no_fault F c = go (is_old F c)
-  where
-    go : (old : Bool) → (if old then OldFile else Done) ≡ Fault → ⊥
-    go true is = absurd cc
-    go false is = absurd cc
+no_fault F c = grind (arith, nat_tests, is_old)
 
 pub other_turn : (ns : List Note) (h : Part) (e : Event) → ((q o : ℕ) → e ≢ SeePin q o) → (c : Calling) → IsNextOf h c e → IsTurn ns h c e
 other_turn ns h (SeePin q o) away c next = absurd (away q o refl)

@@ -1,6 +1,6 @@
 -- What a hold stores on the board is what its event publishes.
-use Rattle.std.proofs.Common.{◌≡◌, ◌≢◌, ℕ, Bool, true, false, [], ◌∷◌, refl, sym, ap, subst, get_or-set_other, ne_eqb, ◌+◌, if◌then◌else◌, Some, None, IfSome}
-use Rattle.std.proofs.Common.{is_some, not}
+use Rattle.std.proofs.Common.{arith, ◌≡◌, ◌≢◌, ℕ, Bool, true, false, [], ◌∷◌, refl, sym, ap, subst, get_or-set_other, ne_eqb, ◌+◌, if◌then◌else◌, Some, None}
+use Rattle.std.proofs.{Common.{IfSome, is_some}, lemmas.Bool.Decides.{nat_tests}}
 use mathlib.Core.Bool.{false≢true}
 use Rattle.lz_slot.proofs.Counted.{of_pass_other}
 use Rattle.lz_tie.proofs.Vocabulary.{Stage, Place, Word, Publishing, Words, get, set, redirect, word_of, change_flags, settle, Course, Actor, Event, Yard}
@@ -61,11 +61,7 @@ changed_walked y a Pin not_one = absurd (false≢true (sym not_one))
 changed_walked y a Link not_one = place_walked (actor_at y a).pred
 changed_walked y a (Settle s) not_one = elim (is_sure y s) as (λ (b : Bool). IfSome (if b then Some (link_at s) else None) IsWalked) [ true ↦ tt | false ↦ tt ]
 changed_walked y a Unlink not_one = place_walked (actor_at y a).pred
-changed_walked y a Answer not_one = go (stays_out (actor_at y a) (pin_of y a)) not_one
-  where
-    go : (out : Bool) → not out ≡ false → IfSome (if out then None else Some (pin_at a)) IsWalked
-    go true not_one = tt
-    go false not_one = absurd (false≢true (sym not_one))
+changed_walked y a Answer not_one = grind (arith, nat_tests, stays_out, actor_at, pin_of, false≢true)
 changed_walked y a e not_one = tt
 
 on_others : (y : Yard) (a : ℕ) (e : Event) (v : Word) (c : Course) → changed_on c y (actor_at y a) a e ≢ Some v → get (line_on c y (actor_at y a) a e).0.words v ≡ get y.words v
@@ -119,9 +115,4 @@ line_silent y a e none = on (course y a e)
 
 -- as one that counts a pin word up
 pub counting_silent : (y : Yard) (a : ℕ) (e : Event) → is_counting y a e ≡ true → line_publishes y a e ≡ []
-counting_silent y a e is = line_silent y a e (none e is)
-  where
-    none : (e : Event) → is_counting y a e ≡ true → publishes y (actor_at y a) a e ≡ []
-    none Pin is = refl
-    none Answer is = refl
-    none e is = absurd (false≢true is)
+counting_silent y a e is = grind (arith, nat_tests, line_silent, is_counting, publishes, actor_at, false≢true)

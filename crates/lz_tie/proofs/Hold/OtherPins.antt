@@ -1,10 +1,11 @@
 -- Of a yard's copies of pin words an event reads its own actor's alone, but for a load.
-use Rattle.std.proofs.Common.{◌≡◌, ℕ, ◌+◌, Bool, true, false, List, refl, sym, ap, ◌∙◌, subst, not, ◌&&◌, if◌then◌else◌, Option, Some, None}
+use Rattle.std.proofs.Common.{arith, ◌≡◌, ℕ, Bool, true, false, List, refl, sym, ap, ◌∙◌, subst, not, ◌&&◌, if◌then◌else◌, Option, Some, None}
+use Rattle.std.proofs.lemmas.Bool.Decides.{nat_tests}
 use Rattle.lz_tie.proofs.Vocabulary.{of_pass, see_pin, Place, Words, redirect, set, check, Course, Actor, Event, Yard, actor_at, course, course_alive, needs_of}
 use Rattle.lz_tie.proofs.Vocabulary.{is_played_dead, line, line_on, line_failed, line_call, call_on, call_of, line_publishes, published_on, publishes}
 use Rattle.lz_tie.proofs.Vocabulary.{yard_done, outcome_of, words_after, given_back, kept_slot, vault_failed, is_sure, set_actor, with_hold, with_slot, pin_of}
 use Rattle.lz_tie.{proofs.Vocabulary.{stays_out, pin_answered, hop_of}, specs.NotedRuns.{SameButAllPins}}
-use Rattle.lz_list.specs.declared.{place.Place.TheVariants.{Bucket, Node}, word.Word.TheVariants.{Pin as pin_at}}
+use Rattle.lz_list.specs.declared.place.Place.TheVariants.{Bucket, Node}
 use Rattle.lz_machine.specs.declared.{course.Course.TheVariants.{Refused, Dies, Plays}, actor.Hold.TheVariants.{Checked, Locks}}
 use Rattle.lz_machine.specs.declared.event.Event.TheVariants.{Invoke, Hop, Check, Link, Settle, Unlink, Answer}
 use Rattle.lz_machine.specs.declared.event.Outcome.TheVariants.{Dead, NotNow, True, False}
@@ -72,36 +73,18 @@ module _ (y : Yard) (ps : List ℕ) (a : ℕ) (pin : of_pass ps a 0 ≡ of_pass 
   whole = record { shape = refl; heads = refl; links = refl; keys = refl; halt = refl; locks = refl; vault = refl; uses = refl; actors = refl }
 
   with_same : (w w' : Words) → SameWords w w' → (x x' : Yard) → x.words ≡ w → x'.words ≡ w' → x.shape ≡ x'.shape → x.locks ≡ x'.locks → x.vault ≡ x'.vault → x.uses ≡ x'.uses → x.actors ≡ x'.actors → SameButAllPins x x'
-  with_same w w' same x x' is is' shape locks vault uses actors = record {
-    shape = shape;
-    heads = ap (λ (w : Words). w.heads) is ∙ same.heads ∙ sym (ap (λ (w : Words). w.heads) is');
-    links = ap (λ (w : Words). w.links) is ∙ same.links ∙ sym (ap (λ (w : Words). w.links) is');
-    keys = ap (λ (w : Words). w.keys) is ∙ same.keys ∙ sym (ap (λ (w : Words). w.keys) is');
-    halt = ap (λ (w : Words). w.halt) is ∙ same.halt ∙ sym (ap (λ (w : Words). w.halt) is');
-    locks = locks;
-    vault = vault;
-    uses = uses;
-    actors = actors;
-  }
+  with_same w w' same x x' is is' shape locks vault uses actors = grind (arith, nat_tests)
 
   words_same : (e : Event) → SameWords (words_after z actor a e) (words_after y actor a e)
   words_same Link = redirect_same y.words ps actor.pred _
   words_same (Settle s) = if_same (is_sure y s) _ _ _ _ record { heads = refl; links = refl; keys = refl; halt = refl } record { heads = refl; links = refl; keys = refl; halt = refl }
   words_same Unlink = redirect_same y.words ps actor.pred _
-  words_same Answer = go (stays_out actor (pin_of z a)) (stays_out actor (pin_of y a))
-    where
-      go : (one other : Bool) → SameWords (if one then z.words else set z.words (pin_at a) (pin_of z a + 1)) (if other then y.words else set y.words (pin_at a) (pin_of y a + 1))
-      go true true = record { heads = refl; links = refl; keys = refl; halt = refl }
-      go true false = record { heads = refl; links = refl; keys = refl; halt = refl }
-      go false true = record { heads = refl; links = refl; keys = refl; halt = refl }
-      go false false = record { heads = refl; links = refl; keys = refl; halt = refl }
+  words_same Answer = grind (arith, nat_tests, stays_out, pin_of, set)
   words_same _ = record { heads = refl; links = refl; keys = refl; halt = refl }
 
   yard_same : (e : Event) → SameButAllPins (yard_done z actor a e) (yard_done y actor a e)
   yard_same Check = with_same _ _ (words_same Check) _ _ refl refl refl refl refl refl (ap (λ b. set_actor y a (with_hold actor (if b then Checked else Locks))) (check_same y.words ps actor.pred actor.curr))
-  yard_same Answer = with_same _ _ (words_same Answer) _ _ refl refl refl refl refl
-      (ap (λ v. see_pin a (pin_answered actor v) (given_back z actor.slot)) pin ∙ ap (λ l. see_pin a (pin_answered actor (pin_of y a)) l) (given_same actor.slot))
-      (ap (λ s. set_actor y a (with_slot actor s)) (kept_same actor.slot))
+  yard_same Answer = grind (arith, nat_tests, with_same, words_same, see_pin, pin_answered, given_back, pin_of, given_same, set_actor, with_slot, kept_same)
   yard_same x = with_same _ _ (words_same x) _ _ refl refl refl refl refl refl refl
 
   outcome_same : (e : Event) → hop_of e ≡ None → outcome_of z actor e ≡ outcome_of y actor e

@@ -6,22 +6,13 @@ use Rattle.lz_tie.proofs.Vocabulary.{course_alive, call_of, is_played_dead, is_s
 use Rattle.lz_tie.specs.Lives.{LivesOn, KeepsLife, faults_in}
 use Rattle.lz_list.specs.declared.word.Word.TheVariants.{Pin as pin_at}
 use Rattle.lz_machine.specs.declared.{course.Course.TheVariants.{Refused, Dies, Plays}, event.Event.TheVariants.{Pin, Sync}}
-use Rattle.lz_machine.specs.declared.event.Outcome.TheVariants.{Worn, NotNow, Dead, Fault}
+use Rattle.lz_machine.specs.declared.event.Outcome.TheVariants.{NotNow, Dead, Fault}
 use Rattle.lz_yard.{specs.Steps.{Played as PlayedOver}, proofs.Events.KeptFit.{fault_or_not}}
 
 -- only a sync dies by itself, where none is left
 alive_dies : (y : Yard) (a pin : ℕ) (e : Event) → course_alive y a pin e ≡ Dies → is_spent y ≡ true
-alive_dies y a pin Pin is = go (pin == last_pin) is
-  where
-    go : (worn : Bool) → (if worn then Refused Worn else Plays) ≡ Dies → is_spent y ≡ true
-    go true dies = absurd cc
-    go false dies = absurd cc
-alive_dies y a pin (Sync s) is = go (is_sure y s) (is_spent y) is
-  where
-    go : (sure spent : Bool) → (if not sure && spent then Dies else Plays) ≡ Dies → spent ≡ true
-    go true spent dies = absurd cc
-    go false true dies = refl
-    go false false dies = absurd cc
+alive_dies y a pin Pin is = grind (arith, nat_tests, last_pin, is_spent)
+alive_dies y a pin (Sync s) is = grind (arith, nat_tests, is_sure, is_spent)
 alive_dies y a pin _ is = absurd cc
 
 spent_syncs : (syncs : ℕ) → (syncs == last_sync) ≡ true → last_sync ≤ syncs

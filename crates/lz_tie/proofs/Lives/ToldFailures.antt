@@ -1,11 +1,12 @@
 -- How many steps of the notes failed: a load is none of them, and a hold's step is one only where the device failed in it.
-use Rattle.std.proofs.Common.{◌≡◌, ◌<◌, ℕ, zero, suc, ◌+◌, ◌≤◌, List, [], ◌∷◌, ◌++◌, refl, sym, ap, ◌∙◌, subst, arith, replicate, Option, Some, None}
+use Rattle.std.proofs.lemmas.Bool.Decides.{nat_tests}
+use Rattle.std.proofs.Common.{◌≡◌, ◌<◌, ℕ, zero, suc, ◌+◌, ◌≤◌, List, [], ◌∷◌, ◌++◌, refl, sym, ap, ◌∙◌, arith, replicate, Option, Some, None}
 use Rattle.lz_tie.proofs.Vocabulary.{Device, Trace, Event, Outcome, failed_in, told_device, State, Up, Service, Caller, Point, Transition, Calls, Turn, Fails}
 use Rattle.lz_tie.proofs.Vocabulary.{Looks, caller_at, first_point, run, Yard, What, Note, Load, Part, Sizes, insert_load, shape_of_sizes, splice, BoardId}
 use Rattle.lz_tie.{proofs.Marks.{RunMarks.{marks_read}, RunningSet.{locked_sizes}}, specs.{Holds.{HoldNotes, IsLocked}, Lives.{faults_in, faults_with}}}
-use Rattle.lz_tie.specs.{Marks.{marks_in}, NotedRuns.{ReadsAs, TellsFault, TellsOne, TellsOf, TellsStep}}
+use Rattle.lz_tie.specs.{Marks.{marks_in}, NotedRuns.{ReadsAs, TellsFault, TellsStep}}
 use Rattle.lz_machine.{specs.declared.event.Outcome.TheVariants.{Fault}, proofs.Theorem.DeviceFailures.{fails_once}}
-use Rattle.lz_board.{specs.declared.view.What.TheVariants.{Played, Found}, proofs.Upkeep.Splice.{at_place}}
+use Rattle.lz_board.{specs.declared.view.What.TheVariants.{Played}, proofs.Upkeep.Splice.{at_place}}
 
 module _ (opened : Trace) (p : ℕ) where
   faults_insert : (h : Load) (ns : List Note) → faults_in (insert_load opened p h ns) ≡ faults_in ns
@@ -45,14 +46,7 @@ looks_failed (suc k) q before = looks_failed k q before
 
 failed_read : (p : Point) (ns : List Note) (steps : List Transition) → ReadsAs p ns steps → failed_in steps ≤ faults_in ns
 failed_read p [] steps reads = let none = ap failed_in reads in omega (arith, none)
-failed_read p (n ∷ ns) steps (new, before, is, tells, rest) = subst (λ (l : List Transition). failed_in l ≤ faults_with n.what (faults_in ns)) (sym is) (go n.what (failed_read p ns before rest) tells)
-  where
-    one : failed_in before ≤ faults_in ns → TellsOne (run p before).state n new → failed_in (new ++ before) ≤ faults_with n.what (faults_in ns)
-    one past t = subst (λ (l : List Transition). failed_in (l ++ before) ≤ faults_with n.what (faults_in ns)) (sym t.steps) (step_failed (run p before).state n t.step before (faults_in ns) t.tells past)
-
-    go : (what : What) → failed_in before ≤ faults_in ns → TellsOf (run p before).state n what new → failed_in (new ++ before) ≤ faults_with n.what (faults_in ns)
-    go (Found q v) past t = grind (arith, looks_failed, more_faults)
-    go _ past t = one past t
+failed_read p (n ∷ ns) steps (new, before, is, tells, rest) = grind (arith, nat_tests, failed_in, failed_read p ns before rest, run, step_failed, looks_failed, more_faults)
 
 -- At most one call is told that the device failed, and only where a step did.
 pub failures_told : (b : BoardId) (ns : List Note) (y : Yard) (dev : Device) → IsLocked b ns y dev

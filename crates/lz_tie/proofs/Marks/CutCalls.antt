@@ -1,6 +1,6 @@
 -- Where a history shows that a call was cut off, it is one of its pass's own calls that was.
-use Rattle.std.proofs.Common.{◌≡◌, ◌≢◌, ◌⊎◌, inl, inr, ⊎_elim, ℕ, ◌≤◌, Bool, true, false, List, [], ◌∷◌, Some, None, refl, sym, ◌∙◌, subst, eq-eqb, ◌==◌}
-use Rattle.std.proofs.Common.{if◌then◌else◌, Option, eqb-true, true≢false}
+use Rattle.std.proofs.Common.{arith, ◌≡◌, ◌≢◌, ◌⊎◌, inl, inr, ⊎_elim, ℕ, ◌≤◌, Bool, true, false, List, [], ◌∷◌, Some, None, refl, sym, ◌∙◌, subst, eq-eqb, ◌==◌}
+use Rattle.std.proofs.{Common.{if◌then◌else◌, Option, eqb-true, true≢false}, lemmas.Bool.Decides.{nat_tests}}
 use Rattle.lz_tie.{proofs.Vocabulary.{Command, Mark, History, IsCalled, IsOpenCall, IsTold, MayFollow}, specs.Marks.{AreOfPasses, NoneIsCut}}
 use Rattle.lz_tie.specs.OwnCalls.{AsCut, Ending, SeenCall, calls_of, ended}
 use Rattle.lz_slot.specs.declared.history.{Cut.{Cut as WhyCut}, Mark.TheVariants.{Call, Answer, Refused, Cut, Stop, Crash, Opened, OpenFailed}}
@@ -126,17 +126,7 @@ module _ (n : ℕ) where
 
   -- a call that is cut off is its pass's own
   cut_now : (M : History) (i : ℕ) (why : WhyCut) → AreOfPasses n M → (p : ℕ) × IsOpenCall M i p → IsCutIn (Cut i why ∷ M)
-  cut_now M i why of stands =
-      let h = own_call M i stands.0 of stands.1 in
-      record {
-        p = stands.0;
-        low = h.low;
-        high = h.high;
-        i = i;
-        cut = ended_cuts i why (calls_of stands.0 M) h.own;
-        called = later (Cut i why) M i h.called;
-        closed = λ q again. again.0 refl;
-      }
+  cut_now M i why of stands = grind (arith, nat_tests, own_call, ended_cuts, later)
 
   -- no call of the history was cut off, or one of its pass's own was
   pub cut_in : (M : History) → IsTold M → AreOfPasses n M → NoneIsCut M ⊎ IsCutIn M

@@ -1,7 +1,8 @@
 -- What notes show grows: loads that are put among them show nothing, and a hold's step puts its mark before all others.
-use Rattle.std.proofs.Common.{◌≡◌, ◌≢◌, ℕ, suc, ◌≤◌, List, [], ◌∷◌, ◌++◌, length, map, refl, sym, ap, ◌∙◌, subst, Option, Some, None}
+use Rattle.std.proofs.Common.{arith, ◌≡◌, ◌≢◌, ℕ, suc, ◌≤◌, List, [], ◌∷◌, ◌++◌, length, refl, sym, ap, ◌∙◌, subst, Option, Some, None}
+use Rattle.std.proofs.lemmas.Bool.Decides.{nat_tests}
 use Rattle.lz_tie.proofs.Vocabulary.{Command, Format, Publishing, Trace, Event, Outcome, Progress, Calling, mark_of_turn, reply_at, Shape, What, Note, Load}
-use Rattle.lz_tie.proofs.Vocabulary.{Part, Sizes, steps_of, note_by, load_note, insert_load, splice, Quiet, InOrder, place, shape_of_sizes, Knows, BoardId}
+use Rattle.lz_tie.proofs.Vocabulary.{Part, steps_of, note_by, load_note, insert_load, splice, Quiet, InOrder, place, shape_of_sizes, Knows, BoardId}
 use Rattle.lz_tie.specs.{NotedRuns.{AreNext, IsHopAt}, Holds.{HasCall, HoldNotes}}
 use Rattle.lz_tie.specs.Marks.{calls_with, calls_in, number_with, last_call_number, reply_in, marks_with, marks_in, Shows}
 use Rattle.lz_slot.specs.declared.history.Mark.TheVariants.{Call}
@@ -53,10 +54,7 @@ module _ (opened : Trace) (shape : Shape) (p : ℕ) where
   pub marks_splice : (base top : ℕ) (hs : List Load) (ns : List Note) → Quiet opened p base ns → length opened ≤ base → InOrder base hs top → AreNext shape p hs (steps_of p ns)
       → marks_in shape (splice opened p hs ns) ≡ marks_in shape ns
   marks_splice base top [] ns quiet low order next = refl
-  marks_splice base top (h ∷ hs) ns quiet low order next =
-      let own = steps_splice opened p base h.at hs ns quiet low order.1 in
-      marks_insert h (splice opened p hs ns) (quiet_splice opened p base h.at hs ns quiet low order.1) (subst (λ l. IsHopAt shape h (place shape l)) (sym own) next.0)
-      ∙ marks_splice base h.at hs ns quiet low order.1 next.1
+  marks_splice base top (h ∷ hs) ns quiet low order next = grind (arith, nat_tests, steps_splice, marks_insert, splice, quiet_splice, place, marks_splice base h.at hs ns quiet low order.1 next.1)
 
 -- a hold of a pass whose loads come next
 module _ (b : BoardId) (was is : List Note) (h h' : Part) (knows : Knows b.sizes b.opened was h) where
@@ -69,25 +67,9 @@ module _ (b : BoardId) (was is : List Note) (h h' : Part) (knows : Knows b.sizes
   -- it puts the reply that was next before all that was shown
   pub turn_shows : (c : Calling) (e : Event) (o : Outcome) (x : Option Publishing) → HasCall h c → HoldNotes b.opened was is (note_by h.number (Played e o) x) h h'
       → Shows shape was is (mark_of_turn (last_call_number h.number was) (reply_at c.progress))
-  turn_shows c e o x call holds =
-      ap (marks_in shape) holds.notes
-      ∙ (λ i. mark_of_turn (number_splice b.opened shape h.number h.number h.loads was i) (reply_in (at i)) ++ rest i)
-    where
-      next : AreNext shape h.number h.loads (steps_of h.number was)
-      next = subst (λ (z : Sizes). AreNext (shape_of_sizes z) h.number h.loads (steps_of h.number was)) knows.sized (subst (AreNext (shape_of_sizes h.sizes) h.number h.loads) (sym knows.noted) call.next)
-
-      rest : marks_in shape spliced ≡ marks_in shape was
-      rest = marks_splice b.opened shape h.number h.base (length h.known) h.loads was knows.quiet knows.least knows.order next
-
-      at : place shape (steps_of h.number spliced) ≡ Some (c.command, c.progress)
-      at =
-          ap (place shape) (steps_splice b.opened h.number h.base (length h.known) h.loads was knows.quiet knows.least knows.order)
-          ∙ ap (λ l. place shape (map (load_note h.number) h.loads ++ l)) knows.noted
-          ∙ subst (λ (z : Sizes). place (shape_of_sizes z) (map (load_note h.number) h.loads ++ h.steps) ≡ Some (c.command, c.progress)) knows.sized call.at
+  turn_shows c e o x call holds = grind (arith, nat_tests, mark_of_turn, number_splice, steps_of, shape_of_sizes, marks_splice, place, steps_splice, load_note)
 
   -- and the hold that makes a call puts that call there
   pub call_shows : (c : Command) (format : Format) → h.loads ≡ [] → HoldNotes b.opened was is (note_by h.number (Called c format) None) h h'
       → Shows shape was is (Call (suc (calls_in was)) h.number c ∷ [])
-  call_shows c format none holds =
-      ap (marks_in shape) holds.notes
-      ∙ ap (λ l. marks_in shape (note_by h.number (Called c format) None ∷ splice b.opened h.number l was)) none
+  call_shows c format none holds = grind (arith, nat_tests, note_by, splice)

@@ -1,9 +1,9 @@
 -- A pass's calls in the history that notes show are those of its own steps.
-use Rattle.std.proofs.Common.{◌≡◌, ◌≢◌, ⊎_elim, ℕ, suc, ◌≤◌, Bool, true, false, List, [], ◌∷◌, ◌++◌, map, refl, sym, ap, ◌∙◌, subst, arith, eq-eqb, ne_eqb}
-use Rattle.std.proofs.{Common.{◌==◌, if◌then◌else◌, Option, Some, None}, lemmas.Bool.{cases_eq}}
+use Rattle.std.proofs.{lemmas.Bool.{cases_eq, Decides.{nat_tests}}, Common.{◌≡◌, ◌≢◌, ⊎_elim, ℕ, suc, ◌≤◌, Bool, true, false, List, [], ◌∷◌, ◌++◌, map, refl}}
+use Rattle.std.proofs.Common.{sym, ap, ◌∙◌, subst, arith, eq-eqb, ne_eqb, ◌==◌, if◌then◌else◌, Option, Some, None}
 use Rattle.lz_tie.proofs.Vocabulary.{Command, Format, History, Publishing, Trace, Event, Outcome, Reply, mark_of, mark_of_turn, Shape, Moment, What, Note, Part}
 use Rattle.lz_tie.proofs.{Vocabulary.{place, shape_of_sizes, steps_of, knowing, BoardId}, Marks.RunMarks.{other_number}}
-use Rattle.lz_tie.specs.Marks.{calls_with, calls_in, number_with, last_call_number, reply_in, marks_in}
+use Rattle.lz_tie.specs.Marks.{calls_in, last_call_number, reply_in, marks_in}
 use Rattle.lz_tie.specs.OwnCalls.{Ending, SeenCall, ended, calls_of, replied, told_with, told, ending_of, unnumbered, shown, TellsOwn}
 use Rattle.lz_machine.specs.declared.event.Reply.TheVariants.{Yes}
 use Rattle.lz_board.{specs.declared.view.What.TheVariants.{Called, Played, Found}, proofs.Upkeep.Splice.{own_step, other_step}}
@@ -29,11 +29,7 @@ module _ (i : ℕ) (e : Ending) where
 
   ended_numbers : (F : ℕ → Type 0) (calls : List SeenCall) → AllNumbers F calls → AllNumbers F (ended i e calls)
   ended_numbers F [] h = tt
-  ended_numbers F (call ∷ calls) h = go (call.number == i) (ended_numbers F calls h.1)
-    where
-      go : (b : Bool) → AllNumbers F (ended i e calls) → AllNumbers F (either b call calls)
-      go true rest = (h.0, h.1)
-      go false rest = (h.0, rest)
+  ended_numbers F (call ∷ calls) h = grind (arith, nat_tests, ended_numbers F calls h.1)
 
   ended_head : (j : ℕ) (calls : List SeenCall) → HeadIs j calls → HeadIs j (ended i e calls)
   ended_head j [] h = tt
@@ -50,18 +46,7 @@ hit : (i : ℕ) (reply : Reply) (calls : List SeenCall) (own : List (Command × 
 hit i reply [] [] head same = refl
 hit i reply [] (mine ∷ own) head same = absurd cc
 hit i reply (call ∷ calls) [] head same = absurd cc
-hit i reply (call ∷ calls) (mine ∷ own) head same =
-    ap (λ b. map unnumbered (either i (ending_of reply) b call calls)) (eq-eqb call.number i head)
-    ∙ ap (λ (x : Command × List (Command × Option Ending)). (x.0, Some (ending_of reply)) ∷ x.1) (λ j. (command j, rest j))
-  where
-    first : unnumbered call ≡ shown mine
-    first = cc
-
-    command : call.command ≡ mine.0
-    command = ap (λ (x : Command × Option Ending). x.0) first
-
-    rest : map unnumbered calls ≡ map shown own
-    rest = cc
+hit i reply (call ∷ calls) (mine ∷ own) head same = grind (arith, nat_tests, eq-eqb)
 
 -- a reply is an ending
 reply_ends : (p i : ℕ) (reply : Reply) (M : History) → calls_of p (mark_of i reply ∷ M) ≡ ended i (ending_of reply) (calls_of p M)
@@ -71,15 +56,7 @@ reply_ends p i _ M = refl
 -- no call has a number above the count
 number_within : (p : ℕ) (ns : List Note) → last_call_number p ns ≤ calls_in ns
 number_within p [] = omega arith
-number_within p (n ∷ ns) = go n.what (number_within p ns)
-  where
-    of_made : last_call_number p ns ≤ calls_in ns → (b : Bool) → (if b then suc (calls_in ns) else last_call_number p ns) ≤ suc (calls_in ns)
-    of_made high true = omega arith
-    of_made high false = omega (arith, high)
-
-    go : (what : What) → last_call_number p ns ≤ calls_in ns → number_with p n.by what (calls_in ns) (last_call_number p ns) ≤ calls_with what (calls_in ns)
-    go (Called c format) high = of_made high (n.by == p)
-    go _ high = high
+number_within p (n ∷ ns) = grind (arith, nat_tests, number_within p ns)
 
 module _ (shape : Shape) (p : ℕ) where
   abbrev calls_at : List Note → List SeenCall
@@ -118,40 +95,16 @@ module _ (shape : Shape) (p : ℕ) where
 
       -- the numbers of the calls before it
       still_own : AllNumbers (IsOwn (with_step what)) (calls_at ns)
-      still_own = all_numbers (IsOwn ns) (IsOwn (with_step what)) (λ i own. let low = own.0 in (omega (arith, low), λ q away. later q (by == q) i own.0 (own.1 q away))) (calls_at ns) h.apart
-        where
-          later : (q : ℕ) (b : Bool) (i : ℕ) → i ≤ calls_in ns → i ≢ last_call_number q ns → i ≢ (if b then suc (calls_in ns) else last_call_number q ns)
-          later q true i low other same = absurd (omega (arith, low, same))
-          later q false i low other same = other same
+      still_own = grind (arith, nat_tests, all_numbers)
 
       abbrev new : SeenCall
       new = record { number = suc (calls_in ns); command = c; ending = None }
 
       own_called : by ≡ p → Own (with_step what)
-      own_called is = record {
-        same = ap (map unnumbered) grown ∙ ap (λ l. (c, None) ∷ l) h.same ∙ ap (map shown) (sym (own_told what is));
-        head = subst (HeadIs (last_call_number p (with_step what))) (sym grown) (sym number);
-        apart = subst (AllNumbers (IsOwn (with_step what))) (sym grown) ((omega arith, fresh), still_own);
-      }
-        where
-          grown : calls_at (with_step what) ≡ new ∷ calls_at ns
-          grown = ap (λ b. if b then new ∷ calls_at ns else calls_at ns) (eq-eqb by p is)
-
-          number : last_call_number p (with_step what) ≡ suc (calls_in ns)
-          number = ap (λ b. if b then suc (calls_in ns) else last_call_number p ns) (eq-eqb by p is)
-
-          fresh : (q : ℕ) → q ≢ p → suc (calls_in ns) ≢ last_call_number q (with_step what)
-          fresh q away same = grind (arith, number_within, same, other_number)
+      own_called is = grind (arith, nat_tests, own_told, still_own, eq-eqb, number_within, other_number)
 
       other_called : by ≢ p → Own (with_step what)
-      other_called away = record {
-        same = ap (map unnumbered) kept ∙ h.same ∙ ap (map shown) (sym (other_told what away));
-        head = subst (HeadIs (last_call_number p (with_step what))) (sym kept) (subst (λ i. HeadIs i (calls_at ns)) (sym (other_number p (step_note what) ns away)) h.head);
-        apart = subst (AllNumbers (IsOwn (with_step what))) (sym kept) still_own;
-      }
-        where
-          kept : calls_at (with_step what) ≡ calls_at ns
-          kept = ap (λ b. if b then new ∷ calls_at ns else calls_at ns) (ne_eqb by p away)
+      other_called away = grind (arith, nat_tests, other_told, other_number, still_own, ne_eqb)
 
       called : Own (with_step what)
       called = ⊎_elim own_called other_called (cases_eq by p)
@@ -159,12 +112,7 @@ module _ (shape : Shape) (p : ℕ) where
     -- a step that ends none of the pass's calls
     stays : (what : What) → calls_in (with_step what) ≡ calls_in ns → ((q : ℕ) → last_call_number q (with_step what) ≡ last_call_number q ns) → calls_at (with_step what) ≡ calls_at ns
         → told shape (steps_of p (with_step what)) ≡ told_at → Own (with_step what)
-    stays what count number calls own = record {
-      same = ap (map unnumbered) calls ∙ h.same ∙ ap (map shown) (sym own);
-      head = subst (HeadIs (last_call_number p (with_step what))) (sym calls) (subst (λ i. HeadIs i (calls_at ns)) (sym (number p)) h.head);
-      apart = subst (AllNumbers (IsOwn (with_step what))) (sym calls)
-          (all_numbers (IsOwn ns) (IsOwn (with_step what)) (λ i own. (subst (λ k. i ≤ k) (sym count) own.0, λ q away same. own.1 q away (same ∙ number q))) (calls_at ns) h.apart);
-    }
+    stays what count number calls own = grind (arith, nat_tests, all_numbers)
 
     module _ (e : Event) (o : Outcome) where
       abbrev event : What

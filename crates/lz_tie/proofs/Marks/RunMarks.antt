@@ -1,6 +1,6 @@
 -- The marks of a run are those that its notes show.
-use Rattle.std.proofs.Common.{◌≡◌, ◌≢◌, ℕ, zero, suc, ◌≤◌, List, [], ◌∷◌, ◌++◌, length, refl, sym, ap, ◌∙◌, subst, arith, eq-eqb, ne_eqb, if◌then◌else◌}
-use Rattle.std.proofs.{Common.{replicate, Option, Some, None}, lemmas.{Bool.{cases_eq}, Option.{same_Some, none-some}}}
+use Rattle.std.proofs.{lemmas.{Bool.{cases_eq, Decides.{nat_tests}}, Option.{same_Some, none-some}}, Common.{◌≡◌, ◌≢◌, ℕ, zero, suc, ◌≤◌, List, [], ◌∷◌, ◌++◌}}
+use Rattle.std.proofs.Common.{length, refl, sym, ap, ◌∙◌, subst, arith, eq-eqb, ne_eqb, if◌then◌else◌, replicate, Option, Some, None}
 use Rattle.lz_tie.proofs.Vocabulary.{Command, set_of_pass, Medium, Event, Outcome, Reply, Progress, Start, State, Up, Down, Service, Caller, Transition, Calls}
 use Rattle.lz_tie.proofs.Vocabulary.{Turn, Fails, Looks, Point, run, IsRun, MayStep, HasFault, first_point, caller_at, next_event, state_after}
 use Rattle.lz_tie.proofs.Vocabulary.{calls_made_after, marks_of, marks_of_turn, mark_of_turn, reply_at, moved_on, after_turn, after_fault, line, line_failed}
@@ -13,11 +13,7 @@ use Rattle.lz_board.specs.declared.view.What.TheVariants.{Called, Played, Found}
 
 -- a step of another pass, or one that begins no call, leaves a pass's number
 pub other_number : (p : ℕ) (n : Note) (ns : List Note) → n.by ≢ p → last_call_number p (n ∷ ns) ≡ last_call_number p ns
-other_number p n ns away = go n.what
-  where
-    go : (what : What) → number_with p n.by what (calls_in ns) (last_call_number p ns) ≡ last_call_number p ns
-    go (Called c format) = ap (λ b. if b then suc (calls_in ns) else last_call_number p ns) (ne_eqb n.by p away)
-    go _ = refl
+other_number p n ns away = grind (arith, nat_tests, ne_eqb)
 
 -- the open calls have the numbers that the notes give them
 abbrev HasNumbers : State → List Note → Type 0
@@ -117,34 +113,11 @@ module _ (start : Start) (service : Service) (disk : Medium) (n : Note) (ns : Li
 -- looks show nothing
 looks_marked : (start : Start) (p : Point) (k q : ℕ) (before : List Transition) (ns : List Note) → Marked start (run p before) ns → Marked start (run p (replicate k (Looks q) ++ before)) ns
 looks_marked start p zero q before ns h = h
-looks_marked start p (suc k) q before ns h =
-    let r = looks_marked start p k q before ns h in
-    let here = run p (replicate k (Looks q) ++ before) in
-    record {
-      calls = r.calls;
-      marks = ap (λ M. M ++ here.marks) (nothing (suc here.calls) here.state) ∙ r.marks;
-      numbers = same (suc here.calls) here.state r.numbers;
-    }
-  where
-    nothing : (i : ℕ) (w : State) → marks_of i w (Looks q) ≡ []
-    nothing i (Up service disk) = refl
-    nothing i (Down shape disk) = refl
-
-    same : (i : ℕ) (w : State) → HasNumbers w ns → HasNumbers (state_after i w (Looks q)) ns
-    same i (Up service disk) h = h
-    same i (Down shape disk) h = h
+looks_marked start p (suc k) q before ns h = grind (arith, nat_tests, looks_marked start p k q before ns h, run, marks_of, state_after)
 
 -- and the note of what was found shows nothing
 found_marked : (start : Start) (p : Point) (n : Note) (ns : List Note) (q v : ℕ) → n.what ≡ Found q v → Marked start p ns → Marked start p (n ∷ ns)
-found_marked start p n ns q v what h = record {
-  calls = h.calls ∙ ap (λ w. calls_with w (calls_in ns)) (sym what);
-  marks = h.marks ∙ ap (λ w. marks_with start.shape n.by w ns ++ marks_in start.shape ns) (sym what);
-  numbers = go p.state h.numbers;
-}
-  where
-    go : (w : State) → HasNumbers w ns → HasNumbers w (n ∷ ns)
-    go (Up service disk) h = λ a caller is. h a caller is ∙ ap (λ w. number_with a n.by w (calls_in ns) (last_call_number a ns)) (sym what)
-    go (Down shape disk) h = h
+found_marked start p n ns q v what h = grind (arith, nat_tests)
 
 first_none : (n a : ℕ) → caller_at (replicate n None) a ≡ None
 first_none n zero = refl

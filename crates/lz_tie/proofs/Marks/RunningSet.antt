@@ -1,5 +1,5 @@
 -- What lies under the lock has a history: the main theorem, over the run as which the notes are read.
-use Rattle.std.proofs.Common.{◌≡◌, inl, ℕ, List, ◌∷◌, [], length, sym, ap, ◌∙◌, subst, arith}
+use Rattle.std.proofs.{lemmas.Bool.Decides.{nat_tests}, Common.{◌≡◌, inl, ℕ, List, ◌∷◌, [], length, sym, ap, ◌∙◌, subst, arith}}
 use Rattle.lz_tie.proofs.Vocabulary.{Device, Medium, IsImage, Holds, History, Life, Runs, Fits, ChainTo, last_history, Keys, Same, after, reply, key_of, Trace}
 use Rattle.lz_tie.proofs.Vocabulary.{member, Lasts, State, Up, Service, Transition, Reached, Start, IsStart, run, IsRun, first_point, start_keys, Shape, Yard}
 use Rattle.lz_tie.proofs.{Vocabulary.{first_trace, Note, shape_of_sizes, trace_of, BoardId}, Reading.TraceNotes.{trace_reads}, Marks.OneLife.{one_life}}
@@ -16,12 +16,7 @@ lasts_same P M S T same h = record { has = λ k settled none. sym (same k) ∙ h
 -- the same calls fit from a set with the same keys
 runs_from : (M : History) (L : List ℕ) (S T U : Keys) → Same S T → Runs M S L U → Runs M T L U
 runs_from M [] S T U same runs = λ k. sym (same k) ∙ runs k
-runs_from M (i ∷ L) S T U same runs = (
-  runs.0,
-  runs.1,
-  λ answer is. ap (reply runs.0) (sym (same (key_of runs.0))) ∙ runs.2 answer is,
-  runs_from M L (after runs.0 S) (after runs.0 T) U (after_same runs.0 S T same) runs.3,
-)
+runs_from M (i ∷ L) S T U same runs = grind (arith, nat_tests, reply, key_of, runs_from M L (after runs.0 S) (after runs.0 T) U (after_same runs.0 S T same) runs.3, after, after_same)
 
 fits_from : (M : History) (L : List ℕ) (S T U : Keys) → Same S T → Fits S M L U → Fits T M L U
 fits_from M L S T U same fits = record { once = fits.once; answered = fits.answered; not_refused = fits.not_refused; order = fits.order; runs = runs_from M L S T U same fits.runs }

@@ -1,13 +1,13 @@
 -- The history that the lock's notes show is that of a run, and each of its calls was made by a pass of the board.
-use Rattle.std.proofs.Common.{◌≡◌, ◌⊎◌, inl, inr, ⊎_elim, ℕ, ◌≤◌, List, [], ◌∷◌, ◌++◌, length, refl, sym, ap, ◌∙◌, subst, Option, Some, None}
+use Rattle.std.proofs.Common.{arith, ◌≡◌, ◌⊎◌, inl, inr, ℕ, ◌≤◌, List, [], ◌∷◌, ◌++◌, length, refl, sym, ap, ◌∙◌, subst, Option, Some, None}
+use Rattle.std.proofs.lemmas.Bool.Decides.{nat_tests}
 use Rattle.lz_tie.proofs.Vocabulary.{Device, Medium, History, Reply, HaltLasts, IsTold, Start, State, Up, Service, Caller, Transition, Calls, Turn, Fails, run}
 use Rattle.lz_tie.proofs.Vocabulary.{IsRun, MayStep, first_point, caller_at, mark_of, mark_of_turn, Shape, Yard, What, Note, place, shape_of_sizes, steps_of}
 use Rattle.lz_tie.proofs.{Vocabulary.{trace_of, BoardId}, Reading.CallPlaces.{place_reads, run_before}, Marks.RunningSet.{locked_reached, locked_sizes}}
-use Rattle.lz_tie.specs.{NotedRuns.{TellsTurn, TellsFault, TellsStep, TellsOne, TellsOf, ReadsAs}, Holds.{IsLocked}}
-use Rattle.lz_tie.specs.Marks.{last_call_number, reply_in, marks_with, marks_in, AreOfPasses}
+use Rattle.lz_tie.specs.{NotedRuns.{TellsTurn, TellsFault, TellsStep, TellsOne, TellsOf, ReadsAs}, Holds.{IsLocked}, Marks.{marks_in, AreOfPasses}}
 use Rattle.lz_machine.{specs.declared.event.Reply.TheVariants.{Yes}, proofs.{Frames.OneActor.{caller_range}, Theorem.LateCalls.{halts_last}}}
 use Rattle.lz_machine.proofs.Theorem.Marks.{marks_tell}
-use Rattle.lz_board.specs.declared.view.What.TheVariants.{Called, Played, Found}
+use Rattle.lz_board.specs.declared.view.What.TheVariants.{Found}
 
 -- the note is by one of the passes
 abbrev pub InRange : ℕ → Note → Type 0
@@ -72,12 +72,7 @@ notes_by_passes start (n ∷ ns) steps runs (new, before, is, tells, rest) = (go
 
 passes_read : (shape : Shape) (passes : ℕ) (ns : List Note) → AreByPasses passes ns → AreOfPasses passes (marks_in shape ns)
 passes_read shape passes [] are = tt
-passes_read shape passes (n ∷ ns) are = go n.what refl (passes_read shape passes ns are.1)
-  where
-    go : (what : What) → n.what ≡ what → AreOfPasses passes (marks_in shape ns) → AreOfPasses passes (marks_with shape n.by what ns ++ marks_in shape ns)
-    go (Called c format) same rest = ⊎_elim (λ range. (range.0, range.1, rest)) (λ (q, v, found). absurd (let e : Called c format ≡ Found q v = sym same ∙ found in cc)) are.0
-    go (Played e o) same rest = turn_of_passes passes (marks_in shape ns) rest (last_call_number n.by ns) (reply_in (place shape (steps_of n.by ns)))
-    go (Found q v) same rest = rest
+passes_read shape passes (n ∷ ns) are = grind (arith, nat_tests, passes_read shape passes ns are.1, turn_of_passes, place, steps_of)
 
 module _ (b : BoardId) (ns : List Note) (y : Yard) (dev : Device) (locked : IsLocked b ns y dev) where
   shape_is : locked.tied.start.shape ≡ shape_of_sizes b.sizes
@@ -93,6 +88,4 @@ module _ (b : BoardId) (ns : List Note) (y : Yard) (dev : Device) (locked : IsLo
 
   -- and each call is one of a pass
   pub history_passes : AreOfPasses b.sizes.passes (marks_in (shape_of_sizes b.sizes) ns)
-  history_passes =
-      let tie = locked.tied in
-      subst (λ (s : Shape). AreOfPasses s.passes (marks_in s ns)) shape_is (passes_read tie.start.shape tie.start.shape.passes ns (notes_by_passes tie.start ns tie.steps tie.runs tie.reads))
+  history_passes = grind (arith, nat_tests, shape_is, passes_read, notes_by_passes)

@@ -1,4 +1,5 @@
 -- A reply that was noted stays over each later hold.
+use Rattle.std.proofs.lemmas.Bool.Decides.{nat_tests}
 use Rattle.std.proofs.Common.{◌≡◌, ◌≤◌, ⊎_elim, ℕ, List, [], ◌∷◌, ◌++◌, length, refl, sym, ap, ◌∙◌, subst, append_assoc, arith, IsTrue}
 use Rattle.lz_tie.proofs.Vocabulary.{Device, IsTimely, IsImage, LeavesEither, Shape, Load, Note, What, as_list, steps_of, insert_load, splice, Quiet, InOrder}
 use Rattle.lz_tie.proofs.{Vocabulary.{place, shape_of_sizes, stamp_of, trace_of, BoardId}, Marks.GrownMarks.{marks_above, marks_insert}}
@@ -34,10 +35,7 @@ module _ (b : BoardId) (d : Device) (all : List Note) (p : ℕ) where
   pub stays_splice : (base top : ℕ) (hs : List Load) (ns : List Note) → Quiet b.opened p base ns → length b.opened ≤ base → InOrder base hs top → AreNext shape p hs (steps_of p ns)
       → RepliesStay b d all ns → RepliesStay b d all (splice b.opened p hs ns)
   stays_splice base top [] ns quiet low order next stay = stay
-  stays_splice base top (h ∷ hs) ns quiet low order next stay =
-      let own = steps_splice b.opened p base h.at hs ns quiet low order.1 in
-      stays_insert h (splice b.opened p hs ns) (quiet_splice b.opened p base h.at hs ns quiet low order.1) (subst (λ l. IsHopAt shape h (place shape l)) (sym own) next.0)
-      (stays_splice base h.at hs ns quiet low order.1 next.1 stay)
+  stays_splice base top (h ∷ hs) ns quiet low order next stay = grind (arith, nat_tests, steps_splice, stays_insert, splice, quiet_splice, place, stays_splice base h.at hs ns quiet low order.1 next.1 stay)
 
 -- Notes grow, and time goes on over one device call at most.
 module _ (b : BoardId) (dev dev' : Device) (ns is : List Note) (more : GrowsTo b ns is) (honest : dev'.honest ≡ dev.honest) (time : IsTrue dev.honest → LeavesEither dev dev')

@@ -1,6 +1,6 @@
 -- The place of a call in a run is that which its pass's own notes give.
-use Rattle.std.proofs.Common.{◌≡◌, ◌≢◌, ⊎_elim, ℕ, zero, suc, ◌≤◌, List, [], ◌∷◌, ◌++◌, length, refl, sym, ap, ◌∙◌, subst, arith, replicate, Option, Some, None}
-use Rattle.std.proofs.lemmas.{Bool.{cases_eq}, List.{length-replicate}}
+use Rattle.std.proofs.lemmas.{Bool.{cases_eq, Decides.{nat_tests}}, List.{length-replicate}}
+use Rattle.std.proofs.Common.{◌≡◌, ℕ, zero, suc, ◌≤◌, List, [], ◌∷◌, ◌++◌, length, refl, sym, ap, ◌∙◌, subst, arith, replicate, Option, Some, None}
 use Rattle.lz_tie.proofs.Vocabulary.{Command, set_of_pass, Medium, Event, Outcome, Reply, Progress, Shape, Yard, actor_at, line, line_failed, course}
 use Rattle.lz_tie.proofs.Vocabulary.{progress_after, begun, Start, State, Up, Service, Caller, Transition, Calls, Turn, Fails, Looks, Point, run, IsRun}
 use Rattle.lz_tie.proofs.Vocabulary.{MayStep, first_point, caller_at, next_event, state_after, reply_at, moved_on, after_turn, after_fault, looked, invoked}
@@ -27,13 +27,7 @@ pub record Placed (start : Start) (p : Point) (ns : List Note) : Type 0 where
 module _ (shape : Shape) (callers : List (Option Caller)) (n : Note) (ns : List Note) (places : (a : ℕ) → 1 ≤ a → viewed (caller_at callers a) ≡ place shape (steps_of a ns)) where
   set_places : (b : ℕ) (x : Option Caller) → n.by ≡ b → 1 ≤ b → b ≤ length callers → viewed x ≡ placed shape n.what (place shape (steps_of b ns))
       → (a : ℕ) → 1 ≤ a → viewed (caller_at (set_of_pass callers b x) a) ≡ place shape (steps_of a (n ∷ ns))
-  set_places b x by low high is a low_a = ⊎_elim
-      (λ (same : a ≡ b).
-      let there : caller_at (set_of_pass callers b x) b ≡ x = of_pass_same callers b x None low high in
-      let steps : steps_of b (n ∷ ns) ≡ n ∷ steps_of b ns = own_step [] b n ns by in
-      subst (λ a. viewed (caller_at (set_of_pass callers b x) a) ≡ place shape (steps_of a (n ∷ ns))) (sym same) (ap viewed there ∙ is ∙ ap (place shape) (sym steps)))
-      (λ (away : a ≢ b). ap viewed (of_pass_other callers b a x None away) ∙ places a low_a ∙ ap (place shape) (sym (other_step [] a n ns (λ same. away (sym same ∙ by)))))
-      (cases_eq a b)
+  set_places b x by low high is a low_a = grind (arith, nat_tests, caller_at, set_of_pass, of_pass_same, steps_of, own_step, place, shape, of_pass_other, places, other_step, cases_eq)
 
   -- a note that changes no place
   same_places : ((at : Option (Command × Progress)) → placed shape n.what at ≡ at) → (a : ℕ) → 1 ≤ a → viewed (caller_at callers a) ≡ place shape (steps_of a (n ∷ ns))

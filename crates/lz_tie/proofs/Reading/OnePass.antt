@@ -1,11 +1,11 @@
 -- In a set of one pass nothing is published but for it, and so it has seen the whole trace.
-use Rattle.std.proofs.Common.{◌≡◌, ◌⊎◌, inl, inr, ⊎_elim, ℕ, ◌≤◌, List, [], ◌∷◌, ◌++◌, length, length-append, refl, sym, ap, ◌∙◌, subst, arith, append_assoc}
-use Rattle.std.proofs.Common.{Option, Some, None}
+use Rattle.std.proofs.{lemmas.Bool.Decides.{nat_tests}, Common.{◌≡◌, ◌⊎◌, inl, inr, ℕ, ◌≤◌, List, [], ◌∷◌, ◌++◌, length, length-append, refl, sym, ap, ◌∙◌}}
+use Rattle.std.proofs.Common.{subst, arith, append_assoc, Option, Some, None}
 use Rattle.lz_tie.proofs.Vocabulary.{Medium, Device, Publishing, Trace, Stage, Actor, Course, Event, Shape, Yard, actor_at, cell_at, course, line_publishes}
 use Rattle.lz_tie.proofs.Vocabulary.{published_on, publishes, settling, Start, State, Up, Service, Caller, Transition, Calls, Turn, Fails, run, IsRun}
 use Rattle.lz_tie.proofs.Vocabulary.{first_point, caller_at, next_event, Sizes, What, Note, Part, Extends, as_list, trace_of, Quiet, Knows, BoardId}
 use Rattle.lz_tie.{proofs.Reading.{CallPlaces.{place_reads, run_before}, OwnTraces.{own_append}}, specs.OnePass.{AreOwn, OnlyOwn}}
-use Rattle.lz_tie.specs.{NotedRuns.{TellsTurn, TellsFault, TellsStep, TellsOf, ReadsAs}, Holds.{IsLocked}}
+use Rattle.lz_tie.specs.{NotedRuns.{TellsTurn, TellsStep, TellsOf, ReadsAs}, Holds.{IsLocked}}
 use Rattle.lz_vault.specs.declared.vault.Stage.TheVariants.{Open}
 use Rattle.lz_machine.specs.{declared.{course.Course.TheVariants.{Plays}, event.Event.TheVariants.{Link, Mark, Settle, Unlink}}, Runs.{shape_of as shape_in}}
 use Rattle.lz_machine.proofs.{Frames.OneActor.{caller_range}, Runs.Shape.{run_keeps_shape}}
@@ -49,11 +49,7 @@ step_by service disk n (Turn a) t = go (caller_at service.callers a) refl t.1
         let range = caller_range service.callers a caller is in
         let own : AreOwn a (as_list n.published) = subst (AreOwn a) (sym u.1) (line_own service.yard a (next_event service.yard caller)) in
         inr (subst (λ (p : ℕ). (1 ≤ p) × (p ≤ length service.callers) × AreOwn p (as_list n.published)) (sym t.0) (range.0, range.1, own))
-step_by service disk n (Fails a new) t = go (caller_at service.callers a) t.1
-  where
-    go : (q : Option Caller) → TellsFault service q n → IsByPass (length service.callers) n
-    go None t = absurd t
-    go (Some caller) t = inl t.1
+step_by service disk n (Fails a new) t = grind (arith, nat_tests, caller_at)
 step_by service disk n _ t = absurd t
 
 passes_read : (start : Start) (ns : List Note) (steps : List Transition) → IsRun (first_point start) steps → ReadsAs (first_point start) ns steps → AreByPasses start.shape.passes ns
@@ -72,13 +68,7 @@ passes_read start (n ∷ ns) steps runs (new, before, is, tells, rest) = (one n.
 -- where all steps of the one pass come before the trace is longer than n, it isn't
 one_long : (opened : Trace) (n : ℕ) (ns : List Note) → AreByPasses 1 ns → Quiet opened 1 n ns → length opened ≤ n → length (trace_of opened ns) ≤ n
 one_long opened n [] are quiet least = least
-one_long opened n (x ∷ xs) are quiet least = ⊎_elim
-    (λ (none : x.published ≡ None). subst (λ (p : Option Publishing). length (as_list p ++ trace_of opened xs) ≤ n) (sym none) (one_long opened n xs are.1 quiet.1 least))
-    (λ (range : (1 ≤ x.by) × (x.by ≤ 1) × AreOwn x.by (as_list x.published)). let low = range.0 in let high = range.1 in ⊎_elim
-    (λ over. absurd (quiet.0 over.1 (omega (arith, low, high))))
-    (λ within. within.1)
-    (low_or_not n (length (trace_of opened (x ∷ xs)))))
-    are.0
+one_long opened n (x ∷ xs) are quiet least = grind (arith, nat_tests, as_list, trace_of, one_long opened n xs, low_or_not)
 
 -- nothing is more where there is no more of it
 no_more : (more P : Trace) → length (more ++ P) ≤ length P → more ++ P ≡ P

@@ -1,6 +1,7 @@
 -- The pin words of a run are those that the notes give.
-use Rattle.std.proofs.Common.{◌≡◌, ◌≢◌, ◌⊎◌, inl, inr, ⊎_elim, ℕ, zero, suc, ◌+◌, ◌≤◌, ◌==◌, Bool, true, false, List, [], ◌∷◌, ◌++◌, length, refl, sym, ap, ◌∙◌}
-use Rattle.std.proofs.{Common.{subst, arith, eq-eqb, ne_eqb, replicate, Option, Some, None, if◌then◌else◌, not, ◌||◌}, lemmas.Bool.{cases_eq, not-true}}
+use Rattle.std.proofs.{lemmas.Bool.{cases_eq, not-true, Decides.{nat_tests}}, Common.{◌≡◌, ◌≢◌, ◌⊎◌, ⊎_elim, ℕ, zero, suc, ◌+◌, ◌≤◌, ◌==◌, Bool, true, false}}
+use Rattle.std.proofs.Common.{List, [], ◌∷◌, ◌++◌, length, refl, sym, ap, ◌∙◌, subst, arith, eq-eqb, ne_eqb, replicate, Option, Some, None, if◌then◌else◌, not}
+use Rattle.std.proofs.Common.{◌||◌}
 use mathlib.Core.Bool.{false≢true}
 use Rattle.lz_tie.proofs.Vocabulary.{of_pass, set_of_pass, Medium, is_outside, Words, get, set, Course, Actor, Event, Outcome, Shape, Yard, actor_at, course}
 use Rattle.lz_tie.proofs.Vocabulary.{line, line_on, words_after, pin_of, last_pin, is_sure, stays_out, needs, pin_answered, Start, IsStart, State, Up, Down}
@@ -42,11 +43,7 @@ words_pins y actor a _ not_one = refl
 -- there are as many pin words as before
 pub line_count : (y : Yard) (a : ℕ) (e : Event) (c : Course) → length (line_on c y (actor_at y a) a e).0.words.pins ≡ length y.words.pins
 line_count y a Pin Plays = length-set_of_pass y.words.pins a (get y.words (pin_word a) + 1)
-line_count y a Answer Plays = go (stays_out (actor_at y a) (pin_of y a))
-  where
-    go : (out : Bool) → length (if out then y.words else set y.words (pin_word a) (pin_of y a + 1)).pins ≡ length y.words.pins
-    go true = refl
-    go false = length-set_of_pass y.words.pins a (pin_of y a + 1)
+line_count y a Answer Plays = grind (arith, nat_tests, stays_out, actor_at, pin_of, set, length-set_of_pass)
 line_count y a e Plays = ap length (words_pins y (actor_at y a) a e refl)
 line_count y a e _ = refl
 
@@ -79,15 +76,7 @@ module _ (y : Yard) (a : ℕ) (low : 1 ≤ a) (high : a ≤ length y.words.pins)
   rest q away = of_pass_other y.words.pins a q (of_pass y.words.pins a 0 + 1) 0 away
 
   pin_course : (course y a Pin ≡ Plays) ⊎ ((course y a Pin ≡ Refused NotNow) ⊎ (course y a Pin ≡ Refused Worn))
-  pin_course = go y.vault.dead (is_outside (pin_of y a)) (pin_of y a == last_pin) refl refl refl
-    where
-      go : (d o l : Bool) → y.vault.dead ≡ d → is_outside (pin_of y a) ≡ o → (pin_of y a == last_pin) ≡ l → (course y a Pin ≡ Plays) ⊎ ((course y a Pin ≡ Refused NotNow) ⊎ (course y a Pin ≡ Refused Worn))
-      go true true true d o l = inr (inr (rw (d, o, l) refl))
-      go true true false d o l = inl (rw (d, o, l) refl)
-      go true false l' d o l = inr (inl (rw (d, o) refl))
-      go false true true d o l = inr (inr (rw (d, o, l) refl))
-      go false true false d o l = inl (rw (d, o, l) refl)
-      go false false l' d o l = inr (inl (rw (d, o) refl))
+  pin_course = grind (arith, nat_tests, is_outside, pin_of, last_pin, course)
 
   pin_own : OwnPin Pin
   pin_own = ⊎_elim (λ is. by_course Pin Plays is more rest) (λ r. ⊎_elim (λ is. by_course Pin (Refused NotNow) is refl (λ q away. refl)) (λ is. by_course Pin (Refused Worn) is refl (λ q away. refl)) r) pin_course
@@ -112,10 +101,7 @@ module _ (y : Yard) (a : ℕ) (low : 1 ≤ a) (high : a ≤ length y.words.pins)
           go false false o s may = omega arith
 
   other_own : (e : Event) → is_pinning e ≡ false → OwnPin e
-  other_own e not_one = let same = line_pins y a e not_one (course y a e) in record {
-    own = ap (λ ps. of_pass ps a 0) same ∙ sym (still_pin e (line y a e).1 (pin_of y a) not_one);
-    others = λ q away. ap (λ ps. of_pass ps q 0) same;
-  }
+  other_own e not_one = grind (arith, nat_tests, line_pins, course, of_pass, still_pin, line, pin_of)
 
   pub own_pin : (e : Event) → OwnPin e
   own_pin e = go e (is_pinning e) refl

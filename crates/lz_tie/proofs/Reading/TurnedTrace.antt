@@ -1,6 +1,6 @@
 -- The trace at which a pass of a run went in is that before the last change of its pin word in the notes.
-use Rattle.std.proofs.Common.{◌≡◌, ◌≢◌, ◌⊎◌, inl, inr, ⊎_elim, ℕ, zero, suc, ◌+◌, ◌%◌, ◌≤◌, ◌==◌, Bool, true, false, List, [], ◌∷◌, ◌++◌, refl, sym, ap, ◌∙◌}
-use Rattle.std.proofs.{Common.{subst, arith, eq-eqb, ne_eqb, replicate, if◌then◌else◌}, lemmas.Bool.{cases_eq}}
+use Rattle.std.proofs.{lemmas.Bool.{cases_eq, Decides.{nat_tests}}, Common.{◌≡◌, ◌≢◌, ◌⊎◌, inl, inr, ⊎_elim, ℕ, zero, suc, ◌+◌, ◌%◌, ◌≤◌, ◌==◌, Bool, true}}
+use Rattle.std.proofs.Common.{false, List, [], ◌∷◌, ◌++◌, refl, sym, ap, ◌∙◌, subst, arith, eq-eqb, ne_eqb, replicate, if◌then◌else◌}
 use Rattle.lz_tie.proofs.Vocabulary.{Medium, Trace, Event, Outcome, Start, IsStart, State, Up, Down, Service, Transition, Looks, Point, run, IsRun, first_point}
 use Rattle.lz_tie.proofs.Vocabulary.{is_out, trace_outside, What, Note, trace_of, pin_after_played, pin_after_what, pin_after, turned_at, IsStep}
 use Rattle.lz_tie.proofs.Reading.{CallPlaces.{place_reads, run_before}, TraceNotes.{looks_trace, trace_reads}}
@@ -19,11 +19,7 @@ played_pin e o pin = inl (still_pin e o pin refl)
 -- and so does a step of a pass
 step_pin : (q p : ℕ) (what : What) (pin : ℕ) → IsStep what → (pin_after_what q p what pin ≡ pin) ⊎ (pin_after_what q p what pin ≡ suc pin)
 step_pin q p (Called c format) pin step = inl refl
-step_pin q p (Played e o) pin step = go (p == q) (played_pin e o pin)
-  where
-    go : (b : Bool) → (pin_after_played e o pin ≡ pin) ⊎ (pin_after_played e o pin ≡ suc pin) → ((if b then pin_after_played e o pin else pin) ≡ pin) ⊎ ((if b then pin_after_played e o pin else pin) ≡ suc pin)
-    go true h = h
-    go false h = inl refl
+step_pin q p (Played e o) pin step = grind (arith, nat_tests, played_pin, pin_after_played)
 step_pin q p (Found r v) pin step = absurd step
 
 -- the notes before the last change, where the last note is one or isn't

@@ -1,11 +1,11 @@
 -- What a pass has when its call has answered: its steps are that call, its reply keeps what the table promises, and the pass
 -- may make the next call.
-use Rattle.std.proofs.Common.{◌≡◌, ℕ, ◌%◌, ◌==◌, if◌then◌else◌, suc, true, false, List, [], ◌∷◌, ◌++◌, map, length, refl, sym, ap, ◌∙◌, subst, append_assoc}
-use Rattle.std.proofs.{Common.{Option, Some, None, is_some}, lemmas.List.Elements.{filter-append}}
-use Rattle.lz_tie.proofs.Vocabulary.{Command, Format, HasMembers, Counts, Publishing, Trace, Begins, Lawful, member, Outcome, Reply, Shape, IsInside, is_old}
-use Rattle.lz_tie.proofs.Vocabulary.{last_pin, View, Relies, is_before_pin, side_of, own_change, Sizes, Note, Part, as_list, trace_of, note_by, stamped}
-use Rattle.lz_tie.proofs.Vocabulary.{load_note, own, is_for, splice, place, placed, shape_of_sizes, pin_after_what, Changes, BoardId}
-use Rattle.lz_tie.proofs.{Reading.OwnTraces.{own_since}, Replies.CallSteps.{call_steps, one_call, steps_since, same_reserve}}
+use Rattle.std.proofs.Common.{arith, ◌≡◌, ℕ, ◌%◌, ◌==◌, if◌then◌else◌, suc, true, false, List, [], ◌∷◌, ◌++◌, map, length, refl, sym, ap, ◌∙◌, subst}
+use Rattle.std.proofs.{Common.{append_assoc, Option, Some, None, is_some}, lemmas.{Bool.Decides.{nat_tests}, List.Elements.{filter-append}}}
+use Rattle.lz_tie.proofs.Vocabulary.{Command, Format, HasMembers, Counts, Publishing, Trace, Begins, Lawful, member, Outcome, Reply, Shape, is_old, last_pin}
+use Rattle.lz_tie.proofs.Vocabulary.{View, Relies, is_before_pin, side_of, own_change, Sizes, Note, Part, as_list, trace_of, note_by, stamped, load_note, own}
+use Rattle.lz_tie.proofs.{Vocabulary.{is_for, splice, place, placed, shape_of_sizes, pin_after_what, Changes, BoardId}, Reading.OwnTraces.{own_since}}
+use Rattle.lz_tie.proofs.Replies.CallSteps.{call_steps, one_call, steps_since, same_reserve}
 use Rattle.lz_tie.proofs.Replies.LastTurn.{answer_done, answer_silent, answer_pin, stays_outside, goes_outside, worn_pin, their_view, answer_relies}
 use Rattle.lz_tie.{proofs.Replies.ReplyRows.{yes_since, no_since, added, removed}, specs.{OnePass.{OnlyOwn}, Answers.{Promises, WasFull, IsOneCall, Answers}}}
 use Rattle.lz_tie.specs.{Holds.{HoldNotes, Turned, IsIdle}, UnderWay.{UnderWay, OwnAt, FoundFull}}
@@ -27,18 +27,7 @@ module _ (slots buckets passes p : ℕ) (v : View) (format : Format) (pin : ℕ)
   shape = record { slots = slots; buckets = buckets; passes = passes }
 
   full_row : (k : ℕ) (counts : Counts) → Stands v p (Add k) (Full counts) P P0 Q → Changes p P Q [] → FoundFull slots passes counts new Q → WasFull shape p k counts new P Q
-  full_row k counts s none f =
-      let absent = s.relies.0.1 in
-      record {
-        reserve = f.reserve;
-        free = f.free;
-        sum = f.sum;
-        then = absent.then;
-        between = record { from = begins_before P P0 absent.then s.from absent.since.from; upto = absent.since.upto };
-        no_member = absent.gone;
-        alone = f.alone;
-        changes = none;
-      }
+  full_row k counts s none f = grind (arith, nat_tests, begins_before)
 
   rows : (c : Command) (reply : Reply) (changes : Trace) → (is_before_pin (Answering reply) ≡ false → Stands v p c reply P P0 Q)
       → Changes p P Q changes → OwnAt p c (Answering reply) changes → (reply ≡ Worn → pin ≡ last_pin) → (reply ≡ OldFile → is_old format c ≡ true)
@@ -110,13 +99,7 @@ module _ (b : BoardId) (c : Command) (format : Format) (before : Part) (reply : 
   law = subst (λ (q : Sizes × Trace). Lawful q.0.buckets q.0.slots q.1) (λ i. ((holds.sizes ∙ under.sizes) i, knows_now i)) holds.lawful
 
   stands : is_before_pin (Answering reply) ≡ false → Stands (their_view b.opened was h c reply o x turned) h.number c reply before.known h.begun now
-  stands inside =
-      let in_side : IsInside h.pin = under.side ∙ ap side_of inside in
-      record {
-        from = under.since in_side;
-        to = (turned.stands in_side).begins in_side;
-        relies = answer_relies b.opened was h c reply o x turned in_side;
-      }
+  stands inside = grind (arith, nat_tests, side_of, answer_relies)
 
   found : (b.sizes.passes ≡ 1 → now ≡ h.known) → (counts : Counts) → reply ≡ Full counts → FoundFull b.sizes.slots b.sizes.passes counts new now
   found alone counts full =
@@ -154,8 +137,4 @@ module _ (b : BoardId) (c : Command) (format : Format) (before : Part) (reply : 
 
   -- and the pass may make the next call
   pub idle_again : IsIdle b.sizes after
-  idle_again = record {
-    idle = ap (λ l. is_some (place (shape_of_sizes b.sizes) l)) holds.steps ∙ ap (λ q. is_some (placed (shape_of_sizes b.sizes) (Played Answer o) q)) at_answer;
-    no_loads = holds.no_loads;
-    outside = ap (λ n. n % 2) pin_now ∙ goes_outside h.pin;
-  }
+  idle_again = grind (arith, nat_tests, is_some, place, shape_of_sizes, placed, at_answer, pin_now, goes_outside)

@@ -1,5 +1,5 @@
 -- The steps of a call, from its beginning to its Answer.
-use Rattle.std.proofs.Common.{◌≡◌, ℕ, List, [], ◌∷◌, ◌++◌, map, refl, sym, ap, ◌∙◌, append_assoc, Some, None}
+use Rattle.std.proofs.{Common.{arith, ◌≡◌, ℕ, List, [], ◌∷◌, ◌++◌, map, refl, ap, ◌∙◌, append_assoc, Some, None}, lemmas.Bool.Decides.{nat_tests}}
 use Rattle.lz_tie.proofs.Vocabulary.{Command, Format, Reply, Shape, Note, Load, note_by, load_note, place, placed, stamped}
 use Rattle.lz_tie.specs.Answers.{reserved_by, last_reserve, AreWithin, IsOneCall}
 use Rattle.lz_machine.specs.declared.{event.{Event.TheVariants.{Answer}, Outcome.TheVariants.{Done}}, caller.Progress.TheVariants.{Answering}}
@@ -23,19 +23,11 @@ module _ (p : ℕ) (format : Format) (c : Command) where
   loads_within (h ∷ hs) within only = (tt, loads_within hs within only)
 
   pub one_call : (shape : Shape) (reply : Reply) (m : ℕ) (loads : List Load) (within rest : List Note) → AreWithin within → place shape (map (load_note p) loads ++ (within ++ call_note ∷ rest)) ≡ Some (c, Answering reply) → IsOneCall shape p format c reply (call_steps m loads within)
-  one_call shape reply m loads within rest only at = record {
-    moment = m;
-    within = map (load_note p) loads ++ within;
-    steps = refl;
-    only = loads_within loads within only;
-    answers = sym (place_since shape (map (load_note p) loads ++ within) rest) ∙ ap (place shape) (append_assoc (map (load_note p) loads) within (call_note ∷ rest)) ∙ at;
-  }
+  one_call shape reply m loads within rest only at = grind (arith, nat_tests, load_note, loads_within, place_since, place, append_assoc)
 
   -- they stand before the steps that the pass had
   pub steps_since : (m : ℕ) (loads : List Load) (within rest : List Note) → stamped m (note_by p (Played Answer Done) None) ∷ (map (load_note p) loads ++ (within ++ call_note ∷ rest)) ≡ call_steps m loads within ++ rest
-  steps_since m loads within rest =
-      ap (λ l. stamped m (note_by p (Played Answer Done) None) ∷ l)
-      (sym (append_assoc (map (load_note p) loads) within (call_note ∷ rest)) ∙ sym (append_assoc (map (load_note p) loads ++ within) (call_note ∷ []) rest))
+  steps_since m loads within rest = grind (arith, nat_tests, stamped, note_by, append_assoc, load_note)
 
   -- the last slot that was asked for
   reserve_called : (within : List Note) → last_reserve (within ++ call_note ∷ []) ≡ last_reserve within

@@ -1,6 +1,6 @@
 -- Where a key is linked the members are fewer than the slots: each has a node, in a slot that holds its key, and so has the new one.
-use Rattle.std.proofs.Common.{◌≡◌, inl, inr, ℕ, zero, suc, ◌<◌, ◌==◌, ◌&&◌, ◌||◌, not, if◌then◌else◌, Bool, true, false, List, [], ◌∷◌, ◌++◌, length, refl, sym}
-use Rattle.std.proofs.{Common.{◌∙◌, subst, arith, nat_eq, length-append}, lemmas.Map.{Keys.{IsDistinct-push}, Made.{length-le_from_is_member}}}
+use Rattle.std.proofs.Common.{◌≡◌, ℕ, zero, suc, ◌<◌, ◌&&◌, not, if◌then◌else◌, Bool, true, false, List, [], ◌∷◌, ◌++◌, length, refl, sym, ◌∙◌, subst, arith}
+use Rattle.std.proofs.{Common.{nat_eq, length-append}, lemmas.Map.{Keys.{IsDistinct-push}, Made.{length-le_from_is_member}}}
 use Rattle.std.{proofs.lemmas.Bool.{cases_Bool, cases_eq, and_parts, not-true, or_cases, or_left, or_right, Decides.{nat_tests}}, specs.List.{IsDistinct}}
 use Rattle.std.specs.Cmp.{nat_eq_equiv}
 use Rattle.lz_tie.{proofs.Vocabulary.{Keys, Same, members, Trace, bucket_of, key_word, member, Lawful}, specs.OneCaller.{keys_in, HasRoom}}
@@ -20,10 +20,7 @@ count P (suc n) = omega (arith, count P n, length-append (slot_keys P n) (key_wo
 
 slot_has : (P : Trace) (n s : ℕ) → s < n → members (slot_keys P n) (key_word s P) ≡ true
 slot_has P zero s lt = absurd (omega (arith, lt))
-slot_has P (suc n) s lt = members_append (slot_keys P n) (key_word n P ∷ []) (key_word s P) ∙ elim (cases_eq s n) [
-  | inl same ↦ or_right (members (slot_keys P n) (key_word s P)) (members (key_word n P ∷ []) (key_word s P)) (subst (λ (q : ℕ). members (key_word q P ∷ []) (key_word s P) ≡ true) same (grind (arith, nat_tests)))
-  | inr other ↦ or_left (members (slot_keys P n) (key_word s P)) (members (key_word n P ∷ []) (key_word s P)) (slot_has P n s (omega (arith, lt, other)))
-]
+slot_has P (suc n) s lt = grind (arith, nat_tests, members_append, key_word, cases_eq, or_right, members, or_left, slot_has P n s)
 
 and_true : (a b : Bool) → a ≡ true → b ≡ true → (a && b) ≡ true
 and_true a b one other = rw (one, other) refl
@@ -43,11 +40,7 @@ picked_distinct test (x ∷ xs) = go (test x && not (members (picked test xs) x)
 
 picked_members : (test : ℕ → Bool) (xs : List ℕ) (q : ℕ) → members (picked test xs) q ≡ (test q && members xs q)
 picked_members test [] q = grind (arith, nat_tests)
-picked_members test (x ∷ xs) q = go (test x && not (members (picked test xs) x)) refl (picked_members test xs q)
-  where
-    go : (b : Bool) → (test x && not (members (picked test xs) x)) ≡ b → members (picked test xs) q ≡ (test q && members xs q) → members (if b then picked test xs ++ x ∷ [] else picked test xs) q ≡ (test q && ((x == q) || members xs q))
-    go true is rest = members_append (picked test xs) (x ∷ []) q ∙ grind (arith, nat_tests, is, rest)
-    go false is rest = grind (arith, nat_tests, is, rest)
+picked_members test (x ∷ xs) q = grind (arith, nat_tests, members, picked_members test xs q, members_append)
 
 module _ (buckets slots k s p : ℕ) (P : Trace) (law : Lawful buckets slots (linked k s p ∷ P)) where
   member_slot : (q : ℕ) → member q P ≡ true → members (slot_keys P slots) q ≡ true
@@ -67,10 +60,7 @@ module _ (buckets slots k s p : ℕ) (P : Trace) (law : Lawful buckets slots (li
   distinct = IsDistinct-push nat_eq_equiv keys k (picked_distinct (keys_in P) (slot_keys P slots)) (sym (members_among keys k) ∙ sym (all_keys k) ∙ law.0.no_member)
 
   held : (q : ℕ) → members (keys ++ k ∷ []) q ≡ true → members (slot_keys P slots) q ≡ true
-  held q is = elim (or_cases (members keys q) (members (k ∷ []) q) (sym (members_append keys (k ∷ []) q) ∙ is)) [
-    | inl there ↦ member_slot q (all_keys q ∙ there)
-    | inr here ↦ let is_k : k ≡ q = grind (arith, nat_tests, here) in subst (λ (j : ℕ). members (slot_keys P slots) j ≡ true) is_k own_slot
-  ]
+  held q is = grind (arith, nat_tests, or_cases, members, members_append, member_slot, all_keys, own_slot)
 
   fewer : length keys < slots
   fewer =

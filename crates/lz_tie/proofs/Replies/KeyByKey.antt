@@ -1,6 +1,6 @@
 -- What is told of keys that nobody else changes is, key by key, what a plain set tells.
-use Rattle.std.proofs.Common.{◌≡◌, inl, inr, ℕ, ◌==◌, if◌then◌else◌, Bool, true, false, List, [], ◌∷◌, ◌++◌, map, refl, sym, ap, ◌∙◌, subst, eq-eqb, true≢false}
-use Rattle.std.proofs.lemmas.Bool.Decides.{eqb_tells}
+use Rattle.std.proofs.Common.{arith, ◌≡◌, inl, inr, ℕ, ◌==◌, if◌then◌else◌, Bool, true, false, List, [], ◌∷◌, ◌++◌, map, refl, sym, ap, ◌∙◌, subst, eq-eqb}
+use Rattle.std.proofs.{Common.{true≢false}, lemmas.Bool.Decides.{nat_tests, eqb_tells}}
 use Rattle.lz_tie.proofs.Vocabulary.{Command, Format, Keys, Same, after, key_of, moved, replies, reply, set_after, Trace, member, Reply}
 use Rattle.lz_tie.{proofs.{Replies.OneKey.{one_key}, Sessions.PlainRows.{after_told}}, specs.KeyByKey.{AreFor, Untouched, KeyRow, IsKeyAnswer, ServedKey}}
 use Rattle.lz_tie.specs.KeyByKey.{about, SameBut, PlainCalls, OwnKeysArePlain, answered_by, answered_in, PlainCallsAreReplies}
@@ -11,14 +11,8 @@ use Rattle.lz_machine.specs.declared.event.Reply.TheVariants.{Yes, No, Full, Wor
 
 pub leaves : (k : ℕ) (since P : Trace) → AreFor (λ q. ⊥) k since → member k (since ++ P) ≡ member k P
 leaves k [] P none = refl
-leaves k (linked j s q ∷ since) P none = elim (eqb_tells j k) [
-  | inl t ↦ absurd (none.0 t.1)
-  | inr f ↦ ap (λ (d : Bool). if d then true else member k (since ++ P)) f.0 ∙ leaves k since P none.1
-]
-leaves k (marked j s q ∷ since) P none = elim (eqb_tells j k) [
-  | inl t ↦ absurd (none.0 t.1)
-  | inr f ↦ ap (λ (d : Bool). if d then false else member k (since ++ P)) f.0 ∙ leaves k since P none.1
-]
+leaves k (linked j s q ∷ since) P none = grind (arith, nat_tests, eqb_tells, member, leaves k since P none.1)
+leaves k (marked j s q ∷ since) P none = grind (arith, nat_tests, eqb_tells, member, leaves k since P none.1)
 leaves k (e ∷ since) P none = leaves k since P none
 
 kept : (k : ℕ) (P Q : Trace) → Untouched k P Q → member k Q ≡ member k P
@@ -64,16 +58,10 @@ own_keys F (call ∷ calls) P Q served =
 
 -- a key's row and all other keys are the set's
 pub whole : (c : Command) (S U : Keys) → U (key_of c) ≡ moved (key_of c) c (S (key_of c)) → SameBut (key_of c) S U → Same U (after c S)
-whole c S U it others j = elim (eqb_tells j (key_of c)) [
-  | inl t ↦ subst (λ (q : ℕ). U q ≡ after c S q) (sym t.1) (it ∙ sym (after_at c S (key_of c)))
-  | inr f ↦ others j f.1 ∙ sym (moved_other c j (S j) (λ same. f.1 (sym same))) ∙ sym (after_at c S j)
-]
+whole c S U it others j = grind (arith, nat_tests, eqb_tells, key_of, after, after_at, moved_other)
 
 pub unmoved : (k : ℕ) (S U : Keys) → U k ≡ S k → SameBut k S U → Same U S
-unmoved k S U it others j = elim (eqb_tells j k) [
-  | inl t ↦ subst (λ (q : ℕ). U q ≡ S q) (sym t.1) it
-  | inr f ↦ others j f.1
-]
+unmoved k S U it others j = grind (arith, nat_tests, eqb_tells)
 
 leaves_set : (c : Command) (told : Reply) (S U : Keys) → cuts_off told ≡ false → KeyRow c told (S (key_of c)) (U (key_of c)) → SameBut (key_of c) S U → Same U (after_told c told S)
 leaves_set (Add k) (Full counts) S U kept row others = unmoved k S U row.1 others

@@ -1,6 +1,6 @@
 -- Where all calls that name a key were made one after the other, nobody else changed it meanwhile.
-use Rattle.std.proofs.Common.{◌≡◌, inl, inr, ℕ, ◌==◌, if◌then◌else◌, Bool, true, false, List, [], ◌∷◌, filter, refl, sym, ap, subst, eqb-true}
-use Rattle.std.proofs.lemmas.Bool.Decides.{eqb_tells}
+use Rattle.std.proofs.Common.{arith, ◌≡◌, inl, inr, ℕ, ◌==◌, if◌then◌else◌, Bool, true, false, List, [], ◌∷◌, filter, refl, sym, subst, eqb-true}
+use Rattle.std.proofs.lemmas.Bool.Decides.{nat_tests, eqb_tells}
 use Rattle.lz_tie.proofs.{Vocabulary.{Command, Format, key_of, Publishing, Trace, Begins, Since, own}, Replies.KeyByKey.{own_keys}}
 use Rattle.lz_tie.proofs.Replies.{KeyChanges.{no_sooner, sooner, each_since, changed_for}, SeenMore.{own_of_call, seen_more}}
 use Rattle.lz_tie.specs.{Answers.{Answers, MayHaveChanged}, KeyByKey.{AreFor, ChangedFor, ServedKey, about}, LoneClient.{MadeCall, AreMade, made_by, naming}}
@@ -14,14 +14,8 @@ use Rattle.lz_board.proofs.Upkeep.Growth.{begins_of}
 -- a pass that has published nothing of key k since has not changed it
 not_own : (p k : ℕ) (since : Trace) → AreFor (λ q. ⊥) k (own p since) → AreFor (λ q. ¬ (q ≡ p)) k since
 not_own p k [] none = tt
-not_own p k (linked j s q ∷ since) none = elim (eqb_tells q p) [
-  | inl t ↦ let are = subst (λ (b : Bool). AreFor (λ r. ⊥) k (if b then linked j s q ∷ own p since else own p since)) t.0 none in (λ same. absurd (are.0 same), not_own p k since are.1)
-  | inr f ↦ (λ same. f.1, not_own p k since (subst (λ (b : Bool). AreFor (λ r. ⊥) k (if b then linked j s q ∷ own p since else own p since)) f.0 none))
-]
-not_own p k (marked j s q ∷ since) none = elim (eqb_tells q p) [
-  | inl t ↦ let are = subst (λ (b : Bool). AreFor (λ r. ⊥) k (if b then marked j s q ∷ own p since else own p since)) t.0 none in (λ same. absurd (are.0 same), not_own p k since are.1)
-  | inr f ↦ (λ same. f.1, not_own p k since (subst (λ (b : Bool). AreFor (λ r. ⊥) k (if b then marked j s q ∷ own p since else own p since)) f.0 none))
-]
+not_own p k (linked j s q ∷ since) none = grind (arith, nat_tests, eqb_tells, own, not_own p k since)
+not_own p k (marked j s q ∷ since) none = grind (arith, nat_tests, eqb_tells, own, not_own p k since)
 not_own p k (unlinked j s q ∷ since) none = not_own p k since (unlinking (q == p) none)
   where
     unlinking : (b : Bool) → AreFor (λ r. ⊥) k (if b then unlinked j s q ∷ own p since else own p since) → AreFor (λ r. ⊥) k (own p since)
@@ -56,29 +50,17 @@ IsIn e R m = Begins m.before.known R × Begins (e ∷ R) m.after.known
 module _ (F : Format) (test : MadeCall → Bool) where
   made_filter : (calls : List MadeCall) → AreMade F calls → AreMade F (filter test calls)
   made_filter [] made = tt
-  made_filter (m ∷ calls) made =
-      let rest = made_filter calls made.1 in
-      elim (test m) as (λ b. AreMade F (if b then m ∷ filter test calls else filter test calls)) [ true ↦ (made.0, rest) | false ↦ rest ]
+  made_filter (m ∷ calls) made = grind (arith, nat_tests, made_filter calls made.1)
 
   some_filtered : (A : MadeCall → Type 0) (calls : List MadeCall) → SomeCall A (filter test calls) → SomeCall (λ m. A m × (test m ≡ true)) calls
   some_filtered A [] some = elim some [ ]
-  some_filtered A (m ∷ calls) some = go (test m) refl (some_filtered A calls) some
-    where
-      go : (b : Bool) → test m ≡ b → (SomeCall A (filter test calls) → SomeCall (λ m. A m × (test m ≡ true)) calls)
-          → SomeCall A (if b then m ∷ filter test calls else filter test calls) → SomeCall (λ m. A m × (test m ≡ true)) (m ∷ calls)
-      go true is rest (inl here) = inl (here, is)
-      go true is rest (inr later) = inr (rest later)
-      go false is rest later = inr (rest later)
+  some_filtered A (m ∷ calls) some = grind (arith, nat_tests, some_filtered A calls)
 
   -- what is so of one of them is so of one that passes the test, where it follows from its answer
   some_kept : (A B : MadeCall → Type 0) → ((m : MadeCall) → WasAnswered F m → A m → B m × (test m ≡ true)) → (calls : List MadeCall) → AreMade F calls → SomeCall A calls → SomeCall B (filter test calls)
   some_kept A B follows [] made some = elim some [ ]
-  some_kept A B follows (m ∷ calls) made (inl here) =
-      let so = follows m made.0 here in
-      subst (λ (b : Bool). SomeCall B (if b then m ∷ filter test calls else filter test calls)) (sym so.1) (inl so.0)
-  some_kept A B follows (m ∷ calls) made (inr later) =
-      let rest = some_kept A B follows calls made.1 later in
-      elim (test m) as (λ b. SomeCall B (if b then m ∷ filter test calls else filter test calls)) [ true ↦ inr rest | false ↦ rest ]
+  some_kept A B follows (m ∷ calls) made (inl here) = grind (arith, nat_tests)
+  some_kept A B follows (m ∷ calls) made (inr later) = grind (arith, nat_tests, some_kept A B follows calls made.1 later)
 
 -- a call's part before it begins its part after it
 within : (F : Format) (m : MadeCall) → WasAnswered F m → Begins m.before.known m.after.known
@@ -113,10 +95,7 @@ in_turn_begins F (m ∷ calls) P Q made turn =
 not_later : (F : Format) (calls : List MadeCall) (P Q : Trace) (q : ℕ) (e : Publishing) (R : Trace) → AreMade F calls → InTurn calls P Q → Begins (e ∷ R) P → SomeCall (IsInCall q e R) calls → ⊥
 not_later F [] P Q q e R made turn early some = elim some [ ]
 not_later F (m ∷ calls) P Q q e R made turn early (inl here) = no_sooner e R P early (begins_before P m.before.known R turn.0 here.since)
-not_later F (m ∷ calls) P Q q e R made turn early (inr later) =
-    not_later F calls m.after.known Q q e R made.1 turn.1
-    (begins_before (e ∷ R) P m.after.known early (begins_before P m.before.known m.after.known turn.0 (within F m made.0)))
-    later
+not_later F (m ∷ calls) P Q q e R made turn early (inr later) = grind (arith, nat_tests, not_later F calls m.after.known Q q e R made.1 turn.1 (begins_before (e ∷ R) P m.after.known early (begins_before P m.before.known m.after.known turn.0 (within F m made.0))) later, begins_before, within)
 
 pub serve : TurnsServeKey
 serve F k [] P Q made turn all = changed_for (λ q. ⊥) k P Q turn all
@@ -146,12 +125,7 @@ serve F k (m ∷ calls) P Q made turn all =
 -- the calls that name a key, and what was told of them
 pub told_naming : (k : ℕ) (calls : List MadeCall) → about k (told_in calls) ≡ told_in (naming k calls)
 told_naming k [] = refl
-told_naming k (m ∷ calls) =
-    let rest = told_naming k calls in
-    elim (key_of m.command == k) as (λ b. (if b then (m.command, m.reply) ∷ about k (told_in calls) else about k (told_in calls)) ≡ told_in (if b then m ∷ naming k calls else naming k calls)) [
-      | true ↦ ap (λ (l : AnsweredCalls). (m.command, m.reply) ∷ l) rest
-      | false ↦ rest
-    ]
+told_naming k (m ∷ calls) = grind (arith, nat_tests, told_naming k calls, key_of)
 
 pub in_turn_serves : InTurnServesKey
 in_turn_serves F k calls P Q h turn =

@@ -1,6 +1,6 @@
 -- An answer tells of an old file exactly where the file can't hold the key of an adding.
-use Rattle.std.proofs.Common.{◌≡◌, ◌⊎◌, ⊎_elim, inl, inr, ℕ, if◌then◌else◌, Bool, true, false, List, [], ◌∷◌, ◌++◌, sym, ap, ◌∙◌, Option, Some, None}
-use Rattle.std.{proofs.lemmas.Option.{none-some}, specs.Cmp.{both_ways}}
+use Rattle.std.proofs.Common.{arith, ◌≡◌, ◌⊎◌, inl, inr, ℕ, if◌then◌else◌, Bool, true, false, List, [], ◌∷◌, ◌++◌, ap, Option, Some, None}
+use Rattle.std.{proofs.lemmas.{Bool.Decides.{nat_tests}, Option.{none-some}}, specs.Cmp.{both_ways}}
 use mathlib.Core.Bool.{false≢true}
 use Rattle.lz_tie.proofs.Vocabulary.{Command, Format, Trace, Reply, Progress, first_progress, is_old, Shape, What, Note, Part, note_by, place, placed}
 use Rattle.lz_tie.{proofs.Vocabulary.{shape_of_sizes}, specs.{Answers.{Promises, IsWithin, AreWithin, IsOneCall, Answers}, OneCaller.{tells_old}}}
@@ -31,10 +31,7 @@ module _ (shape : Shape) (p : ℕ) (F : Format) (c : Command) where
   told_at (n ∷ within) are old = told_later n.what (place shape (within ++ called ∷ [])) are.0 (told_at within are.1 old)
 
   old_tells : (told : Reply) (new : List Note) → IsOneCall shape p F c told new → is_old F c ≡ true → tells_old told ≡ true
-  old_tells told new one old = ⊎_elim
-      (λ is. ap tells_at (sym one.answers ∙ is))
-      (λ none. absurd (none-some (c, Answering told) (sym none ∙ one.answers)))
-      (told_at one.within one.only old)
+  old_tells told new one old = grind (arith, nat_tests, none-some, told_at)
 
 -- and it is told of such a key alone
 told_is_old : (shape : Shape) (p : ℕ) (F : Format) (c : Command) (told : Reply) (pin : ℕ) (new : List Note) (P Q : Trace) → Promises shape p F c told pin new P Q → tells_old told ≡ true → is_old F c ≡ true

@@ -1,5 +1,5 @@
 -- In a set of one pass each answer is that of the plain set: it is that of its key, and no other key was changed.
-use Rattle.std.proofs.Common.{◌≡◌, inl, inr, ℕ, List, [], ◌∷◌, sym, ◌∙◌}
+use Rattle.std.proofs.{Common.{arith, ◌≡◌, inl, inr, ℕ, List, [], ◌∷◌, sym, ◌∙◌}, lemmas.Bool.Decides.{nat_tests}}
 use Rattle.lz_tie.proofs.{Vocabulary.{Command, Format, Keys, key_of, Trace, Lawful, Reply, Shape, Note, shape_of_sizes, Changes}, Replies.FreeSlot.{room}}
 use Rattle.lz_tie.proofs.Replies.{OneKey.{changed_of, before_linking, one_key}, KeyByKey.{leaves, unmoved, whole}, LoneClient.{no_other_key}}
 use Rattle.lz_tie.{proofs.Replies.SeenMore.{own_of_call}, specs.{OnePass.{AreOwn, OnlyOwn}, Answers.{Added, MayHaveChanged, Promises}}}
@@ -39,10 +39,7 @@ module _ (shape : Shape) (p : ℕ) (F : Format) (pin : ℕ) (new : List Note) (P
 
   plain_row : (c : Command) (told : Reply) → Promises shape p F c told pin new P Q → KeyRow c told (S (key_of c)) (T (key_of c)) → SameBut (key_of c) S T → PlainRow shape.slots c told S T
   plain_row (Add k) Yes h row others = (row.0, had_room p P Q only shape.buckets shape.slots k law h, whole (Add k) S T row.1 others)
-  plain_row (Add k) (Full counts) h row others =
-      let members = h.alone one in
-      let same = unmoved k S T row.1 others in
-      (row.0, record { keys = members.keys; count = members.count; distinct = members.distinct; all = λ q. sym (same q) ∙ members.all q }, same)
+  plain_row (Add k) (Full counts) h row others = grind (arith, nat_tests, unmoved)
   plain_row c Worn h row others = unmoved (key_of c) S T row others
   plain_row c OldFile h row others = unmoved (key_of c) S T row others
   plain_row c Halted h (inl is) others = inl (unmoved (key_of c) S T is others)

@@ -1,6 +1,6 @@
 -- In a set of several passes each answer is that of a plain set of its key, where no other pass changed the key meanwhile.
-use Rattle.std.proofs.Common.{◌≡◌, ◌⊎◌, inl, inr, ℕ, ◌==◌, not, if◌then◌else◌, Bool, true, false, List, [], ◌∷◌, ◌++◌, refl, sym, ap, ◌∙◌, subst, append_assoc}
-use Rattle.std.proofs.{Common.{eq-eqb}, lemmas.{Bool.Decides.{eqb_tells}, List.{append_cancel_right, Elements.{filter-append}}}}
+use Rattle.std.proofs.Common.{arith, ◌≡◌, ◌⊎◌, inl, inr, ℕ, ◌==◌, not, if◌then◌else◌, Bool, true, false, List, [], ◌∷◌, ◌++◌, refl, sym, ap, ◌∙◌, subst}
+use Rattle.std.proofs.{Common.{append_assoc, eq-eqb}, lemmas.{Bool.Decides.{nat_tests, eqb_tells}, List.{append_cancel_right, Elements.{filter-append}}}}
 use Rattle.lz_tie.proofs.Vocabulary.{Command, Format, key_of, moved, Publishing, Trace, Begins, Lawful, member, Reply, Shape, Note, own, is_for, shape_of_sizes}
 use Rattle.lz_tie.proofs.{Vocabulary.{Changes, Between, Rests}, Calls.OwnChanges.{own_linked, own_marked}, Replies.KeyChanges.{oldest_for}}
 use Rattle.lz_tie.{proofs.Replies.OldFiles.{old_is_told}, specs.Answers.{Added, Removed, WasCut, MayHaveChanged, Promises}}
@@ -27,21 +27,13 @@ any_unlinked k j s q false l P = refl
 -- whether k is a member after it is what the pass's own changes make of it
 member_own_of : (p k : ℕ) (since P : Trace) → AreFor (λ q. q ≡ p) k since → member k (since ++ P) ≡ member k (own p since ++ P)
 member_own_of p k [] P are = refl
-member_own_of p k (linked j s q ∷ since) P are = elim (eqb_tells j k) [
-  | inl t ↦ ap (λ (was : Bool). if j == k then true else was) (member_own_of p k since P are.1) ∙ ap (λ (b : Bool). member k ((if b then linked j s q ∷ own p since else own p since) ++ P)) (sym (eq-eqb q p (are.0 t.1)))
-  | inr f ↦ ap (λ (d : Bool). if d then true else member k (since ++ P)) f.0 ∙ member_own_of p k since P are.1 ∙ sym (other_linked k j s q (q == p) (own p since) P f.0)
-]
-member_own_of p k (marked j s q ∷ since) P are = elim (eqb_tells j k) [
-  | inl t ↦ ap (λ (was : Bool). if j == k then false else was) (member_own_of p k since P are.1) ∙ ap (λ (b : Bool). member k ((if b then marked j s q ∷ own p since else own p since) ++ P)) (sym (eq-eqb q p (are.0 t.1)))
-  | inr f ↦ ap (λ (d : Bool). if d then false else member k (since ++ P)) f.0 ∙ member_own_of p k since P are.1 ∙ sym (other_marked k j s q (q == p) (own p since) P f.0)
-]
+member_own_of p k (linked j s q ∷ since) P are = grind (arith, nat_tests, eqb_tells, member_own_of p k since P are.1, member, own, eq-eqb, other_linked)
+member_own_of p k (marked j s q ∷ since) P are = grind (arith, nat_tests, eqb_tells, member_own_of p k since P are.1, member, own, eq-eqb, other_marked)
 member_own_of p k (unlinked j s q ∷ since) P are = member_own_of p k since P are ∙ sym (any_unlinked k j s q (q == p) (own p since) P)
 member_own_of p k (e ∷ since) P are = member_own_of p k since P are
 
 pub changed_of : (p k : ℕ) (P Q changes : Trace) → OnlyOwnOf p k P Q → Changes p P Q changes → member k Q ≡ member k (changes ++ P)
-changed_of p k P Q changes only made =
-    let same : only.since ≡ made.since = append_cancel_right only.since made.since P (sym only.goes_on ∙ made.goes_on) in
-    ap (member k) only.goes_on ∙ member_own_of p k only.since P only.all ∙ ap (λ (l : Trace). member k (own p l ++ P)) same ∙ ap (λ (l : Trace). member k (l ++ P)) made.own
+changed_of p k P Q changes only made = grind (arith, nat_tests, append_cancel_right, member, member_own_of, own)
 
 -- of few changes none comes before the first
 none_before : (newer older : Trace) → newer ++ older ≡ [] → older ≡ []

@@ -1,6 +1,7 @@
 -- What the notes show of slots and hands stays right through each event.
-use Rattle.std.proofs.Common.{◌≡◌, ◌≢◌, ◌⊎◌, inl, inr, ⊎_elim, ℕ, zero, suc, ◌≤◌, Bool, true, false, List, [], ◌∷◌, ◌++◌, refl, sym, ap, ◌∙◌, subst}
-use Rattle.std.proofs.{Common.{if◌then◌else◌, replicate, slice_set, slice_index_or, Option, Some, None, is_some}, lemmas.List.Quantifiers.{position-Some}}
+use Rattle.std.proofs.Common.{arith, ◌≡◌, ◌≢◌, ◌⊎◌, inl, inr, ⊎_elim, ℕ, zero, suc, ◌≤◌, Bool, true, false, List, [], ◌∷◌, ◌++◌, refl, sym, ap, ◌∙◌, subst}
+use Rattle.std.proofs.{Common.{if◌then◌else◌, replicate, slice_set, slice_index_or, Option, Some, None, is_some}, lemmas.Bool.Decides.{nat_tests}}
+use Rattle.std.proofs.lemmas.List.Quantifiers.{position-Some}
 use mathlib.Core.Bool.{false≢true}
 use Rattle.lz_tie.proofs.Vocabulary.{of_pass, set_of_pass, Sight, Use, Free, Taken, Limbo, use_of, is_free, collect_at, collect, lowest_free, give_back}
 use Rattle.lz_tie.proofs.Vocabulary.{see_pin_at, see_pin, check, is_pair_free, Trace, IsLoose, Actor, Event, Yard, actor_at, cell_at, idle_actor}
@@ -24,14 +25,7 @@ is_reusing e = false
 
 -- they publish nothing
 pub reusing_silent : (y : Yard) (a : ℕ) (e : Event) → is_reusing e ≡ true → line_publishes y a e ≡ []
-reusing_silent y a e is = line_silent y a e (none e is)
-  where
-    none : (e : Event) → is_reusing e ≡ true → publishes y (actor_at y a) a e ≡ []
-    none Reserve is = refl
-    none Retire is = refl
-    none (SeePin q v) is = refl
-    none Answer is = refl
-    none e is = absurd (false≢true is)
+reusing_silent y a e is = grind (arith, nat_tests, line_silent, publishes, actor_at, false≢true)
 
 -- and no other event changes a use
 pub leaves : (y : Yard) (a : ℕ) (e : Event) → is_reusing e ≡ false → uses_after y (actor_at y a) a e ≡ y.uses
@@ -60,10 +54,7 @@ slot_in actors b = (of_pass actors b idle_actor).slot
 
 -- where one actor's hand gets no new slot, no hand does
 set_slot : (actors : List Actor) (a : ℕ) (x : Actor) → ((s : ℕ) → x.slot ≡ Some s → slot_in actors a ≡ Some s) → (b s : ℕ) → slot_in (set_of_pass actors a x) b ≡ Some s → slot_in actors b ≡ Some s
-set_slot actors a x kept b s is = ⊎_elim
-    (λ here. subst (λ q. slot_in actors q ≡ Some s) (sym here.0) (kept s (sym (ap (λ (q : Actor). q.slot) here.1) ∙ is)))
-    (λ away. sym (ap (λ (q : Actor). q.slot) away) ∙ is)
-    (set_pass actors a x b idle_actor)
+set_slot actors a x kept b s is = grind (arith, nat_tests, set_pass, idle_actor)
 
 none_some : (s : ℕ) → None ≡ Some s → ⊥
 none_some s is = false≢true (ap is_some is)
@@ -71,11 +62,7 @@ none_some s is = false≢true (ap is_some is)
 module _ (y : Yard) (a : ℕ) where
   kept : (slot : Option ℕ) (s : ℕ) → kept_slot y slot ≡ Some s → slot ≡ Some s
   kept None s is = absurd (none_some s is)
-  kept (Some t) s is = go (is_unused (cell_at y t).stage) is
-    where
-      go : (b : Bool) → (if b then None else Some t) ≡ Some s → Some t ≡ Some s
-      go true is = absurd (none_some s is)
-      go false is = is
+  kept (Some t) s is = grind (arith, nat_tests, is_unused, cell_at, none_some)
 
   -- no event but a Reserve puts a slot in a hand
   pub hands_after : (e : Event) → (e ≢ Reserve) → (b s : ℕ) → slot_in (actors_after y (actor_at y a) a e) b ≡ Some s → slot_in y.actors b ≡ Some s
@@ -99,16 +86,10 @@ module _ (y : Yard) (a : ℕ) where
 
 -- what holds of a taken slot is nothing
 not_taken : (u : Use) → u ≡ Free → u ≢ Taken
-not_taken u free taken = absurd (clash (sym free ∙ taken))
-  where
-    clash : Free ≡ Taken → ⊥
-    clash e = absurd cc
+not_taken u free taken = grind (arith, nat_tests)
 
 limbo_taken : (u : Use) (sights : List Sight) → u ≡ Limbo sights → u ≢ Taken
-limbo_taken u sights limbo taken = absurd (clash (sym limbo ∙ taken))
-  where
-    clash : Limbo sights ≡ Taken → ⊥
-    clash e = absurd cc
+limbo_taken u sights limbo taken = grind (arith, nat_tests)
 
 module _ (z : Sizes) (opened : Trace) (a : ℕ) (hs : List Load) (ns : List Note) (n : Note) (y : Yard) (told : ReuseTold z opened ns y.uses y.actors) where
   abbrev now : List Note

@@ -1,6 +1,6 @@
 -- Where one pass alone makes calls, the history that the notes show is that of its own calls.
-use Rattle.std.proofs.Common.{◌≡◌, ◌⊎◌, inl, inr, ⊎_elim, ℕ, suc, List, [], ◌∷◌, ◌++◌, length, refl, sym, ap, ◌∙◌, subst, eq-eqb, if◌then◌else◌, Option, Some}
-use Rattle.std.proofs.{Common.{None}, lemmas.{Bool.{cases_eq}, Option.{none-some}}}
+use Rattle.std.proofs.Common.{arith, ◌≡◌, ◌⊎◌, inl, inr, ℕ, suc, List, [], ◌∷◌, ◌++◌, length, refl, sym, ap, ◌∙◌, subst, eq-eqb, if◌then◌else◌, Option, Some}
+use Rattle.std.proofs.{Common.{None}, lemmas.{Bool.{cases_eq, Decides.{nat_tests}}, Option.{none-some}}}
 use Rattle.lz_tie.proofs.Vocabulary.{Command, Format, Publishing, Progress, Event, Outcome, Reply, progress_after, mark_of_turn, reply_at, Shape, Moment, What}
 use Rattle.lz_tie.{proofs.Vocabulary.{Note, unless_replied, place, placed, steps_of}, specs.Marks.{calls_in, last_call_number, reply_in, marks_with, marks_in}}
 use Rattle.lz_tie.specs.{OwnCalls.{replied, told_with, told}, Sessions.{marks_alone}}
@@ -34,10 +34,7 @@ module _ (shape : Shape) (p : ℕ) where
 
   -- what a reply of the open call shows
   shows : (ns : List Note) (h : Alone ns) (reply : Reply) → IsOpen (told_at ns) → mark_of_turn (last_call_number p ns) (Some reply) ++ marks_in shape ns ≡ marks_alone p (replied reply (told_at ns))
-  shows ns h reply (c, rest, is) =
-      (λ i. mark_of_turn (h.number i) (Some reply) ++ h.marks i)
-      ∙ ap (λ l. mark_of_turn (length l) (Some reply) ++ marks_alone p l) is
-      ∙ ap (λ l. marks_alone p (replied reply l)) (sym is)
+  shows ns h reply (c, rest, is) = grind (arith, nat_tests, mark_of_turn)
 
   same_length : (reply : Reply) (calls : List (Command × Option Reply)) → length calls ≡ length (replied reply calls)
   same_length reply [] = refl
@@ -54,14 +51,7 @@ module _ (shape : Shape) (p : ℕ) where
     alone_from : (what : What) → marks_with shape p what ns ++ marks_in shape ns ≡ marks_alone p (told_with what (reply_in (place_at ns)) (told_at ns))
         → calls_in (note_of p what ∷ ns) ≡ length (told_with what (reply_in (place_at ns)) (told_at ns)) → last_call_number p (note_of p what ∷ ns) ≡ length (told_with what (reply_in (place_at ns)) (told_at ns))
         → ((call : Command × Progress) → placed shape what (place_at ns) ≡ Some call → IsOpen (told_with what (reply_in (place_at ns)) (told_at ns))) → Alone (note_of p what ∷ ns)
-    alone_from what marks count number opens =
-        let steps = sym (own_steps what) in
-        record {
-          marks = marks ∙ ap (λ l. marks_alone p (told shape l)) steps;
-          count = count ∙ ap (λ l. length (told shape l)) steps;
-          number = number ∙ ap (λ l. length (told shape l)) steps;
-          opens = λ call at. subst (λ l. IsOpen (told shape l)) steps (opens call (ap (place shape) steps ∙ at));
-        }
+    alone_from what marks count number opens = grind (arith, nat_tests, own_steps, place)
 
     -- a new call
     called : (c : Command) (format : Format) → Alone (note_of p (Called c format) ∷ ns)
@@ -93,14 +83,7 @@ module _ (shape : Shape) (p : ℕ) where
     own_found q v = alone_from (Found q v) h.marks h.count h.number h.opens
 
     other_found : (by q v : ℕ) → ¬ (by ≡ p) → Alone (note_of by (Found q v) ∷ ns)
-    other_found by q v away =
-        let same = sym (other_step [] p (note_of by (Found q v)) ns away) in
-        record {
-          marks = h.marks ∙ ap (λ l. marks_alone p (told shape l)) same;
-          count = h.count ∙ ap (λ l. length (told shape l)) same;
-          number = h.number ∙ ap (λ l. length (told shape l)) same;
-          opens = λ call at. subst (λ l. IsOpen (told shape l)) same (h.opens call (ap (place shape) same ∙ at));
-        }
+    other_found by q v away = grind (arith, nat_tests, other_step, place)
 
     own_alone : (what : What) → Alone (note_of p what ∷ ns)
     own_alone (Called c format) = called c format
@@ -108,10 +91,7 @@ module _ (shape : Shape) (p : ℕ) where
     own_alone (Found q v) = own_found q v
 
     found_alone : (by q v : ℕ) → Alone (note_of by (Found q v) ∷ ns)
-    found_alone by q v = ⊎_elim
-        (λ is. subst (λ b. Alone (note_of b (Found q v) ∷ ns)) (sym is) (own_found q v))
-        (λ away. other_found by q v away)
-        (cases_eq by p)
+    found_alone by q v = grind (arith, nat_tests, own_found, other_found, cases_eq)
 
   step_alone : (n : Note) (ns : List Note) → IsSole p n → Alone ns → Alone (n ∷ ns)
   step_alone n ns (inl own) h = subst (λ b. Alone (record { by = b; what = n.what; published = n.published; moment = n.moment } ∷ ns)) (sym own) (own_alone n.published n.moment ns h n.what)

@@ -1,6 +1,6 @@
 -- The calls that a pass made one after the other, as its steps tell them, and as a history of no other calls shows them.
+use Rattle.std.proofs.lemmas.Bool.{cases_Bool, Decides.{nat_tests}}
 use Rattle.std.proofs.Common.{◌≡◌, ⊎_elim, ℕ, suc, true, false, List, [], ◌∷◌, ◌++◌, length, refl, sym, ap, ◌∙◌, subst, arith, Option, Some}
-use Rattle.std.proofs.lemmas.Bool.{cases_Bool}
 use Rattle.lz_tie.proofs.Vocabulary.{Command, Format, History, Fits, Keys, Reply, has_cut, IsPlain, Sizes, Part, shape_of_sizes}
 use Rattle.lz_tie.proofs.{Marks.ToldCalls.{answers_told}, Replies.OneCaller.{one_caller}}
 use Rattle.lz_tie.{proofs.Sessions.PlainRows.{LeadsTo, row_leaves, row_same, row_cut, leads_on, leads_cut, no_cut}, specs.Answers.{Answers}}
@@ -23,9 +23,7 @@ served_told z F (call ∷ calls) old new (size, (mid, answers, rest)) =
 -- the first of them
 pub served_first : (z : Sizes) (F : Format) (done calls : AnsweredCalls) (old new : Part) → Served z F (done ++ calls) old new → (mid : Part) × Served z F done old mid × Served z F calls mid new
 served_first z F [] calls old new served = (old, refl, served)
-served_first z F (call ∷ done) calls old new (size, (mid, answers, rest)) =
-    let r = served_first z F done calls mid new rest in
-    (r.0, (size, (mid, answers, r.1)), r.2)
+served_first z F (call ∷ done) calls old new (size, (mid, answers, rest)) = grind (arith, nat_tests, served_first z F done calls mid new rest)
 
 -- each answer is the plain set's
 pub plain_answer : (z : Sizes) (F : Format) (c : Command) (reply : Reply) (old mid : Part) → z.passes ≡ 1 → old.sizes ≡ z → Answers F c reply old mid
@@ -53,10 +51,7 @@ whole_none p = record { ended = tt; clean = refl }
 
 module _ (p : ℕ) where
   whole_more : (c : Command) (reply : Reply) (rest : List (Command × Option Reply)) → cuts_off reply ≡ false → Whole p rest → Whole p ((c, Some reply) ∷ rest)
-  whole_more c reply rest none whole = record {
-    ended = (reply_ends (suc (length rest)) reply, omega arith, whole.ended);
-    clean = no_cut (suc (length rest)) p c reply (marks_alone p rest) none whole.clean;
-  }
+  whole_more c reply rest none whole = grind (arith, nat_tests, reply_ends, no_cut)
 
   pub whole_after : (calls : AnsweredCalls) (rest : List (Command × Option Reply)) → NoneCut calls → Whole p rest → Whole p (told_after calls rest)
   whole_after [] rest none whole = whole
@@ -79,9 +74,7 @@ module _ (p : ℕ) where
     pub leads_after : (calls : AnsweredCalls) (rest : List (Command × Option Reply)) (old new : Part) → NoneCut calls → Served z F calls old new
         → LeadsTo S0 (marks_alone p rest) (keys_in old.known) → LeadsTo S0 (marks_alone p (told_after calls rest)) (keys_in new.known)
     leads_after [] rest old new none is past = subst (λ (h : Part). LeadsTo S0 (marks_alone p rest) (keys_in h.known)) (sym is) past
-    leads_after (call ∷ calls) rest old new none (size, (mid, answers, later)) past =
-        leads_after calls ((call.0, Some call.1) ∷ rest) mid new none.1 later
-        (leads_more call.0 call.1 rest old mid none.0 (plain_answer z F call.0 call.1 old mid one size answers) past)
+    leads_after (call ∷ calls) rest old new none (size, (mid, answers, later)) past = grind (arith, nat_tests, leads_after calls ((call.0, Some call.1) ∷ rest) mid new none.1 later (leads_more call.0 call.1 rest old mid none.0 (plain_answer z F call.0 call.1 old mid one size answers) past), leads_more, plain_answer)
 
     -- the last call, cut off or not
     plain_last : (c : Command) (reply : Reply) (rest : List (Command × Option Reply)) (old mid : Part) (T : Keys) → IsPlainAnswer F z.slots c reply (keys_in old.known) (keys_in mid.known)

@@ -1,8 +1,8 @@
 -- What is left once a session has ended.
-use Rattle.std.proofs.Common.{◌≡◌, ℕ, List, [], sym, ap, ◌∙◌, subst}
-use Rattle.lz_tie.proofs.{Vocabulary.{Format, History, Fits, Same, IsPlain, Trace, Note, Part, shape_of_sizes, BoardId}, Sessions.PlainRows.{LeadsTo}}
+use Rattle.std.proofs.{Common.{arith, ◌≡◌, ℕ, List, [], sym, subst}, lemmas.Bool.Decides.{nat_tests}}
+use Rattle.lz_tie.proofs.{Vocabulary.{Format, Same, IsPlain, Trace, Note, Part, shape_of_sizes, BoardId}, Sessions.PlainRows.{LeadsTo}}
 use Rattle.lz_tie.{proofs.Sessions.ServedCalls.{told_after, served_told, plain_served, whole_none, fits_plain, leads_after, plain_to}, specs.Marks.{marks_in}}
-use Rattle.lz_tie.specs.{OneCaller.{keys_in}, OwnCalls.{told}, RunningSets.{members_of, Explains}}
+use Rattle.lz_tie.specs.{OneCaller.{keys_in}, RunningSets.{members_of, Explains}}
 use Rattle.lz_tie.specs.Sessions.{AnsweredCalls, PlainRun, NoneCut, marks_alone, IsSession, SessionIsPlain, SessionIsHeld}
 
 -- at first the history leads to the set with which the life began
@@ -12,27 +12,17 @@ leads_none p opened old known = subst (λ (P : Trace). LeadsTo (members_of opene
 module _ (b : BoardId) (F : Format) (ns : List Note) (calls : AnsweredCalls) (before after : Part) (session : IsSession b F ns calls before after) where
   -- the history of the notes
   pub session_marks : marks_in (shape_of_sizes b.sizes) ns ≡ marks_alone after.number (told_after calls [])
-  session_marks =
-      session.tells
-      ∙ ap (marks_alone after.number) (served_told b.sizes F calls before after session.served)
-      ∙ ap (λ l. marks_alone after.number (told_after calls (told (shape_of_sizes b.sizes) l))) session.no_steps
+  session_marks = grind (arith, nat_tests, served_told, told_after, shape_of_sizes)
 
   session_plain : PlainRun F b.sizes.slots calls (members_of b.opened) (members_of after.known)
-  session_plain =
-      subst (λ (P : Trace). PlainRun F b.sizes.slots calls (keys_in P) (keys_in after.known)) session.known
-      (plain_served b.sizes F session.alone calls before after session.served)
+  session_plain = grind (arith, nat_tests, plain_served)
 
   module _ (t : List ℕ) (explains : Explains b ns t) where
     plain : IsPlain (members_of b.opened) (marks_alone after.number (told_after calls [])) explains.found
-    plain =
-        fits_plain after.number (members_of b.opened) explains.found explains.calls calls [] session.cut (whole_none after.number)
-        (subst (λ (M : History). Fits (members_of b.opened) M explains.calls explains.found) session_marks explains.fits)
+    plain = grind (arith, nat_tests, fits_plain, whole_none, session_marks)
 
     held_run : PlainRun F b.sizes.slots calls (members_of b.opened) explains.found
-    held_run =
-        subst (λ (P : Trace). PlainRun F b.sizes.slots calls (keys_in P) explains.found) session.known
-        (plain_to after.number b.sizes F session.alone (members_of b.opened) calls [] before after explains.found session.cut session.served
-        (leads_none after.number b.opened before session.known) plain)
+    held_run = grind (arith, nat_tests, plain_to, leads_none, plain)
 
     held_whole : NoneCut calls → Same explains.found (members_of after.known)
     held_whole none =

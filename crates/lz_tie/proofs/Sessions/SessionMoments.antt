@@ -1,7 +1,8 @@
 -- What might have been left at a moment of a session: by then some first ones of its calls were done, and the next one may have
 -- been under way.
-use Rattle.std.proofs.Common.{◌≡◌, ◌⊎◌, inl, inr, ⊎_elim, ℕ, suc, List, [], ◌∷◌, ◌++◌, length, refl, sym, ap, ◌∙◌, subst, append_assoc, Option, Some, None}
-use Rattle.lz_tie.proofs.Vocabulary.{Command, Format, Mark, History, Fits, Keys, Reply, IsPlain, mark_of, Shape, Trace, Note, Part, shape_of_sizes, BoardId}
+use Rattle.std.proofs.Common.{arith, ◌≡◌, ◌⊎◌, inl, inr, ⊎_elim, ℕ, suc, List, [], ◌∷◌, ◌++◌, length, refl, sym, ap, ◌∙◌, subst, append_assoc, Option, Some}
+use Rattle.std.proofs.{Common.{None}, lemmas.Bool.Decides.{nat_tests}}
+use Rattle.lz_tie.proofs.Vocabulary.{Command, Format, Mark, History, Fits, Keys, Reply, mark_of, Shape, Trace, Note, Part, shape_of_sizes, BoardId}
 use Rattle.lz_tie.proofs.Sessions.PlainRows.{LeadsTo, leads_open}
 use Rattle.lz_tie.proofs.Sessions.ServedCalls.{told_after, served_first, plain_served, Whole, whole_none, whole_after, fits_plain, leads_after, plain_to}
 use Rattle.lz_tie.{proofs.Sessions.SessionEnd.{leads_none, session_marks}, specs.{Marks.{marks_with, marks_in}, Moments.{ExplainsBegun}, OneCaller.{keys_in}}}
@@ -104,19 +105,7 @@ module _ (b : BoardId) (F : Format) (ns : List Note) (calls : AnsweredCalls) (be
 
     -- each of them has ended
     ended : marks_in (shape_of_sizes b.sizes) begun.before ≡ marks_alone p (told_after done []) → HoldsAfterSome F b.sizes.slots calls S0 t
-    ended is =
-        let last = cut_first done left cut in
-        let plain : IsPlain S0 (marks_alone p (told_after done [])) e.found = fits_plain p S0 e.found e.calls done [] last (whole_none p) (fits (marks_alone p (told_after done [])) is) in
-        record {
-          done = done;
-          rest = left;
-          splits = splits;
-          ends = e.found;
-          run = subst (λ (P : Trace). PlainRun F b.sizes.slots done (keys_in P) e.found) session.known (plain_to p b.sizes F session.alone S0 done [] before parts.0 e.found last parts.1 first plain);
-          found = e.found;
-          next = no_next left e.found;
-          holds = e.holds;
-        }
+    ended is = grind (arith, nat_tests, cut_first, left, cut, told_after, fits_plain, whole_none, fits, plain_to, parts, first, no_next)
 
     -- the next one has begun
     begins : (c : Command) (reply : Reply) (more : AnsweredCalls) → left ≡ (c, reply) ∷ more → marks_in (shape_of_sizes b.sizes) begun.before ≡ marks_alone p ((c, None) ∷ told_after done []) → HoldsAfterSome F b.sizes.slots calls S0 t

@@ -1,7 +1,7 @@
 -- A pass's load may be put into the notes: they are read as a run then too, by the law that walks move.
-use Rattle.std.proofs.Common.{◌≡◌, ◌≢◌, ◌⊎◌, ⊎_elim, ℕ, zero, suc, ◌+◌, ◌<◌, ◌≤◌, Bool, false, ◌||◌, List, [], ◌∷◌, ◌++◌, length, refl, sym, ap, ◌∙◌, subst}
-use Rattle.std.proofs.{Common.{arith, append_assoc, length-append, ne_eqb, replicate, Option, Some, None, IsSome, IsNone}, lemmas.Bool.{cases_Bool, cases_eq}}
-use Rattle.std.{proofs.lemmas.List.Folds.{list_any-append}, specs.List.{list_any}}
+use Rattle.std.proofs.{lemmas.{Bool.{cases_Bool, cases_eq, Decides.{nat_tests}}, List.Folds.{list_any-append}}, Common.{◌≡◌, ◌≢◌, ◌⊎◌, ⊎_elim, ℕ, zero, suc}}
+use Rattle.std.proofs.Common.{◌+◌, ◌<◌, ◌≤◌, Bool, false, ◌||◌, List, [], ◌∷◌, ◌++◌, length, refl, sym, ap, ◌∙◌, subst, arith, append_assoc, length-append}
+use Rattle.std.{proofs.Common.{ne_eqb, replicate, Option, Some, None, IsSome, IsNone}, specs.List.{list_any}}
 use mathlib.Core.Bool.{false≢true}
 use Rattle.lz_tie.proofs.Vocabulary.{Medium, Word, Publishing, Words, get, Trace, word_after, Course, Shape, Yard, actor_at, course, line, line_on}
 use Rattle.lz_tie.proofs.Vocabulary.{line_publishes, published_on, pin_of, event_at, loaded, Start, IsStart, State, Up, Down, Service, Caller, Transition}
@@ -77,11 +77,7 @@ same_looks a q v (Down shape disk) (Up other disk') new same t = absurd same
 same_looks a q v (Down shape disk) (Down shape' disk') new same t = grind arith
 
 tells_same : (a : ℕ) (w w' : State) (n : Note) (new : List Transition) → n.by ≢ a → SameBut a w w' → NoteTells w n new → NoteTells w' n new
-tells_same a w w' n new away same t = go n.what t
-  where
-    go : (what : What) → TellsOf w n what new → TellsOf w' n what new
-    go (Found q v) t = (t.0, t.1, same_looks a q v w w' new same t.2)
-    go _ t = record { step = t.step; steps = t.steps; tells = same_step a w w' n t.step away same t.tells }
+tells_same a w w' n new away same t = grind (arith, nat_tests, same_looks, same_step)
 
 -- a step of another actor
 other_of : (a : ℕ) (w : State) (n : Note) (step : Transition) → n.by ≢ a → TellsStep w n step → is_of a step ≡ false

@@ -1,6 +1,6 @@
 -- A yard that was just opened is tied to a board of its words that has no notes, as the lock's invariant asks.
-use Rattle.std.proofs.Common.{◌≡◌, ◌≢◌, inl, Bool, false, List, [], length, zero, suc, refl, sym, ap, ◌∙◌, subst, ℕ, Some, None, is_some, IsTrue, replicate}
-use Rattle.std.proofs.lemmas.List.{length-replicate}
+use Rattle.std.proofs.Common.{arith, ◌≡◌, ◌≢◌, inl, Bool, false, List, [], length, zero, suc, refl, sym, ap, ◌∙◌, subst, ℕ, Some, None, is_some, IsTrue}
+use Rattle.std.proofs.{Common.{replicate}, lemmas.{Bool.Decides.{nat_tests}, List.{length-replicate}}}
 use mathlib.Core.Bool.{false≢true}
 use Rattle.lz_tie.proofs.Vocabulary.{of_pass, Device, Medium, at_rest, Use, Free, Taken, Limbo, use_of, Trace, Yard, opened_yard, first_trace, idle_actor}
 use Rattle.lz_tie.proofs.Vocabulary.{slots_read, IsStart, opened_service, OpensYard, Sizes, Note, sizes_in, opened_by, AreOpened, BoardId}
@@ -65,11 +65,7 @@ module _ {bytewise : Bool} (y : Yard) (t : List ℕ) (starts : IsStart (record {
 
   -- its tables are as large as its shape says
   pub opened_sizes : sizes_in y.words ≡ sizes_of y.shape
-  opened_sizes = λ i. record {
-    slots = (ap (λ (x : Yard). length x.words.links) is ∙ length-table y.shape.slots _) i;
-    buckets = (ap (λ (x : Yard). length x.words.heads) is ∙ length-table y.shape.buckets _) i;
-    passes = (ap (λ (x : Yard). length x.words.pins) is ∙ length-replicate {A = ℕ} y.shape.passes zero) i;
-  }
+  opened_sizes = grind (arith, nat_tests, length-table, length-replicate)
 
   -- so the lock's invariant holds of a yard that was just opened, on a board that began with its words
   pub first_locked : (b : BoardId) (dev : Device) → b.sizes ≡ sizes_of y.shape → b.opened ≡ opened_by y.words → (IsTrue dev.honest → dev.medium ≡ at_rest bytewise t) → IsLocked b [] y dev
