@@ -43,13 +43,7 @@ ascend_push xs n old = record {
 ascend_slot : (r : SlotRead) (xs : List ℕ) (n : ℕ) → Ascend xs n → Ascend (xs ++ open_slot r n) (suc n)
 ascend_slot (read.Member k) xs n old = ascend_push xs n old
 ascend_slot read.BadKey xs n old = ascend_push xs n old
-ascend_slot _ xs n old = record {
-  below = λ p lt.
-      let less : p < length xs = subst (λ (l : List ℕ). p < length l) (append-nil xs) lt in
-      let low = old.below p less in
-      rw (append-nil xs) (omega (arith, low));
-  rising = subst (λ (l : List ℕ). (p q : ℕ) → p < q → q < length l → get_or l p 0 < get_or l q 0) (sym (append-nil xs)) old.rising;
-}
+ascend_slot _ xs n old = grind (arith, nat_tests, append-nil)
 
 slots_ascend : (says : ℕ → SlotRead) (n : ℕ) → Ascend (open_slots says n) n
 slots_ascend says zero = record { below = λ p lt. absurd (omega (arith, lt)); rising = λ p q less lt. absurd (omega (arith, lt)) }

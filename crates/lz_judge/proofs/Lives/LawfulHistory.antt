@@ -1,6 +1,6 @@
 -- What follows of a lawful history.
-use Rattle.std.proofs.Common.{◌≡◌, ◌≢◌, ◌⊎◌, inl, inr, ⊎_elim, ℕ, List, [], ◌∷◌, ◌++◌, take, drop, sym, ◌∙◌, ap, subst, Option, Some, None, reverse}
-use Rattle.std.proofs.{Common.{if◌then◌else◌, ◌==◌}, lemmas.{List.{reverse-append, take-append-drop}, Bool.Decides.{eqb_tells}}}
+use Rattle.std.proofs.Common.{arith, ◌≡◌, ◌≢◌, ◌⊎◌, inl, inr, ⊎_elim, ℕ, List, [], ◌∷◌, ◌++◌, take, drop, sym, ◌∙◌, ap, subst, Option, Some, None, reverse}
+use Rattle.std.proofs.{Common.{if◌then◌else◌, ◌==◌}, lemmas.{Bool.Decides.{nat_tests, eqb_tells}, List.{reverse-append, take-append-drop}}}
 use Rattle.lz_slot.specs.declared.{command.Command.{Command}, history.Mark.{Mark, TheVariants.{Call}}}
 use Rattle.lz_judge.specs.Records.{IsLawful, IsMade}
 
@@ -15,10 +15,7 @@ made_cases j a c M i (d, (actor, has)) = ⊎_elim (λ here. let same : j ≡ i =
 
 -- a call that is open after the end of another was open before it
 pub not_ended : (j i actor : ℕ) (before : Option ℕ) → (if j == i then None else before) ≡ Some actor → (j ≢ i) × (before ≡ Some actor)
-not_ended j i actor before is = elim (eqb_tells j i) [
-  | inl t ↦ absurd (let e = rw t.0 at is in cc)
-  | inr f ↦ (f.1, rw f.0 at is)
-]
+not_ended j i actor before is = grind (arith, nat_tests, eqb_tells)
 
 -- what was lawful up to a mark
 lawful_rest : (N M : List Mark) → IsLawful (N ++ M) → IsLawful M

@@ -1,5 +1,5 @@
 -- The lives that have ended, and the life that goes on after them.
-use Rattle.std.proofs.Common.{◌≢◌, ◌⊎◌, inl, inr, ⊎_elim, ℕ, ◌<◌, List, [], ◌∷◌, ◌++◌, sym, refl, ◌∙◌}
+use Rattle.std.proofs.{Common.{arith, ◌≢◌, ◌⊎◌, inl, inr, ⊎_elim, ℕ, ◌<◌, List, [], ◌∷◌, ◌++◌, sym, refl, ◌∙◌}, lemmas.Bool.Decides.{nat_tests}}
 use Rattle.lz_slot.specs.{Sets.{Keys, Same, after}, declared.{command.Command.{Command}, history.Mark.{Mark}}}
 use Rattle.lz_slot.specs.declared.history.Mark.TheVariants.{Call, Answer, Refused, Cut, Stop, Crash, Opened, OpenFailed}
 use Rattle.lz_slot.{specs.Histories.{HasMark, IsCalled, IsListed}, proofs.Listings.{earlier_append, listed_append, listed_left, listed_right}}
@@ -56,11 +56,7 @@ leads_more M S S' [] T leads same = λ k. sym (same k) ∙ leads k
 leads_more M S S' (i ∷ L) T (c, (actor, has), rest) same = (c, (actor, past_mark M (Call i actor c) has), leads_more M (after c S) (after c S') L T rest (after_same c S S' same))
 
 pub leads_then : (M : List Mark) (L R : List ℕ) (S T U : Keys) → Leads M S L T → Leads M T R U → Leads M S (L ++ R) U
-leads_then M [] R S T U first second = leads_from M R T S U (λ k. sym (first k)) second
-  where
-    leads_from : (M : List Mark) (R : List ℕ) (T S U : Keys) → Same T S → Leads M T R U → Leads M S R U
-    leads_from M [] T S U same leads = λ k. sym (same k) ∙ leads k
-    leads_from M (i ∷ R) T S U same (c, called, rest) = (c, called, leads_from M R (after c T) (after c S) U (after_same c T S same) rest)
+leads_then M [] R S T U first second = grind (arith, nat_tests, after_same)
 leads_then M (i ∷ L) R S T U (c, called, rest) second = (c, called, leads_then M L R (after c S) T U rest second)
 
 pub follows_leads : (M : List Mark) (calls : List Listed) (S T : Keys) → ((l : Listed) → Among l calls → IsCalled M l.call l.command) → Follows calls S T → Leads M S (calls_of calls) T

@@ -1,9 +1,8 @@
 -- A life's calls in the order of their places fit it.
 use Rattle.std.specs.BTreeMap as tree
-use Rattle.std.proofs.Common.{◌≡◌, ◌≢◌, ◌⊎◌, inl, inr, ⊎_elim, ℕ, ◌<◌, ◌≤◌, Bool, true, false, List, [], ◌∷◌, sym, refl, ◌∙◌, ap, subst, arith, Some, map}
-use Rattle.std.proofs.{Common.{nat_cmp, Less}, lemmas.{Map.Keys.{sorted_head, sorted_tail}, Option.{same_Some}, Bool.{cases_eq}}}
-use Rattle.std.{proofs.lemmas.Bool.Decides.{nat_tests, eqb_tells}, specs.{Map.{values_of, keys_of, lookup}, BTreeMap.{BTreeMap, is_at}, List.{AllByRecursion}}}
-use Rattle.std.specs.List.Sorted.{IsStrictlySortedBy}
+use Rattle.std.proofs.Common.{◌≡◌, ◌≢◌, ◌⊎◌, inl, inr, ⊎_elim, ℕ, ◌<◌, ◌≤◌, Bool, true, false, List, [], ◌∷◌, sym, refl, ◌∙◌, ap, arith, Some, map, nat_cmp}
+use Rattle.std.proofs.{Common.{Less}, lemmas.{Map.Keys.{sorted_head, sorted_tail}, Option.{same_Some}, Bool.{cases_eq, Decides.{nat_tests, eqb_tells}}}}
+use Rattle.std.specs.{Map.{values_of, keys_of, lookup}, BTreeMap.{BTreeMap, is_at}, List.{AllByRecursion, Sorted.{IsStrictlySortedBy}}}
 use Rattle.lz_slot.specs.{Sets.{Keys, Same, after}, declared.history.Mark.{Mark}, Histories.{IsAnswered, IsCalled, IsEarlier, IsListed, Runs, count_of}}
 use Rattle.lz_slot.proofs.Sets.{after_same}
 use Rattle.lz_judge.specs.{Records.{IsMade}, Flaws.{IsInOrder}, Readings.{IsAt}, Plays.{IsLife, Plays}, declared.playing.Listed.{Listed}}
@@ -31,13 +30,7 @@ among_value (e ∷ es) l is = ⊎_elim (λ here. (e.0, inl (λ i. (e.0, here i))
 -- the keys of a map ascend
 above_head : (k : ℕ) (es : List (ℕ × Listed)) → AllByRecursion (λ y. nat_cmp k y ≡ Less) (keys_of es) → (q : ℕ) (m : Listed) → Among (q, m) es → k < q
 above_head k [] all q m is = absurd is
-above_head k (e ∷ es) all q m is = ⊎_elim
-    (λ here. let e0 : e.0 ≡ q = ap (λ (x : ℕ × Listed). x.0) here in let less = subst (λ (n : ℕ). nat_cmp k n ≡ Less) e0 all.0 in is_less k q less)
-    (λ there. above_head k es all.1 q m there)
-    is
-  where
-    is_less : (a b : ℕ) → nat_cmp a b ≡ Less → a < b
-    is_less a b less = grind (arith, nat_tests)
+above_head k (e ∷ es) all q m is = grind (arith, nat_tests, nat_cmp, above_head k es all.1 q m)
 
 at_same : (a b : ℕ) → a ≡ b → is_at (nat_cmp a) b ≡ true
 at_same a b same = grind (arith, nat_tests)
@@ -47,10 +40,7 @@ at_apart a b apart = grind (arith, nat_tests)
 
 pub lookup_among : (es : List (ℕ × Listed)) (p : ℕ) (l : Listed) → lookup (is_at (nat_cmp p)) es ≡ Some l → Among (p, l) es
 lookup_among [] p l is = absurd (cc)
-lookup_among (e ∷ es) p l is = ⊎_elim
-    (λ same. inl (let here : is_at (nat_cmp p) e.0 ≡ true = at_same p e.0 same in let found : e.1 ≡ l = same_Some _ _ (rw here at is) in (λ i. (sym same i, found i))))
-    (λ apart. inr (lookup_among es p l (let off : is_at (nat_cmp p) e.0 ≡ false = at_apart p e.0 apart in rw off at is)))
-    (cases_eq p e.0)
+lookup_among (e ∷ es) p l is = grind (arith, nat_tests, nat_cmp, at_same, same_Some, lookup_among es p l, at_apart, cases_eq)
 
 pub among_lookup : (es : List (ℕ × Listed)) (p : ℕ) (l : Listed) → IsStrictlySortedBy nat_cmp (keys_of es) → Among (p, l) es → lookup (is_at (nat_cmp p)) es ≡ Some l
 among_lookup [] p l sorted is = absurd is

@@ -1,4 +1,5 @@
 -- The calls of all lives, one list after another: where the lives are a chain, it is one run from the empty set.
+use Rattle.std.proofs.lemmas.Bool.Decides.{nat_tests}
 use Rattle.std.proofs.Common.{◌≡◌, ◌⊎◌, inl, inr, ⊎_elim, ℕ, ◌<◌, Bool, List, [], ◌∷◌, ◌++◌, sym, refl, ◌∙◌, ap, subst, arith}
 use Rattle.lz_slot.specs.{Sets.{Keys, Same, after, key_of, members, reply}, declared.{command.Command.{Command}, history.Mark.{Mark}}}
 use Rattle.lz_slot.specs.declared.history.Mark.TheVariants.{Call, Answer, Refused, Cut, Opened}
@@ -34,12 +35,7 @@ module _ (M : List Mark) (lawful : IsLawful M) where
 
 -- runs one after another
 runs_then : (M : List Mark) (L R : List ℕ) (S T U : Keys) → Runs M S L T → Runs M T R U → Runs M S (L ++ R) U
-runs_then M [] R S T U first second = runs_from M R T S U (λ k. sym (first k)) second
-  where
-    runs_from : (M : List Mark) (R : List ℕ) (T S U : Keys) → Same T S → Runs M T R U → Runs M S R U
-    runs_from M [] T S U same runs = λ k. sym (same k) ∙ runs k
-    runs_from M (i ∷ R) T S U same (c, called, right, rest) =
-        (c, called, λ b told. ap (reply c) (sym (same (key_of c))) ∙ right b told, runs_from M R (after c T) (after c S) U (after_same c T S same) rest)
+runs_then M [] R S T U first second = grind (arith, nat_tests, after_same)
 runs_then M (i ∷ L) R S T U (c, called, right, rest) second = (c, called, right, runs_then M L R (after c S) T U rest second)
 
 lawful_past : (M : List Mark) → IsLawful M → IsLawful (past_of M)
@@ -108,11 +104,7 @@ module _ (at : ℕ → ℕ → Type 0) where
 
   -- the past as one run
   past_run : (M : List Mark) → IsLawful M → AreApart M → OrderedChain at (lives_before M) (this_start M) → RunIs at (past_of M) (this_start M)
-  past_run [] lawful apart chain = record {
-    list = [];
-    in_order = record { each = λ j. (λ is. absurd is, λ (made, place). absurd made.1.1); ascending = λ i j p q is here there. absurd is };
-    runs = λ k. refl;
-  }
+  past_run [] lawful apart chain = grind (arith, nat_tests)
   past_run (Opened keys ∷ M) lawful apart chain =
       let earlier = λ (i j p q : ℕ) (is : at i p) (is' : at j q) (before : IsLifeBefore M i j). apart i j p q is is' (inr before) in
       run_of M lawful.1 earlier (members keys) chain (past_run M lawful.1 earlier (chain_before M (members keys) chain))

@@ -1,8 +1,8 @@
 -- One mark more in the run of the calls, and what the run comes to.
 use Rattle.std.specs.BTreeMap as tree
 use Rattle.std.specs.BTreeSet as set
-use Rattle.std.proofs.Common.{◌≡◌, ◌≢◌, inl, inr, ⊎_elim, ℕ, Bool, List, [], ◌∷◌, ◌++◌, take, drop, sym, refl, ◌∙◌, ap, subst, arith, Option, Some, None}
-use Rattle.std.proofs.{Common.{reverse, BTreeMap, BTreeSet, nat_cmp}, lemmas.{Grind.{common_steps}, Option.{same_Some}, Bool.{cases_eq}}}
+use Rattle.std.proofs.{lemmas.{Bool.{cases_eq, Decides.{nat_tests}}, Grind.{common_steps}, Option.{same_Some}}, Common.{◌≡◌, ◌≢◌, inl, inr, ⊎_elim, ℕ, Bool}}
+use Rattle.std.proofs.Common.{List, [], ◌∷◌, ◌++◌, take, drop, sym, refl, ◌∙◌, ap, subst, arith, Option, Some, None, reverse, BTreeMap, BTreeSet, nat_cmp}
 use Rattle.std.specs.Map.{values_of}
 use Rattle.lz_slot.specs.{Sets.{Keys, Same, members}, declared.{command.Command.{Command}, history.Mark.{Mark}}}
 use Rattle.lz_slot.specs.{declared.history.Mark.TheVariants.{Call, Answer, Refused, Cut, Opened}, Histories.{Fits, IsCalled, Life, lives}}
@@ -35,10 +35,7 @@ empty_get life p none = rw none refl
 
 -- a life in which nothing has come
 pub empty_life : (places : BTreeMap ℕ ℕ) (life : BTreeMap ℕ Listed) → tree.IsEmpty life → IsLife places [] life
-empty_life places life none = record {
-  listed = λ p l is. absurd (let e : None ≡ Some l = sym (empty_get life p none) ∙ is in cc);
-  all = λ i p made at. absurd made.1.1;
-}
+empty_life places life none = grind (arith, nat_tests, empty_get)
 
 pub played_none : (places : BTreeMap ℕ ℕ) (keys : BTreeSet ℕ) (life : BTreeMap ℕ Listed) → set.IsEmpty keys → tree.IsEmpty life → Played places [] keys life None None
 played_none places keys life no_key none = record {

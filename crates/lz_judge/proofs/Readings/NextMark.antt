@@ -1,9 +1,9 @@
 -- One mark, or one point, more in a pass.
 use Rattle.std.specs.BTreeMap as tree
 use Rattle.std.specs.BTreeSet as set
-use Rattle.std.proofs.Common.{◌≡◌, ◌≢◌, ◌⊎◌, inl, inr, ⊎_elim, ℕ, ◌+◌, ◌<◌, Bool, true, false, List, [], ◌∷◌, length, get_or, take, sym, refl, ◌∙◌, ap, subst}
-use Rattle.std.proofs.Common.{Option, Some, None, Result, Ok, Err, reverse, IsSome, OnOk, is_some, BTreeMap, BTreeSet, nat_cmp}
-use Rattle.std.proofs.lemmas.{List.{reverse-append, take_more}, Option.{same_Some}}
+use Rattle.std.proofs.Common.{arith, ◌≡◌, ◌≢◌, ◌⊎◌, inl, inr, ⊎_elim, ℕ, ◌+◌, ◌<◌, Bool, true, false, List, [], ◌∷◌, length, get_or, take, sym, refl, ◌∙◌, ap}
+use Rattle.std.proofs.Common.{subst, Option, Some, None, Result, Ok, Err, reverse, IsSome, OnOk, is_some, BTreeMap, BTreeSet, nat_cmp}
+use Rattle.std.proofs.lemmas.{Bool.Decides.{nat_tests}, List.{reverse-append, take_more}, Option.{same_Some}}
 use Rattle.lz_slot.specs.{declared.history.{Refusal.{Refusal}, Mark.{Mark, TheVariants.{Answer, Refused}}}, Histories.{IsAnswered, IsRefused}}
 use Rattle.lz_judge.specs.{declared.history.Point.{Point}, Records.{IsPoint}, Readings.{Strangers, RefusedOnes, UnlistedOnes}}
 
@@ -88,13 +88,7 @@ none_there None is = refl
 none_there (Some x) is = absurd (cc)
 
 pub refused_unlisted : (M : List Mark) (places : BTreeMap ℕ ℕ) (least : Option ℕ) (n : ℕ) (why : Refusal) → tree.get nat_cmp places n ≡ None → RefusedOnes M places least → RefusedOnes (Refused n why ∷ M) places least
-refused_unlisted M places least n why unlisted before = record {
-  found = λ i at. let f = before.found i at in ((f.0.0, inr f.0.1), f.1);
-  none = λ none i (told, at). ⊎_elim
-      (λ here. let same : n ≡ i = cc in subst (λ (j : ℕ). tree.get nat_cmp places j ≡ None) same unlisted)
-      (λ there. before.none none i (told, there))
-      at;
-}
+refused_unlisted M places least n why unlisted before = grind (arith, nat_tests, nat_cmp)
 
 -- what holds anyway holds where a call succeeded
 pub on_ok : {T E : Type 0} (r : Result T E) (P : Type 0) → P → OnOk r P

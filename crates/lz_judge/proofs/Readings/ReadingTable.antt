@@ -1,7 +1,7 @@
 -- What the tables of the passes say of the history.
 use Rattle.std.specs.BTreeMap as tree
-use Rattle.std.proofs.Common.{◌≡◌, inl, inr, ⊎_elim, ◌↔◌, ℕ, ◌≤◌, Bool, true, List, [], ◌∷◌, sym, refl, ◌∙◌, ap, subst, arith, Some, None, map, BTreeMap}
-use Rattle.std.proofs.{Common.{nat_cmp}, lemmas.{Option.{same_Some}, Bool.Decides.{eqb_tells}}}
+use Rattle.std.proofs.lemmas.{Bool.Decides.{nat_tests, eqb_tells}, Option.{same_Some}}
+use Rattle.std.proofs.Common.{◌≡◌, inl, inr, ⊎_elim, ◌↔◌, ℕ, ◌≤◌, Bool, true, List, [], ◌∷◌, sym, refl, ◌∙◌, arith, Some, None, map, BTreeMap, nat_cmp}
 use Rattle.lz_slot.specs.{Sets.{Keys}, declared.history.Mark.{Mark, TheVariants.{Call, Answer, Refused, Cut, Opened, OpenFailed}}}
 use Rattle.lz_slot.specs.Histories.{ChainTo, IsAnswered, Life, count_of}
 use Rattle.lz_judge.specs.{declared.{history.Point.{Point}, flaw.Flaw.TheVariants.{WrongReply}}, Limits.{largest_place}}
@@ -12,33 +12,20 @@ use Rattle.lz_judge.proofs.Lives.{LawfulHistory.{made_more, not_ended}, CurrentL
 -- a call that was made is counted
 pub made_is : (M : List Mark) (i : ℕ) → IsMade M i → is_made M i ≡ true
 made_is [] i made = absurd made.1.1
-made_is (Call j a c ∷ M) i (d, (actor, has)) = elim (eqb_tells j i) [
-  | inl t ↦ rw t.0 refl
-  | inr f ↦ rw f.0 (made_is M i (⊎_elim (λ here. absurd (let same : j ≡ i = cc in f.1 same)) (λ there. (d, (actor, there))) has))
-]
+made_is (Call j a c ∷ M) i (d, (actor, has)) = grind (arith, nat_tests, eqb_tells, made_is M i)
 made_is (_ ∷ M) i (d, (actor, has)) = made_is M i (⊎_elim (λ here. absurd (cc)) (λ there. (d, (actor, there))) has)
 
 -- an answered call was made
 pub told_made : (M : List Mark) (i : ℕ) (b : Bool) → IsLawful M → IsAnswered M i b → IsMade M i
 told_made [] i b lawful has = absurd has
-told_made (Answer j d ∷ M) i b lawful has = ⊎_elim
-    (λ here. let same : j ≡ i = cc in made_more (Answer j d) M i (subst (IsMade M) same (open_made M j lawful.0.0 lawful.0.1)))
-    (λ there. made_more (Answer j d) M i (told_made M i b lawful.1 there))
-    has
+told_made (Answer j d ∷ M) i b lawful has = grind (arith, nat_tests, made_more, open_made, told_made M i b lawful.1)
 told_made (m ∷ M) i b lawful has = made_more m M i (told_made M i b lawful.1 (⊎_elim (λ here. absurd (cc)) (λ there. there) has))
 
 -- an open call has no answer
 pub open_untold : (M : List Mark) (i actor : ℕ) (b : Bool) → IsLawful M → actor_of M i ≡ Some actor → IsAnswered M i b → ⊥
 open_untold [] i actor b lawful is has = has
-open_untold (Call j a c ∷ M) i actor b lawful is has =
-    let older = ⊎_elim {A = Call j a c ≡ Answer i b} (λ here. absurd (cc)) (λ there. there) has in
-    elim (eqb_tells j i) [
-      | inl t ↦ lawful.0.1 (subst (IsMade M) (sym t.1) (told_made M i b lawful.1 older))
-      | inr f ↦ open_untold M i actor b lawful.1 (rw f.0 at is) older
-    ]
-open_untold (Answer j d ∷ M) i actor b lawful is has =
-    let still = not_ended j i actor (actor_of M i) is in
-    open_untold M i actor b lawful.1 still.1 (⊎_elim (λ here. absurd (let same : j ≡ i = cc in still.0 same)) (λ there. there) has)
+open_untold (Call j a c ∷ M) i actor b lawful is has = grind (arith, nat_tests, eqb_tells, told_made, open_untold M i actor b lawful.1)
+open_untold (Answer j d ∷ M) i actor b lawful is has = grind (arith, nat_tests, not_ended, open_untold M i actor b lawful.1)
 open_untold (Refused j why ∷ M) i actor b lawful is has = open_untold M i actor b lawful.1 (not_ended j i actor (actor_of M i) is).1 (⊎_elim (λ here. absurd (cc)) (λ there. there) has)
 open_untold (Cut j why ∷ M) i actor b lawful is has = open_untold M i actor b lawful.1 (not_ended j i actor (actor_of M i) is).1 (⊎_elim (λ here. absurd (cc)) (λ there. there) has)
 open_untold (OpenFailed why ∷ M) i actor b lawful is has = open_untold M i actor b lawful.1 is (⊎_elim (λ here. absurd (cc)) (λ there. there) has)
@@ -47,22 +34,13 @@ open_untold (_ ∷ M) i actor b lawful is has = absurd (cc)
 -- an answer that was seen is the call's
 pub told_is : (M : List Mark) (i : ℕ) (b : Bool) → IsLawful M → IsAnswered M i b → answer_of M i ≡ Some b
 told_is [] i b lawful has = absurd has
-told_is (Answer j d ∷ M) i b lawful has = elim (eqb_tells j i) [
-  | inl t ↦ rw t.0 (⊎_elim
-      (λ here. let same : d ≡ b = cc in ap (λ (e : Bool). Some e) same)
-      (λ there. absurd (open_untold M i lawful.0.0 b lawful.1 (ap (actor_of M) (sym t.1) ∙ lawful.0.1) there))
-      has)
-  | inr f ↦ rw f.0 (told_is M i b lawful.1 (⊎_elim (λ here. absurd (let same : j ≡ i = cc in f.1 same)) (λ there. there) has))
-]
+told_is (Answer j d ∷ M) i b lawful has = grind (arith, nat_tests, eqb_tells, open_untold, told_is M i b lawful.1)
 told_is (_ ∷ M) i b lawful has = told_is M i b lawful.1 (⊎_elim (λ here. absurd (cc)) (λ there. there) has)
 
 -- points and places
 pub place_point : (points : List Point) (i p : ℕ) → place_of points i ≡ Some p → IsPoint points i p
 place_point [] i p is = absurd (cc)
-place_point (point ∷ points) i p is = elim (eqb_tells point.call i) [
-  | inl t ↦ inl (t.1, same_Some _ _ (rw t.0 at is))
-  | inr f ↦ inr (place_point points i p (rw f.0 at is))
-]
+place_point (point ∷ points) i p is = grind (arith, nat_tests, eqb_tells, same_Some, place_point points i p)
 
 pub at_point : (M : List Mark) (points : List Point) (places : BTreeMap ℕ ℕ) → HasPlaces points places → AreListed M points places → (i p : ℕ) → IsAt places i p ↔ IsPoint points i p
 at_point M points places has listed i p = (λ at. place_point points i p (sym (has i) ∙ at), listed.placed i p)
@@ -76,20 +54,11 @@ point_place (point ∷ points) i p is = elim (eqb_tells point.call i) [
 
 listed_count : (points : List Point) (i p : ℕ) → IsPoint points i p → 1 ≤ count_of i (map (λ point. point.call) points)
 listed_count [] i p is = absurd is
-listed_count (point ∷ points) i p is = elim (eqb_tells point.call i) [
-  | inl t ↦ rw t.0 (omega arith)
-  | inr f ↦ rw f.0 (listed_count points i p (⊎_elim (λ here. absurd (f.1 here.0)) (λ there. there) is))
-]
+listed_count (point ∷ points) i p is = grind (arith, nat_tests, eqb_tells, listed_count points i p)
 
 pub only_place : (points : List Point) (i p : ℕ) → count_of i (map (λ point. point.call) points) ≤ 1 → IsPoint points i p → place_of points i ≡ Some p
 only_place [] i p one is = absurd is
-only_place (point ∷ points) i p one is = elim (eqb_tells point.call i) [
-  | inl t ↦ rw t.0 (⊎_elim
-      (λ (here : (point.call ≡ i) × (point.place ≡ p)). ap (λ (n : ℕ). Some n) here.1)
-      (λ there. absurd (let few = rw t.0 at one in let more = listed_count points i p there in omega (arith, few, more)))
-      is)
-  | inr f ↦ rw f.0 (only_place points i p (rw f.0 at one) (⊎_elim (λ here. absurd (f.1 here.0)) (λ there. there) is))
-]
+only_place (point ∷ points) i p one is = grind (arith, nat_tests, eqb_tells, listed_count, only_place points i p)
 
 pub places_low : (points : List Point) (places : BTreeMap ℕ ℕ) → HasPlaces points places → ArePlaces points → AreLow places
 places_low points places has low i p at = low_of points low (sym (has i) ∙ at)
@@ -120,10 +89,7 @@ ordered_chain at (life ∷ ls) T (L, order, fits, chain) = (L, fits, ordered_cha
 -- an answer that was kept was seen
 told_from : (M : List Mark) (i : ℕ) (b : Bool) → answer_of M i ≡ Some b → IsAnswered M i b
 told_from [] i b is = absurd (cc)
-told_from (Answer j d ∷ M) i b is = elim (eqb_tells j i) [
-  | inl t ↦ let e = same_Some d b (rw t.0 at is) in inl (λ k. Answer (t.1 k) (e k))
-  | inr f ↦ inr (told_from M i b (rw f.0 at is))
-]
+told_from (Answer j d ∷ M) i b is = grind (arith, nat_tests, eqb_tells, same_Some, told_from M i b)
 told_from (_ ∷ M) i b is = inr (told_from M i b is)
 
 -- a call that was found wrong is a flaw

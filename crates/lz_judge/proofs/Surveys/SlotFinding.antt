@@ -69,21 +69,11 @@ one_open _ n is = absurd is
 
 open_below : (says : ℕ → SlotRead) (n i : ℕ) → list_any (λ j. j == i) (open_slots says n) ≡ true → i < n
 open_below says zero i is = absurd (cc)
-open_below says (suc n) i is = ⊎_elim
-    (λ low. let lt = open_below says n i low in omega (arith, lt))
-    (λ here. let e = open_one (says n) n i here in omega (arith, e))
-    (or_cases _ _ (sym (list_any-append (λ j. j == i) (open_slots says n) (open_slot (says n) n)) ∙ is))
+open_below says (suc n) i is = grind (arith, nat_tests, open_below says n i, open_one, or_cases, list_any-append)
 
 opened : (says : ℕ → SlotRead) (n i : ℕ) → i < n → IsOpened (says i) → list_any (λ j. j == i) (open_slots says n) ≡ true
 opened says zero i lt is = absurd (omega (arith, lt))
-opened says (suc n) i lt is = ⊎_elim
-    (λ here.
-    let last : list_any (λ j. j == i) (open_slot (says n) n) ≡ true = subst (λ (q : ℕ). list_any (λ j. j == q) (open_slot (says n) n) ≡ true) (sym here) (one_open (says n) n (subst (λ (q : ℕ). IsOpened (says q)) here is)) in
-    list_any-append (λ j. j == i) (open_slots says n) (open_slot (says n) n) ∙ grind (arith, last))
-    (λ other.
-    let low = opened says n i (omega (arith, lt, other)) is in
-    list_any-append (λ j. j == i) (open_slots says n) (open_slot (says n) n) ∙ grind (arith, low))
-    (cases_eq i n)
+opened says (suc n) i lt is = grind (arith, nat_tests, one_open, list_any-append, opened says n i, cases_eq)
 
 -- a finding that passes a test
 any_found : (p : Finding → Bool) (found : List Finding) → list_any p found ≡ true → (finding : Finding) × Contains found finding × (p finding ≡ true)
@@ -135,13 +125,7 @@ module _ (says : ℕ → SlotRead) (n : ℕ) (found : List Finding) (findings : 
 
   -- the finding of the table that has this key
   pub found_again : (k i : ℕ) (finding : Finding) → says n ≡ read.Member k → i < length found → finding ≡ get_or found i finding → get_or (map finding_key found) i None ≡ Some k → IsFinding says (Twice n (slot_of finding))
-  found_again k i finding is lt at key = again finding (i, lt, sym at) (ap finding_key at ∙ sym (get_or-map finding_key found i finding None lt) ∙ key)
-    where
-      again : (finding : Finding) → Contains found finding → finding_key finding ≡ Some k → IsFinding says (Twice n (slot_of finding))
-      again (Key j q) there has =
-          let same : q ≡ k = same_Some q k has in
-          (found_below (Key j q) there, (k, is, subst (λ (p : ℕ). IsFirst says j p) same (All-contains (IsFinding says) found (Key j q) findings.each there)))
-      again _ there has = absurd (cc)
+  found_again k i finding is lt at key = grind (arith, nat_tests, get_or-map, same_Some, found_below)
 
   -- a key that none has
   pub found_first : (k : ℕ) → says n ≡ read.Member k → ((i : ℕ) → get_or (map finding_key found) i None ≢ Some k) → IsFirst says n k
@@ -167,15 +151,7 @@ module _ (says : ℕ → SlotRead) (n : ℕ) (found : List Finding) (findings : 
     no_bad_key i lt bad = grind (arith, first_of)
 
     pub no_key_twice : (i j k : ℕ) → i < n → j < n → says i ≡ read.Member k → says j ≡ read.Member k → i ≡ j
-    no_key_twice i j k lt lt' one other =
-        let f = firsts i k lt one in
-        let g = firsts j k lt' other in
-        ⊎_elim (λ less. absurd (g.lowest i less one)) (λ le. ⊎_elim (λ less. absurd (f.lowest j less other)) (λ le'. omega (arith, le, le')) (cases_lt j i)) (cases_lt i j)
-      where
-        firsts : (i k : ℕ) → i < n → says i ≡ read.Member k → IsFirst says i k
-        firsts i k lt is =
-            let (q, at, first) = first_of i lt (subst IsOpened (sym is) tt) in
-            subst (IsFirst says i) (same_member q k (sym first.holds ∙ is)) first
+    no_key_twice i j k lt lt' one other = grind (arith, nat_tests, cases_lt, first_of, same_member)
 
     pub set_found : (k : ℕ) → IsTrue (found_keys found k) ↔ ((i : ℕ) × (i < n) × (says i ≡ read.Member k))
     set_found k = (holds, has)

@@ -1,7 +1,7 @@
 -- Words and the end of a line.
 use Rattle.std.proofs.Common.{◌≡◌, ℕ, ◌+◌, ◌-◌, ◌≤◌, false, ◌==◌, List, [], ◌∷◌, ◌++◌, length, take, drop, All, Option, Some, None, sym, refl, ap, ◌∙◌, arith}
-use Rattle.std.proofs.lemmas.{Bool.Decides.{nat_tests}, List.{take_rest, Elements.{All-nil, All-cons}}}
-use Rattle.std.{proofs.lemmas.List.Splits.{length-slice_split, slice_split_at, slice_split_none}, specs.List.{join_with_byte}}
+use Rattle.std.proofs.lemmas.{Bool.Decides.{nat_tests}, List.{take_rest, Elements.{All-nil}, Splits.{length-slice_split, slice_split_at, slice_split_none}}}
+use Rattle.std.specs.List.{join_with_byte}
 use Rattle.memchr.specs.Find.{IsFirstByte, is_byte}
 use Rattle.lz_slot.proofs.Texts.{Cuts.{Lacks, cut_at, lacks_all, lacks_first, lacks_more}, Spellings.{lacks_join}}
 use Rattle.lz_judge.specs.{declared.line.Line.{Line}, LinesRead.{at_end, kind_read, line_read, words_of}, TextsRead.{IsClear}}
@@ -17,10 +17,7 @@ some_words line text = sym (no_end line (words_of text) (omega (arith, length-sl
 -- no byte of a word is this one
 pub none_of : (c : ℕ) (word : List ℕ) → Lacks c word → All (λ b. b == c ≡ false) word
 none_of c [] h = All-nil (λ b. b == c ≡ false)
-none_of c (b ∷ word) h =
-    let both = lacks_more c b word h in
-    let here : b == c ≡ false = grind (arith, nat_tests, both.0) in
-    All-cons (λ b. b == c ≡ false) b word here (none_of c word both.1)
+none_of c (b ∷ word) h = grind (arith, nat_tests, lacks_more, none_of c word)
 
 first_word : (word rest : List ℕ) → Lacks 32 word → words_of (word ++ 32 ∷ rest) ≡ word ∷ words_of rest
 first_word word rest h = slice_split_at (λ b. b == 32) word 32 rest (none_of 32 word h) refl
