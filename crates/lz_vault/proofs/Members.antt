@@ -1,9 +1,9 @@
 -- The members that slots hold, listed in any order and by key.
 use Rattle.std.proofs.Common.{◌≡◌, ◌≢◌, ◌⊎◌, inl, inr, ℕ, zero, suc, ◌+◌, ◌-◌, ◌<◌, ◌≤◌, Bool, true, false, ◌==◌, List, [], ◌∷◌, ◌++◌, length, get_or, refl}
-use Rattle.std.proofs.{Common.{sym, ap, ◌∙◌, subst, arith, length-append, Option, Some, None, Less, Equal, Greater}, lemmas.Option.{same_Some}}
+use Rattle.std.proofs.{Common.{sym, ap, ◌∙◌, subst, arith, length-append, Option, Some, None}, lemmas.Option.{same_Some}}
 use Rattle.std.proofs.lemmas.List.{get_or_append_left, get_or_default, get_or_push, Edits.{length-swap, swapped_from_swap}, Sorted.{IsPermutation-keeps}}
 use Rattle.std.{proofs.lemmas.Bool.{cases_eq, cases_Bool, cases_lt, Decides.{nat_tests}}, specs.{Prelude.{nat_lt, ◌&&◌, if◌then◌else◌}, List.{swap}}}
-use Rattle.std.specs.{List.Sorted.{IsPermutation, IsSorted}, Ordering.{is_lt, nat_cmp, ordering_then}}
+use Rattle.std.specs.{List.Sorted.{IsPermutation, IsSorted}, Ordering.{nat_cmp, ordering_then}}
 use mathlib.Core.Bool.{false≢true}
 use Rattle.lz_vault.specs.{Stages.{Cell}, Members.{member_at, member_in, no_cell, node_at, Ascends, AreApart, AreDistinct, AreListed, AreMembers}}
 use Rattle.lz_vault.specs.Members.{AreNeighbours, AreTwins, IsLowest, lower_twins}
@@ -11,10 +11,7 @@ use Rattle.lz_slot.specs.Nodes.{Nodes, has_node}
 
 -- a node is one of the first, or of the others
 pub node_cases : (k s : ℕ) (f : ℕ × ℕ) (es : Nodes) → has_node k s (f ∷ es) ≡ true → ((f.0 ≡ k) × (f.1 ≡ s)) ⊎ (has_node k s es ≡ true)
-node_cases k s f es there = elim (cases_Bool (has_node k s es)) [
-  | inl later ↦ inr later
-  | inr none ↦ inl (grind (arith, nat_tests), grind (arith, nat_tests))
-]
+node_cases k s f es there = grind (arith, nat_tests, cases_Bool)
 
 pub node_first : (f : ℕ × ℕ) (es : Nodes) → has_node f.0 f.1 (f ∷ es) ≡ true
 node_first f es = grind (arith, nat_tests)
@@ -39,17 +36,7 @@ node_of (f ∷ es) (suc i) lt = node_later (node_at es i).0 (node_at es i).1 f e
 module _ (cells : List Cell) where
   module _ (n : ℕ) (ms : Nodes) (are : AreListed cells n ms) where
     pub none_more : member_at cells n ≡ None → AreListed cells (n + 1) ms
-    none_more none = record {
-      each = λ i lt. let at = are.each i lt in (omega (arith, at.0), at.1);
-      all = λ k s low is. elim (cases_eq s n) [
-        | inl last ↦ absurd (none_some k (sym none ∙ ap (member_at cells) (sym last) ∙ is))
-        | inr before ↦ are.all k s (omega (arith, low, before)) is
-      ];
-      apart = are.apart;
-    }
-      where
-        none_some : (k : ℕ) → None ≡ Some k → ⊥
-        none_some k h = absurd cc
+    none_more none = grind (arith, nat_tests, cases_eq)
 
     pub one_more : (j : ℕ) → member_at cells n ≡ Some j → AreListed cells (n + 1) (ms ++ (j, n) ∷ [])
     one_more j holds = record {
@@ -248,44 +235,14 @@ module _ (cells : List Cell) (ms : Nodes) (are : AreListed cells (length cells) 
 -- so no two slots hold one key
 one_node : (k s t : ℕ) (es : Nodes) → Ascends es → has_node k s es ≡ true → has_node k t es ≡ true → s ≡ t
 one_node k s t [] up one two = absurd (false≢true one)
-one_node k s t (f ∷ es) up one two = elim (node_cases k s f es one) [
-  | inl first ↦ elim (node_cases k t f es two) [
-    | inl same ↦ sym first.1 ∙ same.1
-    | inr later ↦ absurd (omega (arith, up.0 k t later, first.0))
-  ]
-  | inr before ↦ elim (node_cases k t f es two) [
-    | inl same ↦ absurd (omega (arith, up.0 k s before, same.0))
-    | inr later ↦ one_node k s t es up.1 before later
-  ]
-]
+one_node k s t (f ∷ es) up one two = grind (arith, nat_tests, node_cases, one_node k s t es up.1)
 
 pub are_distinct : (cells : List Cell) (es : Nodes) → AreMembers cells (length cells) es → AreDistinct cells
 are_distinct cells es are i j k low low' one two = one_node k i j es are.ascend (are.all k i low one) (are.all k j low' two)
 
 -- what a sort leaves is in order
 pub sorted_in_order : (ms : Nodes) → IsSorted (λ (x y : ℕ × ℕ). ordering_then (nat_cmp x.0 y.0) (nat_cmp x.1 y.1)) ms → AreInOrder ms
-sorted_in_order ms sorted i lt =
-    let f = node_at ms i in
-    let g = node_at ms (i + 1) in
-    order_of f.0 f.1 g.0 g.1 (sorted i (0, 0) (omega arith) lt)
-  where
-    order_of : (k s j t : ℕ) → is_lt (ordering_then (nat_cmp j k) (nat_cmp t s)) ≡ false → (k ≤ j) × (k ≡ j → s ≤ t)
-    order_of k s j t h = elim (cases_lt j k) [
-      | inl low ↦
-          let less : nat_lt j k ≡ true = grind (arith, nat_tests, low) in
-          absurd (false≢true (sym h ∙ ap (λ (b : Bool). is_lt (ordering_then (if b then Less else if j == k then Equal else Greater) (nat_cmp t s))) less))
-      | inr le ↦ (
-        le,
-        (λ same. elim (cases_lt t s) [
-          | inl low ↦
-              let not_less : nat_lt j k ≡ false = grind (arith, nat_tests, le) in
-              let equal : (j == k) ≡ true = grind (arith, nat_tests, same) in
-              let less : nat_lt t s ≡ true = grind (arith, nat_tests, low) in
-              absurd (false≢true (sym h ∙ (λ i. is_lt (ordering_then (if not_less i then Less else if equal i then Equal else Greater) (if less i then Less else if t == s then Equal else Greater)))))
-          | inr le' ↦ le'
-        ]),
-      )
-    ]
+sorted_in_order ms sorted i lt = grind (arith, nat_tests, cases_lt, false≢true)
 
 -- one pair of neighbours more
 module _ (ms : Nodes) (i : ℕ) (low : 1 ≤ i) where
@@ -309,31 +266,11 @@ module _ (ms : Nodes) (i : ℕ) (low : 1 ≤ i) where
   pair_cases j lt = grind (arith, cases_eq, low)
 
   from_none : (b : Bool) → (f.0 == g.0) ≡ b → IsLowest ms i None → IsLowest ms (i + 1) (if b then Some (f.1, g.1) else None)
-  from_none true is none = (
-    last_pair (grind (arith, nat_tests, is)),
-    (λ j lt same. elim (pair_cases j lt) [
-      | inl last ↦ omega (arith, ap ends last.1)
-      | inr before ↦ absurd (none j before same)
-    ]),
-  )
-  from_none false is none = λ j lt same. elim (pair_cases j lt) [
-    | inl last ↦
-        let keys : f.0 ≡ g.0 = sym (ap (λ (n : ℕ × ℕ). n.0) last.0) ∙ same ∙ ap (λ (n : ℕ × ℕ). n.0) last.1 in
-        let test : (f.0 == g.0) ≡ true = grind (arith, nat_tests, keys) in
-        absurd (false≢true (sym is ∙ test))
-    | inr before ↦ none j before same
-  ]
+  from_none true is none = grind (arith, nat_tests, last_pair, pair_cases)
+  from_none false is none = grind (arith, nat_tests, pair_cases, false≢true)
 
   from_some : (twins : ℕ × ℕ) (b : Bool) → ((f.0 == g.0) && nat_lt g.1 twins.1) ≡ b → IsLowest ms i (Some twins) → IsLowest ms (i + 1) (if b then Some (f.1, g.1) else Some twins)
-  from_some twins true is (there, lowest) = (
-    last_pair (grind (arith, nat_tests, is)),
-    (λ j lt same. elim (pair_cases j lt) [
-      | inl last ↦ omega (arith, ap ends last.1)
-      | inr before ↦
-          let less : g.1 < twins.1 = grind (arith, nat_tests, is) in
-          omega (arith, less, lowest j before same)
-    ]),
-  )
+  from_some twins true is (there, lowest) = grind (arith, nat_tests, last_pair, pair_cases)
   from_some twins false is (there, lowest) = (
     (there.0, omega (arith, there.1), there.2),
     (λ j lt same. elim (pair_cases j lt) [

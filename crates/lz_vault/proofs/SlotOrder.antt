@@ -1,5 +1,5 @@
 -- The members of a scan's cells, in the order of the slots, with one slot more.
-use Rattle.std.proofs.Common.{◌≡◌, ℕ, ◌+◌, List, [], ◌∷◌, ◌++◌, length, sym, ◌∙◌, ap, subst, length-append, Option, Some, None}
+use Rattle.std.proofs.{Common.{arith, ◌≡◌, ℕ, ◌+◌, List, [], ◌∷◌, ◌++◌, length, sym, length-append, Some, None}, lemmas.Bool.Decides.{nat_tests}}
 use Rattle.std.{proofs.lemmas.List.{append-nil, map-append, Elements.{filter_map-append}}, specs.List.{cons_option}}
 use Rattle.lz_slot.specs.Nodes.{Nodes}
 use Rattle.lz_vault.specs.{Members.{AreListed, keys_in, member_in}, Scans.{AreInSlots}, Stages.{Cell}}
@@ -19,15 +19,7 @@ module _ (cells : List Cell) (cell : Cell) (ms : Nodes) (are : AreInSlots cells 
   listed = grown_listed cells cell ms are.0
 
   pub next_none : member_in cell ≡ None → AreInSlots grown ms
-  next_none none = (
-    subst (λ (n : ℕ). AreListed grown n ms) count (none_more grown (length cells) ms listed (last_at cells cell ∙ none)),
-    are.1 ∙ sym (append-nil (keys_in cells)) ∙ sym (keys_more cells cell ∙ ap (λ (m : Option ℕ). keys_in cells ++ cons_option m []) none),
-  )
+  next_none none = grind (arith, nat_tests, count, none_more, listed, last_at, append-nil, keys_more)
 
   pub next_member : (k : ℕ) → member_in cell ≡ Some k → AreInSlots grown (ms ++ (k, length cells) ∷ [])
-  next_member k is = (
-    subst (λ (n : ℕ). AreListed grown n (ms ++ (k, length cells) ∷ [])) count (one_more grown (length cells) ms listed k (last_at cells cell ∙ is)),
-    map-append (λ (node : ℕ × ℕ). node.0) ms ((k, length cells) ∷ [])
-        ∙ ap (λ (ks : List ℕ). ks ++ k ∷ []) are.1
-        ∙ sym (keys_more cells cell ∙ ap (λ (m : Option ℕ). keys_in cells ++ cons_option m []) is),
-  )
+  next_member k is = grind (arith, nat_tests, count, one_more, listed, last_at, map-append, keys_more)

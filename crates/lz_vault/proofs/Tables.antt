@@ -1,9 +1,10 @@
 -- What a write to a slot, and a sync, leave of a table of slots.
-use Rattle.std.proofs.Common.{◌≡◌, ◌≢◌, inl, inr, ⊎_elim, ℕ, suc, ◌+◌, ◌≤◌, ◌<◌, Bool, true, false, List, [], ◌∷◌, ◌++◌, length, sym, refl, ◌∙◌, ap, subst}
-use Rattle.std.proofs.{Common.{arith, Some, get_or-set_same, get_or-set_other, length-set, length-append}, lemmas.Bool.{cases_eq, true≢false}}
-use Rattle.std.proofs.lemmas.List.{get_or_append_left, get_or_push, length-map, Sums.{count_by-le-length, sum_by-cons, sum_by-set}}
-use Rattle.std.proofs.lemmas.Option.{slice_get_within, slice_get-get_or, get_or_from_slice_get, same_Some}
-use Rattle.std.specs.{Prelude.{cond, if◌then◌else◌, not, ◌&&◌, slice_get, slice_set, map}, List.{count_by}}
+use Rattle.std.proofs.lemmas.{Bool.{cases_eq, true≢false, Decides.{nat_tests}}, List.{get_or_append_left, get_or_push, length-map}}
+use Rattle.std.proofs.lemmas.List.Sums.{count_by-le-length, sum_by-cons, sum_by-set}
+use Rattle.std.proofs.{lemmas.Option.{slice_get_within, slice_get-get_or, get_or_from_slice_get, same_Some}, Common.{◌≡◌, ◌≢◌, inl, inr, ⊎_elim, ℕ, suc, ◌+◌}}
+use Rattle.std.proofs.Common.{◌≤◌, ◌<◌, Bool, true, false, List, [], ◌∷◌, ◌++◌, length, sym, refl, ◌∙◌, ap, subst, arith, Some, get_or-set_same}
+use Rattle.std.{proofs.Common.{get_or-set_other, length-set, length-append}, specs.Prelude.{cond, if◌then◌else◌, not, ◌&&◌, slice_get, slice_set, map}}
+use Rattle.std.specs.List.{count_by}
 use Rattle.lz_slot.specs.declared.format.Format.{Format, TheVariants.{One, Four}}
 use Rattle.lz_vault.specs.{Members.{no_cell}, Opens.{is_open, open_count}}
 use Rattle.lz_vault.specs.Stages.{AreSteady, Cell, IsFree, IsSteady, cell_synced, is_covered, stage_put, stage_synced}
@@ -45,11 +46,7 @@ none_uncovered (c ∷ cells) covered =
     omega (arith, sum_by-cons (λ (x : Cell). cond (is_uncovered x) 1 0) c cells, here, rest)
 
 all_covered : (cells : List Cell) → ((s : ℕ) (cell : Cell) → slice_get cells s ≡ Some cell → is_covered cell.stage ≡ true) → AreUnsynced cells []
-all_covered cells covered = record {
-  each = λ i s there. absurd (grind arith);
-  all = λ s cell there loose. absurd (true≢false (sym (covered s cell there) ∙ loose));
-  once = sym (none_uncovered cells covered);
-}
+all_covered cells covered = grind (arith, nat_tests, true≢false, none_uncovered)
 
 pub steady_unsynced : (cells : List Cell) → AreSteady cells → AreUnsynced cells []
 steady_unsynced cells steady = all_covered cells (λ s cell there. steady_covered cell.stage (steady s cell there))

@@ -1,15 +1,12 @@
 use Rattle.lz_vault.proofs.making.make_with.Goals as goal
-use Rattle.std.proofs.{Common.{◌⊎◌, inl, inr, ℕ, List, IsTrue}, lemmas.Result.{err_from_is_err_and}}
+use Rattle.std.proofs.{Common.{arith, ◌⊎◌, inl, ℕ, List, IsTrue}, lemmas.{Bool.Decides.{nat_tests}, Result.{err_from_is_err_and}}}
 use Rattle.lz_slot.specs.Sets.{members}
 use Rattle.lz_disk.{specs.{Images.{IsImage}, Devices.{Device, LeavesOnly}}, proofs.Moments.{leaves_more, leaves_then, quiet}}
 use Rattle.lz_vault.{specs.Makes.{IsPart, IsUnmadeOrHolds}, proofs.MakingParts.{still_honest}}
 
 -- what was looked at, and then written
 made_leaves : (P : List ℕ → Type 0) (old mid new : Device) (F G : Type 0) → IsPart (IsImage old.medium) old mid F → IsPart P mid new G → IsTrue old.honest → LeavesOnly old new (λ t. IsImage old.medium t ⊎ P t)
-made_leaves P old mid new F G first second honest =
-    leaves_then old mid new _
-    (leaves_more old mid (IsImage old.medium) _ (λ c image. inl image) (first.time honest))
-    (leaves_more mid new P _ (λ c is. inr is) (second.time (still_honest old mid first.honest honest)))
+made_leaves P old mid new F G first second honest = grind (arith, nat_tests, leaves_then, leaves_more, still_honest)
 
 pub returns-then-n-eq0-clause-any_moment : goal.returns-then-n-eq0-clause-any_moment
 returns-then-n-eq0-clause-any_moment g c = λ honest. quiet (g.D.Disk.device c.args.disk.now) _ (g.met.D.Disk.timely c.args.disk.now honest) (λ t image. inl image)
