@@ -1,6 +1,6 @@
 -- The next event of a world's call is that of its run.
-use Rattle.std.proofs.Common.{◌≡◌, slice_get, IfSome, ℕ, zero, suc, map, List, Option, Some, None, is_some, refl, sym, ◌∙◌, ap, subst}
-use Rattle.std.proofs.lemmas.Bool.{false≢true}
+use Rattle.std.proofs.Common.{arith, ◌≡◌, slice_get, IfSome, ℕ, zero, suc, map, List, Option, Some, None, is_some, refl, sym, ◌∙◌, ap, subst}
+use Rattle.std.proofs.lemmas.Bool.{false≢true, Decides.{nat_tests}}
 use Rattle.lz_slot.specs.Counted.{of_pass}
 use Rattle.lz_disk.specs.Records.{Past}
 use Rattle.lz_machine.specs.{declared.event.Event.{Event}, Yards.{Shape}, Calls.{event_at, loaded}}
@@ -35,6 +35,4 @@ module _ (shape : Shape) (disk : Option Past) (callers : List (Option OpenCall))
   loads over world = load_one over world (of_pass callers a None) refl ∙ ap (next_of_caller (record { yard = over.yard; callers = map call_shown callers })) (sym (asked_shown callers a))
 
   pub next_loaded : (yard : Option (YardOver Past)) (over : YardOver Past) → IsWorld shape yard disk callers calls → yard ≡ Some over → event_loaded over.yard.words (event_asked (of_pass callers a None)) ≡ next_of (state_shown shape yard disk callers) a
-  next_loaded yard over world is =
-      loads over (subst (λ (y : Option (YardOver Past)). IsWorld shape y disk callers calls) is world)
-      ∙ ap (λ (y : Option (YardOver Past)). next_of (state_shown shape y disk callers) a) (sym is)
+  next_loaded yard over world is = grind (arith, nat_tests, loads)

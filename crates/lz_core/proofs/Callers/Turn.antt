@@ -1,13 +1,12 @@
 -- A world goes on by an actor's next event.
 use Rattle.lz_machine.specs.declared.event.Reply.TheVariants as replies
-use Rattle.std.proofs.Common.{◌≡◌, ◌≢◌, inl, inr, ◌≤◌, ◌-◌, if◌then◌else◌, IsSomeAnd, IfSome, IsTrue, ℕ, suc, Bool, true, false, map, slice_index_or, slice_set}
-use Rattle.std.proofs.Common.{List, [], Option, Some, None, reverse, refl, sym, ◌∙◌, ap, subst}
+use Rattle.std.proofs.Common.{arith, ◌≡◌, ◌≢◌, inl, inr, ◌≤◌, ◌-◌, IfSome, IsTrue, ℕ, suc, Bool, true, false, map, slice_index_or, slice_set, List, [], Option}
+use Rattle.std.proofs.{Common.{Some, None, reverse, refl, sym, ◌∙◌, ap, subst}, lemmas.Bool.Decides.{nat_tests}}
 use Rattle.lz_slot.specs.{declared.history.Mark.{Mark}, Counted.{of_pass, set_of_pass}}
 use Rattle.lz_disk.specs.{Images.{Medium}, Devices.{Device}, Records.{Past, after, device_of}}
-use Rattle.lz_vault.specs.Vaults.{IsDeviceCalled}
 use Rattle.lz_machine.specs.{declared.{event.{Event.{Event}, Outcome.{Outcome, TheVariants.{Fault}}, Reply.{Reply}}, caller.Progress.{Progress}}, Yards.{Shape}}
-use Rattle.lz_machine.specs.{Table.{line, line_call}, Orders.{MayTake}, Runs.{Transition, Caller, Service, Up, Turn, Fails, HasFault, caller_at, next_event}}
-use Rattle.lz_machine.{specs.Runs.{reply_at, moved_on, marks_of_turn, mark_of_turn}, proofs.Runs.{CallerEvent.{Next}, CallerTable.{fault_no_reply}}}
+use Rattle.lz_machine.specs.{Table.{line}, Orders.{MayTake}, Runs.{Transition, Caller, Service, Up, Turn, Fails, HasFault, caller_at, next_event, reply_at}}
+use Rattle.lz_machine.{specs.Runs.{moved_on, marks_of_turn, mark_of_turn}, proofs.Runs.{CallerEvent.{Next}, CallerTable.{fault_no_reply}}}
 use Rattle.lz_machine.proofs.Theorem.{Timing.{may_take}, EventNeeds.{may_take_fault}, BetweenLooks.{is_look}}
 use Rattle.lz_core.specs.{declared.{play.Step.TheVariants.{Turn as TurnOf}, open_calls.OpenCall.{OpenCall}}, Trips.{CallsDevice}, Worlds.{WorldOver, Goes}}
 use Rattle.lz_core.specs.Worlds.{TakesTurn, HasOne, IsCallOn, IsWorld, armed, call_shown, call_after, mark_list, next_of, state_shown, world_shown}
@@ -38,11 +37,7 @@ marks_of_call shape (Some call) (buckets, passes, number) = marks_of_reply call.
 
 twice_over : (caller : Option Caller) → marks_of_turn caller ≡ reverse (reverse (marks_of_turn caller))
 twice_over None = refl
-twice_over (Some caller) = go (reply_at caller.progress)
-  where
-    go : (reply : Option Reply) → mark_of_turn caller.number reply ≡ reverse (reverse (mark_of_turn caller.number reply))
-    go None = refl
-    go (Some reply) = refl
+twice_over (Some caller) = grind (arith, nat_tests)
 
 one_mark : (mark : Option Mark) → mark_list mark ≡ reverse (mark_list mark)
 one_mark None = refl
@@ -94,10 +89,7 @@ module _ (shape : Shape) (over : YardOver Past) (disk : Option Past) (callers : 
       ∙ ap (λ (c : Caller). moved over'.yard.shape c outcome) (sym own.2)
 
   callers_are : set_of_pass (map call_shown callers) a (moved over'.yard.shape asks.caller outcome) ≡ map call_shown (slice_set callers (a - 1) call')
-  callers_are =
-      set_at (map call_shown callers) a (moved over'.yard.shape asks.caller outcome) low
-      ∙ ap (λ (q : Option Caller). slice_set (map call_shown callers) (a - 1) q) (sym moved_so)
-      ∙ sym (shown_set callers (a - 1) call')
+  callers_are = grind (arith, nat_tests, set_at, moved, asks, low, slice_set, moved_so, shown_set)
 
   after_is : (left : Medium) → disk_now ≡ left → Up (after_it served a asks.caller over'.yard outcome) left ≡ new.state
   after_is left same = ap (λ (m : Medium). Up (after_it served a asks.caller over'.yard outcome) m) (sym same) ∙ ap (λ (cs : List (Option Caller)). Up (record { yard = over'.yard; callers = cs }) disk_now) callers_are
@@ -122,9 +114,7 @@ module _ (shape : Shape) (over : YardOver Past) (disk : Option Past) (callers : 
 
   -- where the device was tripped, an event that doesn't fail calls no device
   no_call_made : outcome ≢ Fault → IsTrue tripped → ¬ CallsDevice old.state a
-  no_call_made other is_tripped device =
-      let made = subst (λ (o : Option Caller). IsSomeAnd o (λ caller. IsDeviceCalled (line_call over.yard a (next_event over.yard caller)))) asks.at device in
-      (event_here.done other).call.free made (inr (ap (λ (b : Bool). if b then Some 0 else over.disk.trip) is_tripped))
+  no_call_made other is_tripped device = grind (arith, nat_tests, asks, event_here)
 
   world_by : (step : Transition) (marks : List Mark) → IsCallOn shape call' → HasOne (Some over') disk → Goes old (TurnOf a) step marks new → is_look step ≡ false → IsWorld shape (Some over') disk (slice_set callers (a - 1) call') calls
   world_by step marks on one goes other = record {

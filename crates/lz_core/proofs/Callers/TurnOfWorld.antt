@@ -1,6 +1,6 @@
 -- A world, with an open service or without, goes on by an actor's next event: one that has such an event has a service.
-use Rattle.std.proofs.Common.{◌≡◌, inl, inr, ◌≤◌, ◌<◌, ◌-◌, arith, length, IsSome, IfSome, ℕ, zero, suc, Bool, map, slice_index_or, slice_set, List, [], ◌∷◌}
-use Rattle.std.proofs.{Common.{Option, Some, None, is_some, sym, ◌∙◌, ap, subst}, lemmas.{Bool.{false≢true}, List.{length-map, get_or-set_same}}}
+use Rattle.std.proofs.{lemmas.{Bool.{false≢true, Decides.{nat_tests}}, List.{length-map, get_or-set_same}}, Common.{◌≡◌, ◌≤◌, ◌<◌, ◌-◌, arith, length, IsSome}}
+use Rattle.std.proofs.Common.{IfSome, ℕ, zero, suc, Bool, map, slice_index_or, slice_set, List, [], ◌∷◌, Option, Some, None, is_some, sym, ◌∙◌, ap, subst}
 use Rattle.lz_slot.specs.declared.history.Mark.{Mark}
 use Rattle.lz_disk.specs.Records.{Past}
 use Rattle.lz_machine.specs.{declared.event.{Event.{Event}, Outcome.{Outcome}}, Yards.{Shape}, Orders.{MayTake}, Runs.{marks_of_turn}}
@@ -12,11 +12,7 @@ use Rattle.lz_yard.{specs.Parts.{YardOver}, proofs.Events.KeptFit.{fault_or_not}
 
 module _ (shape : Shape) (disk : Option Past) (callers : List (Option OpenCall)) (calls a : ℕ) (tripped : Bool) (e : Event) where
   no_next : IsWorld shape None disk callers calls → next_of (state_shown shape None disk callers) a ≡ Some e → ⊥
-  no_next world is = go disk is
-    where
-      go : (d : Option Past) → next_of (state_shown shape None d callers) a ≡ Some e → ⊥
-      go None same = false≢true (ap is_some same)
-      go (Some past) same = false≢true (ap is_some same)
+  no_next world is = grind (arith, nat_tests, false≢true, is_some)
 
   ranged_at : (over : YardOver Past) (world : IsWorld shape (Some over) disk callers calls) → next_of (state_shown shape (Some over) disk callers) a ≡ Some e → a - 1 < length callers
   ranged_at over world is =
@@ -77,10 +73,7 @@ module _ (shape : Shape) (disk : Option Past) (callers : List (Option OpenCall))
       → IsOutcome (state_shown shape yard disk callers) a e outcome (state_shown shape yard' disk callers')
   tells_outcome None yard' outcome callers' world is steps = absurd (no_next world is)
   tells_outcome (Some over) None outcome callers' world is steps = absurd steps
-  tells_outcome (Some over) (Some over') outcome callers' world is steps = elim (fault_or_not outcome) [
-    | inl fault ↦ inr (fault, (steps.1.failed fault).yard)
-    | inr other ↦ inl ((steps.1.done other).answer, (steps.1.done other).yard)
-  ]
+  tells_outcome (Some over) (Some over') outcome callers' world is steps = grind (arith, nat_tests, fault_or_not)
 
 -- a place that is there, whatever stands for one that isn't
 pub taken_at : {X : Type 0} (xs : List X) (i : ℕ) (x d : X) → i < length xs → x ≡ slice_index_or xs i x → x ≡ slice_index_or xs i d

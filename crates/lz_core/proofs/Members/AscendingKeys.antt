@@ -1,7 +1,7 @@
 -- A key put at its place among ascending ones, and the members among the slots below some slot.
-use Rattle.std.proofs.Common.{◌≡◌, ◌≢◌, ◌⊎◌, inl, inr, ◌↔◌, ◌<◌, ◌≤◌, ◌+◌, ◌==◌, ◌||◌, ℕ, zero, suc, Bool, true, false, List, [], ◌∷◌, slice_get, Some, None}
-use Rattle.std.proofs.{Common.{is_some, unwrap_or, refl, sym, ap, ◌∙◌, arith}, lemmas.List.Elements.{All-cons}}
-use Rattle.std.{proofs.lemmas.Bool.{false≢true, cases_eq, or_cases, or_left, or_right, Decides.{eqb_tells}}, specs.List.{All, insert}}
+use Rattle.std.proofs.lemmas.{Bool.{false≢true, cases_eq, or_cases, or_left, or_right, Decides.{nat_tests, eqb_tells}}, List.Elements.{All-cons}}
+use Rattle.std.proofs.Common.{◌≡◌, ◌⊎◌, inl, inr, ◌↔◌, ◌<◌, ◌≤◌, ◌+◌, ◌==◌, ◌||◌, ℕ, zero, suc, Bool, true, false, List, [], ◌∷◌, slice_get, Some, None}
+use Rattle.std.{proofs.Common.{is_some, unwrap_or, refl, sym, ap, ◌∙◌, arith}, specs.List.{All, insert}}
 use Rattle.lz_slot.specs.Sets.{members}
 use Rattle.lz_list.specs.Words.{Words}
 use Rattle.lz_core.specs.Worlds.{Ascend, IsListed, IsAmong}
@@ -49,11 +49,7 @@ members_insert (y ∷ ys) (suc i) x k = ap (λ (b : Bool). (y == k) || b) (membe
 
 -- the keys from there on are greater, where the key isn't there
 pub from_there : (xs : List ℕ) (i x : ℕ) → ((k : ℕ) → slice_get xs i ≡ Some k → x ≤ k) → (slice_get xs i ≡ Some x → ⊥) → From xs i x
-from_there xs i x at_least not_there k at = go (cases_eq x k)
-  where
-    go : (x ≡ k) ⊎ (x ≢ k) → x < k
-    go (inl same) = absurd (not_there (at ∙ ap Some (sym same)))
-    go (inr other) = let least = at_least k at in omega (arith, least, other)
+from_there xs i x at_least not_there k at = grind (arith, nat_tests, cases_eq)
 
 or_twice : (a b : Bool) → (a || b) ≡ (a || (a || b))
 or_twice true b = refl

@@ -1,8 +1,8 @@
 -- The keys that a yard shows: those of its slots that are members. Of a yard that was just opened they are the keys found.
 use Rattle.lz_machine.proofs.Theorem.ShownChains as showing
+use Rattle.std.proofs.lemmas.{Bool.{cases_eq, or_cases, Decides.{nat_tests, leb_tells}}, List.{length-map, Elements.{All-cons}}, Option.{slice_get-get_or}}
 use Rattle.std.proofs.Common.{◌≡◌, inl, inr, ◌↔◌, ℕ, suc, ◌+◌, ◌<◌, ◌≤◌, ◌==◌, ◌||◌, Bool, true, false, IsTrue, List, [], ◌∷◌, length, map, Option, Some}
-use Rattle.std.proofs.{Common.{Result, Ok, Err, IfOk, refl, sym, ap, ◌∙◌, subst, arith}, lemmas.List.{length-map, Elements.{All-cons}}}
-use Rattle.std.{proofs.lemmas.{Bool.{cases_eq, or_cases, Decides.{leb_tells}}, Option.{slice_get-get_or}}, specs.List.{All}}
+use Rattle.std.{proofs.Common.{Result, Ok, Err, IfOk, refl, sym, ap, ◌∙◌, subst, arith}, specs.List.{All}}
 use mathlib.Core.Bool.{false≢true}
 use Rattle.lz_slot.specs.{Limits.{largest_key, most_slots}, Sets.{Keys, members}, Histories.{Life}, Bytes.{Holds, held}}
 use Rattle.lz_slot.proofs.Files.ExactBytes.{key_of_format}
@@ -90,10 +90,7 @@ from_least least (k ∷ ks) up within =
     (here.0, here.1, from_least (k + 1) ks up.1 (λ j is. let above = from_all k ks up.0 j is in (omega (arith, above), (within j (later_of k j ks is)).1)))
 
 pub ascend_from : (w : Words) (n : ℕ) (ks : List ℕ) → ((k : ℕ) → (members ks k ≡ true) ↔ IsAmong w n k) → Ascend ks → AscendFrom 0 ks
-ascend_from w n ks same up = from_least 0 ks up (λ k is. (omega arith, highest k ((same k).0 is)))
-  where
-    highest : (k : ℕ) → IsAmong w n k → k ≤ largest_key
-    highest k (s, low, listed) = listed.2
+ascend_from w n ks same up = grind (arith, nat_tests, from_least)
 
 -- ascending lists with the same members are one
 pub same_keys : (xs ys : List ℕ) → Ascend xs → Ascend ys → ((k : ℕ) → members xs k ≡ true → members ys k ≡ true) → ((k : ℕ) → members ys k ≡ true → members xs k ≡ true) → xs ≡ ys

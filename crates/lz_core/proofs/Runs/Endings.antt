@@ -1,5 +1,5 @@
 -- A world is tripped, stopped or crashed.
-use Rattle.std.proofs.Common.{◌≡◌, ℕ, suc, Bool, List, [], ◌∷◌, Option, Some, None, refl, sym, ◌∙◌, ap}
+use Rattle.std.proofs.{Common.{arith, ◌≡◌, ℕ, suc, Bool, List, [], ◌∷◌, Option, Some, None, refl, sym, ◌∙◌, ap}, lemmas.Bool.Decides.{nat_tests}}
 use Rattle.lz_slot.specs.declared.history.Mark.{Mark, TheVariants.{Stop as stopped, Crash as crashed}}
 use Rattle.lz_disk.specs.{Images.{IsImage, at_rest}, declared.memory.Pick.{Pick}, Picks.{left_by}, Records.{Past}}
 use Rattle.lz_core.specs.declared.{play.Step.{Step as PlayStep, TheVariants.{Trip, Stop, Crash}}, open_calls.OpenCall.{OpenCall}}
@@ -52,13 +52,7 @@ module _ (n : ℕ) where
   crash_told (Down shape disk) t = refl
 
 pub trips : (old new : WorldOver) → new.state ≡ old.state → new.calls ≡ old.calls → Goes old Trip Trips [] new
-trips old new same calls = record {
-  is = refl;
-  may = trip_may 0 old.state;
-  to = trip_to (suc old.calls) old.state ∙ sym same;
-  counts = sym calls;
-  told = trip_told (suc old.calls) old.state;
-}
+trips old new same calls = grind (arith, nat_tests, trip_may, trip_to, trip_told)
 
 pub stops : (shape : Shape) (old new : WorldOver) → HasRun shape old.state old.calls → new.state ≡ Down shape (disk_of old.state) → new.calls ≡ old.calls → Goes old Stop Stops (stopped ∷ []) new
 stops shape old new ran down calls = record {

@@ -1,9 +1,9 @@
 -- A play goes on by another play.
+use Rattle.std.proofs.lemmas.{Bool.Decides.{nat_tests}, List.{reverse-append, append-nil, append_assoc}, Option.{slice_get_within, get_or_from_slice_get}}
 use Rattle.std.proofs.Common.{◌≡◌, ◌≢◌, ◌⊎◌, inl, inr, ⊎_elim, IsSomeAnd, Bool, Result, Ok, Err, IsErrOf, Option, None, ◌≤◌, ◌+◌, ◌-◌, arith, slice_get, ℕ}
-use Rattle.std.proofs.Common.{zero, suc, take, List, [], ◌∷◌, ◌++◌, Some, reverse, refl, sym, ◌∙◌, ap, subst}
-use Rattle.std.proofs.{lemmas.{List.{reverse-append, append-nil, append_assoc}, Option.{slice_get_within, get_or_from_slice_get}}, Math.Seq.{take-suc}}
+use Rattle.std.proofs.{Common.{zero, suc, take, List, [], ◌∷◌, ◌++◌, Some, reverse, refl, sym, ◌∙◌, ap, subst}, Math.Seq.{take-suc}}
 use Rattle.lz_slot.specs.declared.history.Mark.{Mark}
-use Rattle.lz_core.specs.{declared.play.Step.{Step as PlayStep}, Plays.{IsPlayOf, ArePlaysOf}, Trips.{GoAsTripped, GoesAsTripped, tripped_after, tripped_by}}
+use Rattle.lz_core.specs.{declared.play.Step.{Step as PlayStep}, Plays.{IsPlayOf, ArePlaysOf}, Trips.{GoAsTripped, tripped_after, tripped_by}}
 use Rattle.lz_core.specs.Worlds.{WorldOver, LacksMemory, LacksNext, StopsAt, StopsEarly, IsLawful, PlaysOn, IsChain, mark_list}
 use Rattle.lz_core.proofs.Runs.PlayedStep.{stays}
 use Rattle.lz_machine.{specs.{Runs.{Transition, MayStep, Point, run, IsRun}, Points.{IsReached}}, proofs.Theorem.Reached.{every_history}}
@@ -30,11 +30,7 @@ trips_join tripped (step ∷ later) before = ap (λ (t : Bool). tripped_after t 
 
 go_on : (p : Point) (later before : List Transition) (tripped : Bool) → GoAsTripped p tripped before → GoAsTripped (run p before) (tripped_by tripped before) later → GoAsTripped p tripped (later ++ before)
 go_on p [] before tripped first then_on = first
-go_on p (step ∷ later) before tripped first then_on = (
-  subst (λ (q : Point). GoesAsTripped q.state (tripped_by tripped (later ++ before)) step) (run_append p later before)
-      (subst (λ (t : Bool). GoesAsTripped (run (run p before) later).state t step) (sym (trips_join tripped later before)) then_on.0),
-  go_on p later before tripped first then_on.1,
-)
+go_on p (step ∷ later) before tripped first then_on = grind (arith, nat_tests, run_append, trips_join, go_on p later before tripped first then_on.1)
 
 -- two plays, one after the other, are one
 pub joins : (a b c : WorldOver) (xs ys : List PlayStep) (ms ns : List Mark) → PlaysOn a xs ms b → PlaysOn b ys ns c → PlaysOn a (xs ++ ys) (ms ++ ns) c

@@ -1,5 +1,5 @@
 use Rattle.lz_core.proofs.world.World.crash.Goals as goal
-use Rattle.std.proofs.Common.{◌≡◌, ◌∙◌, ℕ, Bool, List, [], ◌∷◌, Option, false, sym, ap, subst, refl}
+use Rattle.std.proofs.{Common.{arith, ◌≡◌, ◌∙◌, ℕ, Bool, List, [], ◌∷◌, Option, false, sym, ap, subst, refl}, lemmas.Bool.Decides.{nat_tests}}
 use Rattle.lz_slot.specs.declared.history.Mark.TheVariants.{Crash as crashed}
 use Rattle.lz_disk.specs.{declared.memory.Pick.{Pick}, Images.{Medium, IsImage, at_rest}, Picks.{left_by}, Records.{Past}}
 use Rattle.lz_core.specs.declared.{play.Step.TheVariants.{Crash}, open_calls.OpenCall.{OpenCall}}
@@ -33,9 +33,7 @@ module _ (shape : Shape) (yard yard' : Option (YardOver Past)) (disk disk' : Opt
   crashed_world world one down image = now_at shape yard disk callers calls tripped world _ _ _ yard' disk' now one (goes world down image) (subst IsBetweenLooks (sym (down shape callers)) tt)
 
   same_world : IsWorld shape yard disk callers calls → (yard' ≡ yard) × (disk' ≡ disk) → IsWorld shape yard' disk' callers calls
-  same_world world same =
-      subst (λ (y : Option (YardOver Past)). IsWorld shape y disk' callers calls) (sym same.0)
-      (subst (λ (d : Option Past). IsWorld shape yard d callers calls) (sym same.1) world)
+  same_world world same = grind (arith, nat_tests)
 
 pub invariant_of-self : goal.invariant_of-self
 invariant_of-self c =
