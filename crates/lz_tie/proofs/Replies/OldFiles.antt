@@ -1,5 +1,5 @@
 -- An answer tells of an old file exactly where the file can't hold the key of an adding.
-use Rattle.std.proofs.Common.{arith, ◌≡◌, ◌⊎◌, inl, inr, ℕ, if◌then◌else◌, Bool, true, false, List, [], ◌∷◌, ◌++◌, ap, Option, Some, None}
+use Rattle.std.proofs.Common.{arith, ◌≡◌, ◌⊎◌, inl, inr, ℕ, if◌then◌else◌, Bool, true, List, [], ◌∷◌, ◌++◌, ap, Option, Some, None}
 use Rattle.std.{proofs.lemmas.{Bool.Decides.{nat_tests}, Option.{none-some}}, specs.Cmp.{both_ways}}
 use mathlib.Core.Bool.{false≢true}
 use Rattle.lz_tie.proofs.Vocabulary.{Command, Format, Trace, Reply, Progress, first_progress, is_old, Shape, What, Note, Part, note_by, place, placed}
@@ -9,10 +9,6 @@ use Rattle.lz_machine.specs.declared.{event.Reply.TheVariants.{OldFile}, caller.
 use Rattle.lz_board.specs.declared.view.What.TheVariants.{Called, Played}
 
 -- the answer of a call whose file can't hold its key comes first, and no other does
-abbrev tells_at : Option (Command × Progress) → Bool
-tells_at (Some (c, Answering reply)) = tells_old reply
-tells_at _ = false
-
 module _ (shape : Shape) (p : ℕ) (F : Format) (c : Command) where
   abbrev called : Note
   called = note_by p (Called c F) None
