@@ -20,7 +20,7 @@ from trials.program import PATIENCE, Key, Program, Service
 from trials.report import Skip, Wrong, expect
 
 # Connections of one crowd, and how much memory each may keep in the service once it was answered.
-MANY, MOST_KEPT = 2000, 4096
+MANY, MOST_KEPT = 2000, 6000
 
 # A piece of lines with no words, each of which is answered by six bytes.
 PIECE = b"\n" * 4095
@@ -81,7 +81,7 @@ def try_pieces(program: Program, folder: str) -> None:
     needs_descriptors(MANY)
     file = os.path.join(folder, "pieces")
     program.make(file, 4)
-    with Service(program, file, 4, *at_once(MANY)) as service, Crowd(service.port, MANY) as crowd:
+    with Service(program, file, 4, *at_once(MANY + 1)) as service, Crowd(service.port, MANY) as crowd:
         expect(crowd.exchange([b"has 1\n"] * MANY), [b"no\n"] * MANY, "lookups of all clients")
         before = memory(service)
         for connection in crowd.connections:

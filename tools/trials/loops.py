@@ -7,8 +7,8 @@ import re
 import socket
 import threading
 import time
-from contextlib import suppress
-from typing import Callable, ContextManager, List
+from contextlib import ExitStack, suppress
+from typing import Callable, ContextManager, List, Tuple
 
 from lazyset import Lazyset, Reply
 from trials import guests, kills, load
@@ -50,7 +50,7 @@ HALTS = 48
 # How many lines one client sends at once.
 BATCH = 500
 
-# How many lookups are made one by one, and how often a service whose places are all taken may look at the system's table for them.
+# How many lookups are made one by one, twice, and how often a service whose places are all taken may look then whether some wait.
 LOOKUPS, FEW_LOOKS = 300, 10
 
 
@@ -58,23 +58,36 @@ def at_once(connections: int) -> List[str]:
     return ["--connections", str(connections)]
 
 
-def try_full_house(program: Program, folder: str) -> None:
-    """A loop whose places are all taken looks once in a second whether further clients wait, and not at each turn."""
-    needs_strace()
-    file, log = os.path.join(folder, "house"), os.path.join(folder, "looks")
+def looks(program: Program, file: str, waits: bool) -> Tuple[int, int, float]:
+    """How often a loop whose one place is taken asked its listener whether further clients wait, and read the system's table for them, and in how many
+    seconds. Where one waits it does so from before the lookups on."""
+    log = f"{file}-looks"
     program.make(file, 4)
-    traced = ["strace", "-f", "-qq", "-o", log, "-e", "trace=openat,pread64"]
-    with Service(program, file, 1, *at_once(1), before=traced) as service, Lazyset(service.port) as client:
+    traced = ["strace", "-f", "-qq", "-o", log, "-e", "trace=openat,pread64,poll"]
+    with Service(program, file, 1, *at_once(1), before=traced) as service, Lazyset(service.port) as client, ExitStack() as waiting:
         began = time.monotonic()
-        replies = [client.has(key) for key in range(LOOKUPS)]
+        if waits:
+            waiting.enter_context(socket.create_connection(("127.0.0.1", service.port)))
+        for pause in (0, 1.1):
+            time.sleep(pause)
+            expect([client.has(key) for key in range(LOOKUPS)], [False] * LOOKUPS, "replies")
         seconds = time.monotonic() - began
-    expect(replies, [False] * LOOKUPS, "replies")
     with open(log, encoding="ascii", errors="replace") as lines:
         text = lines.read()
     table = re.findall(r'"/proc/net/tcp", .*\) = (\d+)', text)
-    looks = len(re.findall(rf'pread64\({"".join(table)}, "", ', text))
-    if not 1 <= looks <= FEW_LOOKS + seconds:
-        raise Wrong(f"the table was read to its end {looks} times during {LOOKUPS} lookups in {seconds:.1f} s")
+    return len(re.findall(r"poll\(", text)), len(re.findall(rf'pread64\({"".join(table)}, "", ', text)), seconds
+
+
+def try_full_house(program: Program, folder: str) -> None:
+    """A loop whose places are all taken looks once in a second whether further clients wait, and not at each turn. It reads the system's table only where
+    some do."""
+    needs_strace()
+    for waits in (False, True):
+        asked, read, seconds = looks(program, os.path.join(folder, f"house-{waits}"), waits)
+        if not 1 <= asked <= FEW_LOOKS + seconds:
+            raise Wrong(f"the listener was asked {asked} times during {2 * LOOKUPS} lookups in {seconds:.1f} s")
+        if not waits <= read <= waits * (FEW_LOOKS + seconds):
+            raise Wrong(f"the table was read to its end {read} times in {seconds:.1f} s, while {waits:d} connections waited")
 
 
 def try_lists(program: Program, folder: str) -> None:
