@@ -1,17 +1,15 @@
 -- What an event leaves of the other actors, where one actor is alone, and of the slots whose gate isn't durable to be open.
-use Rattle.std.proofs.Common.{◌≡◌, ◌≢◌, ◌⊎◌, inl, inr, ℕ, zero, suc, ◌%◌, Bool, true, false, List, [], ◌∷◌, map, Option, Some, None, refl, sym, ap, ◌∙◌, arith}
-use Rattle.std.proofs.{Common.{length-set, get_or-set_same, get_or-set_other}, lemmas.{Bool.{cases_eq, cases_lt}, List.{get_or_past}}}
-use Rattle.std.specs.Prelude.{if◌then◌else◌, slice_set}
+use Rattle.std.proofs.{lemmas.{Bool.{cases_eq, cases_lt, Decides.{nat_tests}}, List.{get_or_past}}, Common.{◌≡◌, ◌≢◌, ◌⊎◌, inl, inr, ℕ, zero, suc, ◌%◌, Bool}}
+use Rattle.std.proofs.Common.{true, false, List, [], ◌∷◌, map, Option, Some, None, refl, sym, ap, arith, length-set, get_or-set_same, get_or-set_other}
+use Rattle.std.specs.Prelude.{slice_set}
 use mathlib.Core.Bool.{false≢true}
 use Rattle.lz_slot.{specs.Counted.{of_pass}, proofs.Counted.{of_pass_other}}
 use Rattle.lz_vault.specs.{declared.vault.Stage.{Stage, TheVariants.{Opening, Closing}}, Stages.{Cell, cell_synced}}
-use Rattle.lz_list.specs.{Words.{change_flags}, Locks.{is_pair_free}}
-use Rattle.lz_flush.specs.Settling.{settle}
-use Rattle.lz_machine.specs.declared.{course.Course.{Course, TheVariants.{Refused, Dies, Plays}}, actor.{Actor.{Actor}, Hold.TheVariants.{Nothing, Locks}}}
+use Rattle.lz_machine.specs.declared.{course.Course.{Course, TheVariants.{Refused, Dies, Plays}}, actor.{Actor.{Actor}, Hold.TheVariants.{Nothing}}}
 use Rattle.lz_machine.specs.declared.event.Event.{Event, TheVariants.{Pin, Reserve, WriteKey, Claim, WriteOpen, Link, WriteClose, Sync, Settle, Unlink, Retire}}
 use Rattle.lz_machine.specs.declared.event.{Event.TheVariants.{SeePin, Answer, Hop, Halt}, Outcome.TheVariants.{NotNow, Dead}}
-use Rattle.lz_machine.specs.{Yards.{Yard, idle_actor, actor_at, cell_at, cell_in, stage_in}, Table.{course, course_alive, line, line_on, pin_of}}
-use Rattle.lz_machine.specs.Table.{is_played_dead, actors_after, words_after, cells_after, uses_after, reserved, is_sure, set_actor}
+use Rattle.lz_machine.specs.Yards.{Yard, idle_actor, actor_at, cell_in, stage_in}
+use Rattle.lz_machine.specs.Table.{course, course_alive, line, line_on, pin_of, is_played_dead, actors_after, words_after, cells_after, uses_after, reserved}
 use Rattle.lz_machine.proofs.{Alone.Sights.{HasLeft, left_set, left_collect, left_seen}, Steps.{Unlink.{redirect_pins}, Sync.{not_opening}}}
 use Rattle.lz_machine.proofs.{Frames.{BesideKey.{opened_shut}, Outside.{answered_other}, SlotWrite.{put_free}}, Runs.Course.{course_by}}
 use Rattle.lz_allot.specs.Uses.{Use, Taken, collect, lowest_free}
@@ -25,11 +23,7 @@ course_is y a e now = course_by (λ k. course y a e ≡ k → IsCourse y a e) y 
 
 -- the hands and pins of others
 actors_other : (y : Yard) (actor : Actor) (a b : ℕ) (e : Event) → b ≢ a → of_pass (actors_after y actor a e) b idle_actor ≡ of_pass y.actors b idle_actor
-actors_other y actor a b (Claim pred curr) other = go (is_pair_free y.locks pred curr)
-  where
-    go : (free : Bool) → of_pass (if free then set_actor y a (record actor { hold = Locks; pred = pred; curr = curr }) else y.actors) b idle_actor ≡ of_pass y.actors b idle_actor
-    go true = of_pass_other y.actors a b _ idle_actor other
-    go false = refl
+actors_other y actor a b (Claim pred curr) other = grind (arith, nat_tests, of_pass_other)
 actors_other y actor a b Pin other = refl
 actors_other y actor a b (Hop word) other = refl
 actors_other y actor a b (WriteKey k) other = refl
@@ -43,11 +37,7 @@ pub pins_other : (y : Yard) (actor : Actor) (a b : ℕ) (e : Event) → b ≢ a 
 pins_other y actor a b Pin other = of_pass_other y.words.pins a b _ 0 other
 pins_other y actor a b Link other = ap (λ (q : List ℕ). of_pass q b 0) (redirect_pins y.words actor.pred _)
 pins_other y actor a b Unlink other = ap (λ (q : List ℕ). of_pass q b 0) (redirect_pins y.words actor.pred _)
-pins_other y actor a b (Settle s) other = go (is_sure y s)
-  where
-    go : (sure : Bool) → of_pass (if sure then change_flags (settle (cell_at y s).stage) y.words s else y.words).pins b 0 ≡ of_pass y.words.pins b 0
-    go true = refl
-    go false = refl
+pins_other y actor a b (Settle s) other = grind (arith, nat_tests)
 pins_other y actor a b Answer other = answered_other y actor a b other
 pins_other y actor a b _ other = refl
 
@@ -60,11 +50,7 @@ pub record IsIdleNow (y : Yard) (b : ℕ) : Type 0 where
 pub idle_on : (k : Course) (y : Yard) (a b : ℕ) (e : Event) → b ≢ a → IsIdleNow y b → IsIdleNow (line_on k y (actor_at y a) a e).0 b
 idle_on (Refused outcome) y a b e other h = h
 idle_on Dies y a b e other h = record { outside = h.outside; slot = h.slot; hold = h.hold }
-idle_on Plays y a b e other h = record {
-  outside = ap (λ (v : ℕ). v % 2) (pins_other y (actor_at y a) a b e other) ∙ h.outside;
-  slot = ap (λ (x : Actor). x.slot) (actors_other y (actor_at y a) a b e other) ∙ h.slot;
-  hold = ap (λ (x : Actor). x.hold) (actors_other y (actor_at y a) a b e other) ∙ h.hold;
-}
+idle_on Plays y a b e other h = grind (arith, nat_tests, pins_other, actors_other)
 
 -- no gate is being opened
 abbrev pub NoneOpening : List Cell → Type 0
@@ -90,11 +76,7 @@ pub none_stays : (y : Yard) (actor : Actor) (e : Event) → is_opening_event e �
 none_stays y actor (WriteKey k) other none = grind (arith, set_none, opened_shut, put_free)
 none_stays y actor WriteOpen other none = absurd (false≢true (sym other))
 none_stays y actor WriteClose other none = set_none y.vault.cells _ _ Closing (λ is. absurd cc) none
-none_stays y actor (Sync s) other none = go (is_sure y s)
-  where
-    go : (sure : Bool) → NoneOpening (if sure then y.vault.cells else map cell_synced y.vault.cells)
-    go true = none
-    go false = synced_none y.vault.cells
+none_stays y actor (Sync s) other none = grind (arith, nat_tests, synced_none)
 none_stays y actor _ other none = none
 
 -- the same by the event's course: a vault that lives after it lived before

@@ -154,16 +154,7 @@ record IsWith (S : Keys) (M1 M : History) (i : ℕ) (c : Command) (L : List ℕ)
 
 module _ (M1 : History) (i : ℕ) (c : Command) (M : History) (latest : IsLatest M1 i c M) (ended : Ended i M) (clean : has_cut M ≡ false) (S : Keys) (L : List ℕ) (T : Keys) (fits : Fits S M1 L T) where
   without : ¬ IsListed i L → IsWithout S M i L T
-  without none = record {
-    none = none;
-    fits = record {
-      once = fits.once;
-      answered = λ j answer at. fits.answered j answer (latest.answers j answer at);
-      not_refused = λ j at. fits.not_refused j (latest.refuses j at);
-      order = λ j l at. fits.order j l (latest.earlier j l at);
-      runs = runs_before M1 i c M latest S L T none fits.runs;
-    };
-  }
+  without none = grind (arith, nat_tests, runs_before)
 
   -- the others were answered before it was made
   others_first : IsListed i L → (j : ℕ) → IsListed j L → j ≢ i → IsEarlier j i L

@@ -6,7 +6,7 @@ use mathlib.Core.Bool.{false≢true}
 use Rattle.lz_slot.specs.{declared.command.Command.{Command, TheVariants.{Add, Remove}}, Sets.{key_of}, Histories.{History}}
 use Rattle.lz_disk.specs.Images.{Medium}
 use Rattle.lz_vault.specs.{declared.vault.Stage.TheVariants.{Opening}, Stages.{Cell, cell_synced, is_covered}}
-use Rattle.lz_allot.specs.{declared.sight.Sight.{Sight}, Uses.{Free, collect, see_pin, lowest_free, give_back}}
+use Rattle.lz_allot.specs.{declared.sight.Sight.{Sight}, Uses.{collect, see_pin, lowest_free}}
 use Rattle.lz_list.specs.{declared.{word.Word.TheVariants.{Halt as halt_at}, walk.Look.{Look}, place.Place.{Place}}, Words.{get}, Walks.{wants, hopped}}
 use Rattle.lz_list.specs.Traces.{Trace}
 use Rattle.lz_machine.specs.declared.{course.Course.{Course, TheVariants.{Refused, Dies, Plays}}, actor.{Actor.{Actor}, Hold.TheVariants.{Nothing}}}
@@ -16,7 +16,7 @@ use Rattle.lz_machine.specs.declared.{event.Reply.{Reply, TheVariants.{Yes, Halt
 use Rattle.lz_machine.specs.declared.caller.{Sequence.TheVariants.{Pinning, Resting, Writing, Adding, Removing, Releasing, Halting}, Progress.{Progress}}
 use Rattle.lz_machine.specs.declared.caller.Progress.TheVariants.{Playing, LoadsHalt, Walking, Reserving, SeeingPins, Claiming, Checking, Answering}
 use Rattle.lz_machine.specs.{Yards.{Shape, Yard, actor_at, cell_at, actor_in, stage_in, pin_in}, Table.{line_publishes, line_failed, course, course_alive}}
-use Rattle.lz_machine.specs.Table.{line, line_on, published_on, pin_of, slot_found, given_back, is_unused, is_sure, is_spent, slot_of, pin_answered}
+use Rattle.lz_machine.specs.Table.{line, line_on, published_on, pin_of, slot_found, given_back, is_sure, is_spent, slot_of, pin_answered}
 use Rattle.lz_machine.specs.{Calls.{halts, progress_after, event_of, loaded}, Runs.{Caller, caller_at, reply_at, next_event, moved_on}}
 use Rattle.lz_machine.{specs.{CallersSound.{IsAdder, view_of, Relies}, Notes.{Notes}, Sound.{Sound}, Limbo.{IsRightSight}}, proofs.Frames.ActorTable.{by_actor}}
 use Rattle.lz_machine.proofs.{Frames.{Uses.{free_limbo}, Outside.{answered_even}, Ranges.{few_slots}}, Steps.Hop.{call_at, own}}
@@ -230,22 +230,11 @@ module _ (n calls : ℕ) (y : Yard) (callers : List (Option Caller)) (disk : Med
   -- an answer
   given_left : (slot : Option ℕ) (b : ℕ) → HasLeft y.uses b → HasLeft (given_back y slot) b
   given_left None b left = left
-  given_left (Some s) b left = go (is_unused (cell_at y s).stage)
-    where
-      go : (unused : Bool) → HasLeft (if unused then give_back y.uses s else y.uses) b
-      go true = left_set y.uses s b Free (λ seen is. absurd cc) left
-      go false = left
+  given_left (Some s) b left = grind (arith, nat_tests, left_set)
 
   given_odd : (slot : Option ℕ) (p : ℕ) → IsSeenOdd (given_back y slot) p
   given_odd None p = seen_odd p
-  given_odd (Some s) p = go (is_unused (cell_at y s).stage)
-    where
-      go : (unused : Bool) → IsSeenOdd (if unused then give_back y.uses s else y.uses) p
-      go true = λ r seen u limbo inside. ⊎_elim
-          (λ set. absurd (free_limbo (sym set ∙ limbo)))
-          (λ same. seen_odd p r seen u (sym same ∙ limbo) inside)
-          (set_cases y.uses s r Free)
-      go false = seen_odd p
+  given_odd (Some s) p = grind (arith, nat_tests, free_limbo, seen_odd, set_cases)
 
   answer_left : (k : Course) → HasLeft y.uses a → HasLeft (line_on k y actor a Answer).0.uses a
   answer_left Plays left = left_seen (given_back y actor.slot) a (pin_answered actor (pin_of y a)) a (given_left actor.slot a left)

@@ -1,5 +1,5 @@
 -- Each image of a sound open service holds a set, and the life has a list that leads to it.
-use Rattle.std.proofs.Common.{◌≡◌, ◌≢◌, ◌⊎◌, ⊎_elim, inl, inr, ℕ, suc, ◌+◌, ◌<◌, ◌≤◌, ◌*◌, ◌&&◌, not, max, Bool, true, false, List, [], ◌∷◌, ◌++◌, length, Some}
+use Rattle.std.proofs.Common.{◌≡◌, ◌≢◌, ◌⊎◌, ⊎_elim, inl, inr, ℕ, suc, ◌+◌, ◌<◌, ◌≤◌, ◌*◌, ◌&&◌, not, Bool, true, false, List, [], ◌∷◌, ◌++◌, length, Some}
 use Rattle.std.proofs.{Common.{refl, sym, ap, ◌∙◌, subst, arith}, lemmas.Bool.{cases_Bool, cases_lt, and_parts, not-true, Decides.{nat_tests}}}
 use Rattle.std.specs.Prelude.{if◌then◌else◌}
 use mathlib.Core.Bool.{false≢true}
@@ -39,14 +39,10 @@ never_linked k (e ∷ P) none = never_linked k P none
 module _ (n : ℕ) (P : Trace) (drop : Keys) where
   -- what is kept at last, and at first
   kept_last : n ≤ length P → (k : ℕ) → kept_keys n P drop (length P) k ≡ (if drop k then not (member k P) else member k P)
-  kept_last le k =
-      let at : max n (length P) ≡ length P = omega (arith, le) in
-      rw (at, upto_all (length P) P (omega arith)) (grind (arith, nat_tests, last_change_past k P))
+  kept_last le k = grind (arith, nat_tests, upto_all, last_change_past)
 
   kept_first : MayDrop n P drop → (k : ℕ) → kept_keys n P drop 0 k ≡ member k (upto n P)
-  kept_first may k =
-      let at : max n 0 ≡ n = omega arith in
-      rw at (grind (arith, nat_tests, may.later k))
+  kept_first may k = grind (arith, nat_tests)
 
 -- the same calls fit from a set with the same keys
 runs_from : (M : History) (L : List ℕ) (S T U : Keys) → Same S T → Runs M S L U → Runs M T L U

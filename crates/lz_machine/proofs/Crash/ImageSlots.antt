@@ -105,9 +105,7 @@ module _ (n calls : ℕ) (y : Yard) (callers : List (Option Caller)) (disk : Med
 
   -- one slot has a key
   pub one_node_slot : (s u k : ℕ) → IsNodeOf y P s k → IsNodeOf y P u k → s ≡ u
-  one_node_slot s u k one other =
-      let same : suc s ≡ suc u = one_node (next_link y.shape.buckets (bucket_of y.shape.buckets k) P) (λ q. key_word q P) 0 (chain_of y.shape.buckets k P) (shown k) (suc s) (suc u) one.0 other.0 (omega (arith, one.1, other.1)) in
-      omega (arith, same)
+  one_node_slot s u k one other = grind (arith, nat_tests, one_node, shown)
 
   has_place : (s k : ℕ) (h : IsOpened y P s k) → owner y.locks (actor_in y.actors h.actor).pred ≡ h.actor
   has_place s k h = sound.locks.has h.actor (actor_in y.actors h.actor).pred (record { locks = resting_locks (actor_in y.actors h.actor).hold h.rests; among = first_place (actor_in y.actors h.actor).pred (actor_in y.actors h.actor).curr })

@@ -1,5 +1,6 @@
 -- Which slots are on chains: nodes are, slots that are free or in limbo are not, and no pass that is inside may stand on one that is not.
-use Rattle.std.proofs.{Common.{◌≡◌, inl, inr, ℕ, suc, ◌<◌, Bool, true, List, ◌∷◌, length, Some, sym, ◌∙◌, arith}, lemmas.{Bool.{cases_lt}, List.{get_or_past}}}
+use Rattle.std.proofs.lemmas.{Bool.{cases_lt, Decides.{nat_tests}}, List.{get_or_past}}
+use Rattle.std.proofs.Common.{◌≡◌, ℕ, suc, ◌<◌, Bool, true, List, ◌∷◌, length, Some, sym, ◌∙◌, arith}
 use mathlib.Core.Bool.{false≢true}
 use Rattle.lz_slot.specs.Counted.{of_pass}
 use Rattle.lz_vault.specs.Stages.{Cell, IsFree}
@@ -17,10 +18,7 @@ taken_limbo {u} {sights} a b = absurd (let e : Limbo sights ≡ Taken = sym a �
 
 -- a use that isn't taken is one of a slot of the table
 use_range : (uses : List Use) (s : ℕ) → (use_of uses s ≡ Taken → ⊥) → s < length uses
-use_range uses s not_taken = elim (cases_lt s (length uses)) [
-  | inl lt ↦ lt
-  | inr past ↦ absurd (not_taken (get_or_past uses s Taken past))
-]
+use_range uses s not_taken = grind (arith, nat_tests, cases_lt, get_or_past)
 
 module _ (shape : Shape) (cells : List Cell) (dead : Bool) (uses : List Use) (actors : List Actor) (P : Trace) (s : ℕ) (h : SlotsSound shape cells dead uses actors P) where
   -- a slot that is on a chain is a node

@@ -1,6 +1,6 @@
 -- The change that is noted of a pass that is inside is that which was published for it since it went in.
-use Rattle.std.proofs.Common.{◌≡◌, inl, inr, ℕ, ◌+◌, ◌≤◌, ◌%◌, ◌==◌, ◌&&◌, if◌then◌else◌, Bool, true, false, List, [], ◌∷◌, ◌++◌, length, Option, Some, None}
-use Rattle.std.{proofs.{Common.{refl, sym, ap, ◌∙◌, arith}, lemmas.Bool.{cases_eq, Decides.{nat_tests}}}, specs.Prelude.{nat_le}}
+use Rattle.std.proofs.Common.{◌≡◌, ℕ, ◌+◌, ◌≤◌, ◌%◌, ◌==◌, ◌&&◌, if◌then◌else◌, Bool, true, false, List, [], ◌∷◌, ◌++◌, length, Option, Some, None, refl, sym}
+use Rattle.std.{proofs.{Common.{◌∙◌, arith}, lemmas.Bool.{cases_eq, Decides.{nat_tests}}}, specs.Prelude.{nat_le}}
 use Rattle.lz_slot.{specs.{Counted.{set_of_pass}, declared.command.Command.{Command}}, proofs.Counted.{of_pass_same}}
 use Rattle.lz_list.specs.{declared.publishing.Publishing.TheVariants.{Linked as linked, Marked as marked}, Traces.{Trace}}
 use Rattle.lz_machine.specs.{declared.{event.Event.{Event, TheVariants.{Link, Mark}}, caller.Progress.{Progress}}, Yards.{Yard, IsInside, actor_at, pin_in}}
@@ -35,18 +35,7 @@ module _ (new : List ℕ) (a : ℕ) (P Q : Trace) (notes : Notes) where
   HasChange = (b n : ℕ) → own_change b n Q ≡ (if nat_le n (length P) && (a == b) then Some (length P) else own_change b n P)
 
   told_changed : HasChange → IsTold new P notes.changed Q (changes_at notes a (length P)).changed
-  told_changed has b n inside low told = elim (cases_eq b a) [
-    | inl same ↦
-        let late : nat_le n (length P) ≡ true = grind (arith, nat_tests, low) in
-        let own : (a == b) ≡ true = grind (arith, nat_tests, same) in
-        ap (changes_at notes a (length P)).changed same ∙ changed_same notes a (length P)
-        ∙ sym (has b n ∙ ap (λ (q : Bool). if q && (a == b) then Some (length P) else own_change b n P) late ∙ ap (λ (q : Bool). if q then Some (length P) else own_change b n P) own)
-    | inr other ↦
-        let late : nat_le n (length P) ≡ true = grind (arith, nat_tests, low) in
-        let away : (a == b) ≡ false = grind (arith, nat_tests, other) in
-        changed_other notes a (length P) b other ∙ told
-        ∙ sym (has b n ∙ ap (λ (q : Bool). if q && (a == b) then Some (length P) else own_change b n P) late ∙ ap (λ (q : Bool). if q then Some (length P) else own_change b n P) away)
-  ]
+  told_changed has b n inside low told = grind (arith, nat_tests, cases_eq, changes_at, changed_same, changed_other)
 
 -- a key is linked, and a node is marked
 pub told_link : (new : List ℕ) (y : Yard) (a : ℕ) (P : Trace) (notes : Notes) → IsTold new P notes.changed (publishes y (actor_at y a) a Link ++ P) (changes_at notes a (length P)).changed
@@ -57,12 +46,7 @@ told_mark new y a P notes = told_changed new a P (publishes y (actor_at y a) a M
 
 -- a call ends, and its pass is outside
 pub told_ended : (new : List ℕ) (a : ℕ) (P : Trace) (notes : Notes) (last : List Row) → pin_in new a % 2 ≡ 0 → IsTold new P notes.changed P (ends_now notes a last).changed
-told_ended new a P notes last even b n inside low told = elim (cases_eq b a) [
-  | inl same ↦ absurd (omega (arith, inside, even, ap (pin_in new) same))
-  | inr other ↦
-      let away : (b == a) ≡ false = grind (arith, nat_tests, other) in
-      ap (λ (q : Bool). if q then None else notes.changed b) away ∙ told
-]
+told_ended new a P notes last even b n inside low told = grind (arith, nat_tests, cases_eq)
 
 -- it ends as its pass goes out
 pub told_out : (pins : List ℕ) (a : ℕ) (P : Trace) (notes : Notes) (last : List Row) → pin_in pins a % 2 ≡ 1 → 1 ≤ a → a ≤ length pins → IsTold (set_of_pass pins a (pin_in pins a + 1)) P notes.changed P (ends_now notes a last).changed
@@ -71,12 +55,8 @@ told_out pins a P notes last odd low high = grind (arith, of_pass_same, told_end
 -- a trace has no change beyond its end
 pub none_beyond : (b n : ℕ) (P : Trace) → length P ≤ n → own_change b n P ≡ None
 none_beyond b n [] le = refl
-none_beyond b n (linked k s p ∷ P) le =
-    let early : nat_le n (length P) ≡ false = grind (arith, nat_tests, le) in
-    ap (λ (q : Bool). if q && (p == b) then Some (length P) else own_change b n P) early ∙ none_beyond b n P (omega (arith, le))
-none_beyond b n (marked k s p ∷ P) le =
-    let early : nat_le n (length P) ≡ false = grind (arith, nat_tests, le) in
-    ap (λ (q : Bool). if q && (p == b) then Some (length P) else own_change b n P) early ∙ none_beyond b n P (omega (arith, le))
+none_beyond b n (linked k s p ∷ P) le = grind (arith, nat_tests, none_beyond b n P (omega (arith, le)))
+none_beyond b n (marked k s p ∷ P) le = grind (arith, nat_tests, none_beyond b n P (omega (arith, le)))
 none_beyond b n (_ ∷ P) le = none_beyond b n P (omega (arith, le))
 
 -- a pass that is outside has changed nothing

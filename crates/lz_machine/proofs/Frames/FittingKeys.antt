@@ -1,7 +1,7 @@
 -- The key that a call writes is one that the file can hold.
 use Rattle.std.{specs.Prelude.{nat_lt}, proofs.{Common.{◌≡◌, ℕ, zero, suc, ◌≤◌, false, Option, Some, None, refl, arith}, lemmas.Option.{none-some}}}
 use Rattle.std.proofs.lemmas.Bool.Decides.{nat_tests}
-use Rattle.lz_slot.specs.{declared.{command.Command.{Command, TheVariants.{Add, Remove, Has}}, format.Format.{Format}}, Rooms.{largest_of}, Sets.{key_of}}
+use Rattle.lz_slot.specs.{declared.{command.Command.{Command, TheVariants.{Add}}, format.Format.{Format}}, Rooms.{largest_of}, Sets.{key_of}}
 use Rattle.lz_list.specs.{Words.{Words}, Traces.{Trace}}
 use Rattle.lz_machine.specs.declared.caller.Sequence.{Sequence, TheVariants.{Pinning, Resting, Writing, Adding, Removing, Releasing, Halting}}
 use Rattle.lz_machine.specs.{declared.{caller.Progress.{Progress, TheVariants.{Playing}}, event.Event.{Event, TheVariants.{WriteKey}}}, Yards.{Shape}}
@@ -30,20 +30,8 @@ module _ (words : Words) (shape : Shape) (v : View) (c : Command) (P0 P : Trace)
   writes_in (Resting s reply) (suc (suc i)) h is = absurd h
   writes_in (Releasing aim) (suc i) h is = absurd h
   writes_in (Halting reply) (suc i) h is = absurd h
-  writes_in (Adding s) i h is = adding c i h is
-    where
-      adding : (d : Command) (j : ℕ) → Relies v d (Playing (Adding s) j) P0 P changed → key_written (loaded words (event_at shape d (Playing (Adding s) j))) ≡ Some k → IsAdder c × (key_of c ≡ k) × (is_before_pin (Playing (Adding s) i) ≡ false)
-      adding (Add q) (suc (suc (suc (suc (suc j))))) g at = absurd g
-      adding (Remove q) j g at = absurd g
-      adding (Has q) j g at = absurd g
-      adding _ _ g at = absurd (none-some _ at)
-  writes_in (Removing s) i h is = removing c i h is
-    where
-      removing : (d : Command) (j : ℕ) → Relies v d (Playing (Removing s) j) P0 P changed → key_written (loaded words (event_at shape d (Playing (Removing s) j))) ≡ Some k → IsAdder c × (key_of c ≡ k) × (is_before_pin (Playing (Removing s) i) ≡ false)
-      removing (Remove q) (suc (suc (suc (suc (suc (suc (suc j))))))) g at = absurd g.2
-      removing (Add q) j g at = absurd g
-      removing (Has q) j g at = absurd g
-      removing _ _ g at = absurd (none-some _ at)
+  writes_in (Adding s) i h is = grind (arith, nat_tests, none-some)
+  writes_in (Removing s) i h is = grind (arith, nat_tests, none-some)
   writes_in _ _ h is = absurd (none-some _ is)
 
   -- only an adder writes a key, and it writes its own

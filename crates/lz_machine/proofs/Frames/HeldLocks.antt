@@ -70,14 +70,7 @@ module _ (buckets : ℕ) (e : Publishing) (actor : Actor) (P : Trace) (leaves : 
   pair_stays _ h = tt
 
 pub pair_published : (buckets : ℕ) (e : Publishing) (actor : Actor) (P : Trace) → (rests_on_pair actor.hold ≡ true → LeavesPair buckets e actor P) → RestsOn buckets actor.hold actor P → RestsOn buckets actor.hold actor (e ∷ P)
-pair_published buckets e actor P leaves h = go actor.hold refl
-  where
-    go : (hold : Hold) → actor.hold ≡ hold → RestsOn buckets actor.hold actor (e ∷ P)
-    go Checked is = pair_stays buckets e actor P (leaves (ap rests_on_pair is)) actor.hold h
-    go GateOpened is = pair_stays buckets e actor P (leaves (ap rests_on_pair is)) actor.hold h
-    go GateClosed is = pair_stays buckets e actor P (leaves (ap rests_on_pair is)) actor.hold h
-    go Marked is = pair_stays buckets e actor P (leaves (ap rests_on_pair is)) actor.hold h
-    go _ is = subst (λ (q : Hold). RestsOn buckets q actor (e ∷ P)) (sym is) tt
+pair_published buckets e actor P leaves h = grind (arith, nat_tests, pair_stays)
 
 -- what a publishing leaves of ranks and links, where it leaves the key words, and where it leaves each link
 rank_same : (e : Publishing) (P : Trace) → ((t : ℕ) → key_word t (e ∷ P) ≡ key_word t P) → (x : ℕ) → rank_at (λ t. key_word t (e ∷ P)) x ≡ rank_at (λ t. key_word t P) x

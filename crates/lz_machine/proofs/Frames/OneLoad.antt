@@ -1,6 +1,6 @@
 -- One load of a walk: what holds where a walk goes on and where it ends holds after each load, by hindsight.
-use Rattle.std.proofs.Common.{◌≡◌, ◌≢◌, inl, inr, ℕ, zero, suc, ◌<◌, ◌≤◌, ◌^◌, nat_lt, if◌then◌else◌, Bool, true, false, Option, Some, None, refl, sym, ◌∙◌}
-use Rattle.std.proofs.{Common.{subst, arith}, lemmas.Bool.Decides.{nat_tests, eqb_tells}}
+use Rattle.std.proofs.Common.{◌≡◌, inl, ℕ, zero, suc, ◌<◌, ◌≤◌, ◌^◌, nat_lt, if◌then◌else◌, Bool, true, Option, Some, None, refl, sym, subst, arith}
+use Rattle.std.proofs.lemmas.Bool.Decides.{nat_tests, eqb_tells}
 use Rattle.lz_slot.specs.Limits.{most_slots}
 use Rattle.lz_list.specs.declared.{flags.Flags.{Flags}, place.Place.{Place, TheVariants.{Bucket, Node}}, word.Word.TheVariants.{Head, Link}, walk.Look.{Look}}
 use Rattle.lz_list.specs.declared.walk.{Look.TheVariants.{AtHead, AtKey, AtMet, AtBelow}, Met.TheVariants.{Absent, Unmarked, Marked}}
@@ -57,14 +57,7 @@ module _ (buckets slots : ℕ) (few : slots ≤ most_slots) (P0 P : Trace) (law 
 
     -- by the node's key
     compared : (pred : Place) (s word : ℕ) → WasBetween buckets k pred (suc s) P0 P → key_word s P ≡ word → A (hopped buckets k (AtKey pred s) word)
-    compared pred s word h is = elim (eqb_tells word k) [
-      | inl same ↦ rw same.0 (more (AtMet pred s) (h, is ∙ same.1))
-      | inr other ↦ rw other.0 (go (nat_lt word k) refl other.1)
-    ]
-      where
-        go : (below : Bool) → nat_lt word k ≡ below → word ≢ k → A (if below then More (AtBelow s) else End pred (Some s) Absent)
-        go true lt other = more (AtBelow s) record { stood = there_since pred s h; low = grind (arith, nat_tests, lt, is) }
-        go false ge other = past pred (Some s) h (inr (grind (arith, nat_tests, ge, other, is)))
+    compared pred s word h is = grind (arith, nat_tests, eqb_tells, nat_lt, there_since)
 
     pub loaded : (look : Look) → IsLooking buckets k P0 P look → A (hopped buckets k look (word_after buckets P (wants buckets k look)))
     loaded AtHead h = subst (λ (n : ℕ). A (reaches (Bucket b) n)) (sym head_next) (reached (Bucket b) (head_word buckets b P) (record { bucket = refl; low = omega arith; were = hindsight buckets slots P0 b 0 P law quiet head_stood }))

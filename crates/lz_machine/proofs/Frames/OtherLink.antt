@@ -3,7 +3,7 @@ use Rattle.std.proofs.{Common.{◌≡◌, ◌≢◌, inl, inr, ℕ, zero, suc, �
 use Rattle.std.proofs.lemmas.Bool.Decides.{nat_tests}
 use mathlib.Core.Bool.{false≢true}
 use Rattle.lz_list.specs.declared.publishing.Publishing.TheVariants.{Linked as linked}
-use Rattle.lz_list.specs.Traces.{Trace, on, has_key, chain, chain_of, place_of, bucket_of, key_word, next_link, IsLoose, link_above, MayLink, Lawful, Adjacent}
+use Rattle.lz_list.specs.Traces.{Trace, on, has_key, chain_of, place_of, bucket_of, key_word, next_link, IsLoose, link_above, MayLink, Lawful, Adjacent}
 use Rattle.lz_list.proofs.Chains.{PlaceRank.{before_on, adjacent_none}, TraceChain.{words_show_chain, linked_off, apart_bucket}}
 use Rattle.lz_list.proofs.Traces.{Absence.{unlinked_is_settled}, Hindsight.{stands}, NodeBits.{on_insert_other}, WalkEnd.{on_insert}}
 use Rattle.lz_list.proofs.Changes.CheckedPlace.{place_between}
@@ -36,10 +36,7 @@ module _ (buckets slots : ℕ) (P : Trace) (law : Lawful buckets slots P) where
 
   module _ (k s p : ℕ) where
     pub loose_stays : (t : ℕ) → t ≢ s → IsLoose buckets t P → IsLoose buckets t (linked k s p ∷ P)
-    loose_stays t other loose b = elim (cases_Bool (on 0 (chain buckets b (linked k s p ∷ P)) (suc t))) [
-      | inl there ↦ absurd (false≢true (sym (loose b) ∙ grind (arith, nat_tests, there, on_insert_other k s 0 (suc t) (chain buckets b P))))
-      | inr off ↦ off
-    ]
+    loose_stays t other loose b = grind (arith, nat_tests, cases_Bool, false≢true, on_insert_other)
 
     -- a loose slot isn't the place that changes
     pub loose_place : (t : ℕ) → IsLoose buckets t P → place_of buckets k P ≢ suc t

@@ -21,12 +21,8 @@ flags_then Removed f = record { mark = f.mark; add_settled = true; remove_settle
 
 module _ (shape : Shape) (words : Words) (P : Trace) (trace : TraceSound shape words P) (few : shape.slots ≤ most_slots) (s : ℕ) (lt : s < shape.slots) (c : Change) where
   word_is : (change : Change) → link_with (next_of (get words (link_at s))) (flags_then change (flags_of (get words (link_at s)))) ≡ word_after shape.buckets (settled s change ∷ P) (link_at s)
-  word_is Added =
-      let same : (s == s) ≡ true = grind (arith, nat_tests) in
-      cc (link_next shape words P trace few s lt, link_mark shape words P trace few s lt, link_removed shape words P trace few s lt, same)
-  word_is Removed =
-      let same : (s == s) ≡ true = grind (arith, nat_tests) in
-      cc (link_next shape words P trace few s lt, link_mark shape words P trace few s lt, same)
+  word_is Added = grind (arith, nat_tests, link_next, link_mark, link_removed)
+  word_is Removed = grind (arith, nat_tests, link_next, link_mark)
 
   abbrev pub stored : Words
   stored = set words (link_at s) (link_with (next_of (get words (link_at s))) (flags_then c (flags_of (get words (link_at s)))))

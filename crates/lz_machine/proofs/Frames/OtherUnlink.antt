@@ -27,10 +27,7 @@ module _ (buckets slots k x s p : ℕ) (P : Trace) (law : Lawful buckets slots P
   loose_place t loose is = false≢true (sym (loose (bucket_of buckets k)) ∙ ap (on 0 (chain_of buckets k P)) (sym is) ∙ before_on k 0 (chain_of buckets k P))
 
   pub loose_stays : (t : ℕ) → IsLoose buckets t P → IsLoose buckets t (unlinked k s p ∷ P)
-  loose_stays t loose b = elim (cases_Bool (on 0 (chain buckets b (unlinked k s p ∷ P)) (suc t))) [
-    | inl there ↦ absurd (false≢true (sym (loose b) ∙ grind (arith, nat_tests, there, on_without k 0 (suc t) (chain buckets b P))))
-    | inr off ↦ off
-  ]
+  loose_stays t loose b = grind (arith, nat_tests, cases_Bool, false≢true, on_without)
 
   -- the node is on no chain then
   pub now_loose : IsLoose buckets s (unlinked k s p ∷ P)

@@ -1,10 +1,9 @@
 -- Actors that answer without a pin, and the pin words after an Answer.
-use Rattle.std.proofs.Common.{◌≡◌, ◌≢◌, ℕ, ◌+◌, ◌≤◌, ◌%◌, ◌==◌, ◌&&◌, ◌||◌, not, if◌then◌else◌, Bool, true, false, length, refl, sym, ap, ◌∙◌, arith}
+use Rattle.std.proofs.Common.{◌≡◌, ◌≢◌, ℕ, ◌≤◌, ◌%◌, ◌==◌, ◌&&◌, ◌||◌, not, Bool, true, false, length, refl, sym, ap, ◌∙◌, arith}
 use Rattle.std.proofs.lemmas.Bool.Decides.{nat_tests}
 use mathlib.Core.Bool.{false≢true}
 use Rattle.lz_slot.{specs.Counted.{of_pass}, proofs.Counted.{of_pass_same, of_pass_other}}
 use Rattle.lz_allot.specs.Uses.{is_outside}
-use Rattle.lz_list.specs.{declared.word.Word.TheVariants.{Pin as pin_at}, Words.{set}}
 use Rattle.lz_machine.specs.declared.{actor.Actor.{Actor}, event.{Event.TheVariants.{Answer}, Reply.TheVariants.{Worn as SaysWorn}}, caller.Progress.{Progress}}
 use Rattle.lz_machine.specs.{declared.caller.Progress.TheVariants.{Answering}, Yards.{Yard}, Table.{last_pin, pin_of, stays_out, pin_answered, words_after}}
 use Rattle.lz_machine.specs.CallersSound.{IsSide, is_before_pin, side_of}
@@ -51,15 +50,7 @@ answered_even actor pin may = grind arith
 -- the pin words after an Answer
 module _ (y : Yard) (actor : Actor) (a : ℕ) where
   pub answered_pin : 1 ≤ a → a ≤ length y.words.pins → of_pass (words_after y actor a Answer).pins a 0 ≡ pin_answered actor (pin_of y a)
-  answered_pin low high = go (stays_out actor (pin_of y a))
-    where
-      go : (out : Bool) → of_pass (if out then y.words else set y.words (pin_at a) (pin_of y a + 1)).pins a 0 ≡ (if out then pin_of y a else pin_of y a + 1)
-      go true = refl
-      go false = of_pass_same y.words.pins a (pin_of y a + 1) 0 low high
+  answered_pin low high = grind (arith, nat_tests, of_pass_same)
 
   pub answered_other : (b : ℕ) → b ≢ a → of_pass (words_after y actor a Answer).pins b 0 ≡ of_pass y.words.pins b 0
-  answered_other b other = go (stays_out actor (pin_of y a))
-    where
-      go : (out : Bool) → of_pass (if out then y.words else set y.words (pin_at a) (pin_of y a + 1)).pins b 0 ≡ of_pass y.words.pins b 0
-      go true = refl
-      go false = of_pass_other y.words.pins a b (pin_of y a + 1) 0 other
+  answered_other b other = grind (arith, nat_tests, of_pass_other)

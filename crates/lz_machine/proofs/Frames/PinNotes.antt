@@ -1,6 +1,5 @@
 -- What is noted of a pass when it goes in: the trace as it was.
-use Rattle.std.proofs.Common.{◌≡◌, ◌≢◌, inl, inr, ℕ, ◌+◌, ◌≤◌, ◌%◌, ◌==◌, if◌then◌else◌, Bool, true, false, List, length, ap, subst, arith}
-use Rattle.std.proofs.lemmas.Bool.{cases_eq, Decides.{nat_tests}}
+use Rattle.std.proofs.{Common.{◌≡◌, ◌≢◌, ℕ, ◌+◌, ◌≤◌, ◌%◌, ◌==◌, if◌then◌else◌, List, length, subst, arith}, lemmas.Bool.{cases_eq, Decides.{nat_tests}}}
 use Rattle.lz_slot.{specs.Counted.{set_of_pass}, proofs.Counted.{of_pass_same, of_pass_other}}
 use Rattle.lz_list.specs.Traces.{Trace}
 use Rattle.lz_machine.specs.Yards.{IsInside, pin_in}
@@ -22,14 +21,7 @@ module _ (pins : List ℕ) (a : ℕ) (P : Trace) (begun : ℕ → Trace) where
 
   -- the pass goes in
   pub noted_in : pin_in pins a % 2 ≡ 0 → IsNoted pins counted P begun (λ b. if b == a then P else begun b)
-  noted_in even b inside = elim (cases_eq b a) [
-    | inl same ↦
-        let is : (b == a) ≡ true = grind (arith, nat_tests, same) in
-        ((λ was. absurd (omega (arith, was, even, ap (pin_in pins) same))), λ now. ap (λ (q : Bool). if q then P else begun b) is)
-    | inr other ↦
-        let is : (b == a) ≡ false = grind (arith, nat_tests, other) in
-        ((λ still. ap (λ (q : Bool). if q then P else begun b) is), λ was. absurd (omega (arith, was, other_pin b other inside)))
-  ]
+  noted_in even b inside = grind (arith, nat_tests, cases_eq, other_pin)
 
   -- the pass goes out
   pub noted_out : pin_in pins a % 2 ≡ 1 → 1 ≤ a → a ≤ length pins → IsNoted pins counted P begun begun

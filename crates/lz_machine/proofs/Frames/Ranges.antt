@@ -19,10 +19,7 @@ few_slots {shape} {vault} images = slots_of_format vault.format shape.slots imag
 -- a node on a chain lies in the table
 pub on_range : (buckets slots : ℕ) (P : Trace) (b s : ℕ) → Lawful buckets slots P → on 0 (chain buckets b P) (suc s) ≡ true → s < slots
 on_range buckets slots [] b s law there = absurd (grind (arith, nat_tests, there))
-on_range buckets slots (linked k t p ∷ P) b s law there = elim (cases_eq s t) [
-  | inl same ↦ omega (arith, law.0.in_range, same)
-  | inr other ↦ on_range buckets slots P b s law.1 (grind (arith, nat_tests, there, other, on_insert_other k t 0 (suc s) (chain buckets b P)))
-]
+on_range buckets slots (linked k t p ∷ P) b s law there = grind (arith, nat_tests, cases_eq, on_range buckets slots P b s law.1, on_insert_other)
 on_range buckets slots (unlinked k t p ∷ P) b s law there = on_range buckets slots P b s law.1 (grind (arith, nat_tests, there, on_without k 0 (suc s) (chain buckets b P)))
 on_range buckets slots (e ∷ P) b s law there = on_range buckets slots P b s law.1 there
 
@@ -54,27 +51,15 @@ link_in_range slots k x (n ∷ c) within =
 pub added_tells : (buckets slots s : ℕ) (P : Trace) → Lawful buckets slots P → has_added s P ≡ true → is_settled (linking_in s P) P ≡ true
 added_tells buckets slots s [] law is = absurd (false≢true is)
 added_tells buckets slots s (linked k t p ∷ P) law is = grind (arith, eqb_tells, added_tells buckets slots s P law.1 is)
-added_tells buckets slots s (settled t c ∷ P) law is = elim (eqb_tells t s) [
-  | inl same ↦ grind (arith, nat_tests, same.1)
-  | inr f ↦ grind (arith, nat_tests, added_tells buckets slots s P law.1 (rw f.0 at is))
-]
-added_tells buckets slots s (link_prepared t v ∷ P) law is = elim (eqb_tells t s) [
-  | inl same ↦ absurd (false≢true (rw same.0 at is))
-  | inr f ↦ added_tells buckets slots s P law.1 (rw f.0 at is)
-]
+added_tells buckets slots s (settled t c ∷ P) law is = grind (arith, nat_tests, eqb_tells, added_tells buckets slots s P law.1)
+added_tells buckets slots s (link_prepared t v ∷ P) law is = grind (arith, nat_tests, eqb_tells, false≢true, added_tells buckets slots s P law.1)
 added_tells buckets slots s (e ∷ P) law is = added_tells buckets slots s P law.1 is
 
 pub removed_tells : (buckets slots s : ℕ) (P : Trace) → Lawful buckets slots P → has_removed s P ≡ true → is_removed (linking_in s P) P ≡ true
 removed_tells buckets slots s [] law is = absurd (false≢true is)
 removed_tells buckets slots s (linked k t p ∷ P) law is = grind (arith, eqb_tells, removed_tells buckets slots s P law.1 is)
-removed_tells buckets slots s (settled t c ∷ P) law is = elim (eqb_tells t s) [
-  | inl same ↦ grind (arith, nat_tests, same.1, removed_tells buckets slots s P law.1)
-  | inr f ↦ grind (arith, nat_tests, removed_tells buckets slots s P law.1 (rw f.0 at is))
-]
-removed_tells buckets slots s (link_prepared t v ∷ P) law is = elim (eqb_tells t s) [
-  | inl same ↦ absurd (false≢true (rw same.0 at is))
-  | inr f ↦ removed_tells buckets slots s P law.1 (rw f.0 at is)
-]
+removed_tells buckets slots s (settled t c ∷ P) law is = grind (arith, nat_tests, eqb_tells, removed_tells buckets slots s P law.1)
+removed_tells buckets slots s (link_prepared t v ∷ P) law is = grind (arith, nat_tests, eqb_tells, false≢true, removed_tells buckets slots s P law.1)
 removed_tells buckets slots s (e ∷ P) law is = removed_tells buckets slots s P law.1 is
 
 -- a link that is prepared leads to a slot or to the end

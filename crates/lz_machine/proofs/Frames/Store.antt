@@ -24,9 +24,7 @@ module _ (shape : Shape) (words : Words) (P : Trace) (trace : TraceSound shape w
   -- a node is marked
   module _ (k s p : ℕ) (lt : s < shape.slots) (may : May shape.buckets shape.slots (marked k s p) P) where
     marked_word : link_with (next_of (get words (link_at s))) (marked_flags (flags_of (get words (link_at s)))) ≡ word_after buckets (marked k s p ∷ P) (link_at s)
-    marked_word =
-        let same : (s == s) ≡ true = grind (arith, nat_tests) in
-        cc (link_next shape words P trace few s lt, link_added shape words P trace few s lt, link_removed shape words P trace few s lt, same)
+    marked_word = grind (arith, nat_tests, link_next, link_added, link_removed)
 
     marked_other : (t : ℕ) → t ≢ s → word_after buckets (marked k s p ∷ P) (link_at t) ≡ word_after buckets P (link_at t)
     marked_other t other = let apart : (s == t) ≡ false = grind (arith, nat_tests, other) in cc apart

@@ -1,6 +1,7 @@
 -- How uses change when pins are seen, and when limbo slots that every pass has left become free: what is said of reuse stays.
+use Rattle.std.proofs.lemmas.{Bool.{cases_Bool, cases_eq, cases_lt, Decides.{nat_tests}}, List.{get_or_past, length-map}}
 use Rattle.std.proofs.Common.{◌≡◌, ◌⊎◌, inl, inr, ℕ, zero, suc, ◌≤◌, true, List, [], ◌∷◌, length, map, get_or, refl, sym, ap, ◌∙◌, subst, arith}
-use Rattle.std.{proofs.lemmas.{Bool.{cases_Bool, cases_eq, cases_lt}, List.{get_or_past, length-map}}, specs.List.{list_all}}
+use Rattle.std.specs.List.{list_all}
 use mathlib.Core.Bool.{false≢true}
 use Rattle.lz_slot.{specs.Counted.{of_pass, set_of_pass}, proofs.Counted.{of_pass_same, of_pass_other, length-set_of_pass}}
 use Rattle.lz_allot.specs.declared.sight.Sight.{Sight, TheVariants.{Unseen, Inside, Left}}
@@ -38,12 +39,7 @@ inside_range pins (suc i) inside = grind (arith, cases_lt, get_or_past)
 -- pins are seen
 module _ (p v : ℕ) where
   pub seen_keeps : (uses : List Use) → KeepsUses uses (see_pin p v uses)
-  seen_keeps uses = record {
-    count = length-map uses (see_pin_at p v);
-    taken = λ s is. use_map (see_pin_at p v) uses s refl ∙ ap (see_pin_at p v) is;
-    free = λ s is. use_map (see_pin_at p v) uses s refl ∙ ap (see_pin_at p v) is;
-    limbo = λ s sights is. inr (set_of_pass sights p (sight_after v (of_pass sights p Left)), use_map (see_pin_at p v) uses s refl ∙ ap (see_pin_at p v) is);
-  }
+  seen_keeps uses = grind (arith, nat_tests, length-map, use_map)
 
   -- a slot in limbo was so before
   see_at : (u : Use) (seen : List Sight) → see_pin_at p v u ≡ Limbo seen → (sights : List Sight) × (u ≡ Limbo sights) × (seen ≡ set_of_pass sights p (sight_after v (of_pass sights p Left)))
@@ -74,15 +70,7 @@ module _ (p v : ℕ) where
 
 -- slots that every pass has left become free
 pub collect_keeps : (uses : List Use) → KeepsUses uses (collect uses)
-collect_keeps uses = record {
-  count = length-map uses collect_at;
-  taken = λ s is. use_map collect_at uses s refl ∙ ap collect_at is;
-  free = λ s is. use_map collect_at uses s refl ∙ ap collect_at is;
-  limbo = λ s sights is. elim (cases_Bool (list_all has_left sights)) [
-    | inl all ↦ inl (use_map collect_at uses s refl ∙ ap collect_at is ∙ rw all refl)
-    | inr some ↦ inr (sights, use_map collect_at uses s refl ∙ ap collect_at is ∙ rw some refl)
-  ];
-}
+collect_keeps uses = grind (arith, nat_tests, length-map, use_map, cases_Bool)
 
 collected_limbo : (u : Use) (seen : List Sight) → collect_at u ≡ Limbo seen → u ≡ Limbo seen
 collected_limbo u seen is = grind arith

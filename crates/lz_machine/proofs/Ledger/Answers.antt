@@ -1,15 +1,12 @@
 -- The listed calls get their answers.
-use Rattle.std.proofs.Common.{◌≡◌, ℕ, zero, suc, ◌<◌, Bool, true, false, not, ◌==◌, ◌&&◌, List, [], ◌∷◌, ◌++◌, MatchOption, refl, sym, ap, ◌∙◌, subst, inl, inr}
-use Rattle.std.proofs.{Common.{arith, filter}, lemmas.Bool.{cases_Bool, cases_eq, Decides.{nat_tests}}}
-use Rattle.lz_slot.{specs.Sets.{key_of, Keys, after, reply, moved, Same}, proofs.Sets.{after_at, moved_other, after_same}}
+use Rattle.std.proofs.Common.{◌≡◌, ℕ, zero, suc, ◌<◌, Bool, true, not, ◌==◌, ◌&&◌, List, [], ◌∷◌, ◌++◌, MatchOption, refl, arith, filter}
+use Rattle.std.proofs.lemmas.Bool.{cases_Bool, cases_eq, Decides.{nat_tests}}
+use Rattle.lz_slot.{specs.Sets.{key_of, Keys, after, reply, Same}, proofs.Sets.{after_at, moved_other, after_same}}
 use Rattle.lz_machine.specs.Ledgers.{Row, quiet_at, change_at, listed, Gives, ends, Each, IsRight, Moves, Leads}
 
 gives_same : (L : List Row) (S T : Keys) → Same S T → Gives T L → Gives S L
 gives_same [] S T same gives = tt
-gives_same (r ∷ L) S T same gives = (
-  subst (λ (was : Bool). MatchOption r.answer (Unit {0}) (λ a. reply r.command was ≡ a)) (sym (same (key_of r.command))) gives.0,
-  gives_same L (after r.command S) (after r.command T) (after_same r.command S T same) gives.1,
-)
+gives_same (r ∷ L) S T same gives = grind (arith, nat_tests, gives_same L (after r.command S) (after r.command T) (after_same r.command S T same) gives.1, after_same)
 
 ends_same : (L : List Row) (S T : Keys) → Same S T → Same (ends S L) (ends T L)
 ends_same [] S T same = same
@@ -25,10 +22,7 @@ ends_append (r ∷ L) M S = ends_append L M (after r.command S)
 
 pub each_filter : (P : Row → Type 0) (test : Row → Bool) (L : List Row) → Each P L → Each (λ r. P r × (test r ≡ true)) (filter test L)
 each_filter P test [] each = tt
-each_filter P test (r ∷ L) each = elim (cases_Bool (test r)) [
-  | inl t ↦ rw t ((each.0, t), each_filter P test L each.1)
-  | inr f ↦ rw f (each_filter P test L each.1)
-]
+each_filter P test (r ∷ L) each = grind (arith, nat_tests, cases_Bool, each_filter P test L each.1)
 
 pub each_weaker : (P Q : Row → Type 0) → ((r : Row) → P r → Q r) → (L : List Row) → Each P L → Each Q L
 each_weaker P Q f [] each = tt
@@ -40,34 +34,15 @@ record IsQuiet (S : Keys) (r : Row) : Type 0 where
   leaves : Same (after r.command S) S
 
 pub leads_append : (S T U : Keys) (L M : List Row) → Leads S L T → Leads T M U → Leads S (L ++ M) U
-leads_append S T U L M first second = record {
-  gives = gives_append L M S first.gives (gives_same M (ends S L) T first.ends_in second.gives);
-  ends_in = λ k. ap (λ (V : Keys). V k) (ends_append L M S) ∙ ends_same M (ends S L) T first.ends_in k ∙ second.ends_in k;
-}
+leads_append S T U L M first second = grind (arith, nat_tests, gives_append, gives_same, ends_append, ends_same)
 
 leads_quiet : (S : Keys) (L : List Row) → Each (IsQuiet S) L → Leads S L S
 leads_quiet S [] each = record { gives = tt; ends_in = λ k. refl }
-leads_quiet S (r ∷ L) each =
-    let rest = leads_quiet S L each.1 in
-    record {
-      gives = (each.0.answer, gives_same L (after r.command S) S each.0.leaves rest.gives);
-      ends_in = λ k. ends_same L (after r.command S) S each.0.leaves k ∙ rest.ends_in k;
-    }
+leads_quiet S (r ∷ L) each = grind (arith, nat_tests, leads_quiet S L each.1, gives_same, ends_same)
 
 module _ (members : ℕ → Keys) (rows : List Row) (right : Each (IsRight members) rows) where
   right_quiet : (j : ℕ) (r : Row) → IsRight members r × ((not r.changes && (r.position == j)) ≡ true) → IsQuiet (members j) r
-  right_quiet j r facts =
-      let kind : r.changes ≡ false = grind (arith, facts.1) in
-      let place : r.position ≡ j = grind (arith, nat_tests, facts.1) in
-      let k = key_of r.command in
-      let same = facts.0.quiet kind in
-      subst (λ (i : ℕ). IsQuiet (members i) r) place (record {
-        answer = facts.0.answer;
-        leaves = λ q. elim (cases_eq k q) [
-          | inl e ↦ after_at r.command (members r.position) q ∙ subst (λ (i : ℕ). moved i r.command (members r.position i) ≡ members r.position i) e same
-          | inr other ↦ after_at r.command (members r.position) q ∙ moved_other r.command q (members r.position q) other
-        ];
-      })
+  right_quiet j r facts = grind (arith, nat_tests, cases_eq, after_at, moved_other)
 
   leads_change : (j : ℕ) (L : List Row) → Each (λ r. IsRight members r × ((r.changes && (r.position == j)) ≡ true)) L → Moves (members j) (members (suc j)) L → Leads (members j) L (members (suc j))
   leads_change j L each moves = grind arith

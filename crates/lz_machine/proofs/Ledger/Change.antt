@@ -1,6 +1,6 @@
 -- The ledger where a call changes something: its row, without an answer yet, is put among those of the open calls.
-use Rattle.std.proofs.Common.{◌≡◌, ◌≢◌, ◌⊎◌, ⊎_elim, inl, inr, ℕ, zero, suc, ◌<◌, ◌≤◌, ◌+◌, ◌==◌, ◌&&◌, if◌then◌else◌, Bool, true, false, List, [], ◌∷◌, ◌++◌}
-use Rattle.std.proofs.{Common.{length, Option, Some, None, refl, sym, ap, ◌∙◌, subst, arith, append_assoc}, lemmas.Bool.{cases_Bool, cases_eq, cases_lt}}
+use Rattle.std.proofs.Common.{◌≡◌, ◌≢◌, ◌⊎◌, ⊎_elim, inl, inr, ℕ, zero, suc, ◌<◌, ◌≤◌, ◌+◌, ◌==◌, if◌then◌else◌, Bool, true, false, List, [], ◌∷◌, ◌++◌, length}
+use Rattle.std.proofs.{Common.{Option, Some, None, refl, sym, ap, ◌∙◌, subst, arith, append_assoc}, lemmas.Bool.{cases_Bool, cases_eq, cases_lt}}
 use Rattle.std.proofs.lemmas.{Bool.Decides.{nat_tests, eqb_tells}, List.{append-nil}, Option.{same_Some, none-some}}
 use Rattle.lz_slot.specs.{declared.command.Command.{Command}, Sets.{key_of, reply}, Histories.{History, IsCalled, IsAnswered, IsBefore, IsUnderWay}}
 use Rattle.lz_list.specs.{declared.publishing.Publishing.{Publishing}, Traces.{Trace, member}}
@@ -42,13 +42,7 @@ module _ (r : Row) where
 
   change_here : (j : ℕ) (F B : List Row) → r.position ≡ j → r.changes ≡ true → change_at j (F ++ B) ≡ [] → change_at j (F ++ r ∷ B) ≡ r ∷ []
   change_here j [] B same does none = grind (arith, nat_tests, same, does, none)
-  change_here j (q ∷ F) B same does none = elim (cases_Bool (q.changes && (q.position == j))) [
-    | inl passes ↦ absurd (full (rw passes at none))
-    | inr fails ↦ rw fails (change_here j F B same does (rw fails at none))
-  ]
-    where
-      full : {L : List Row} → q ∷ L ≡ [] → ⊥
-      full e = absurd cc
+  change_here j (q ∷ F) B same does none = grind (arith, nat_tests, cases_Bool, change_here j F B same does)
 
 -- notes in which a call has changed something at this position
 abbrev pub changes_at : Notes → ℕ → ℕ → Notes

@@ -63,10 +63,7 @@ has_append r (l ∷ L) M (inr there) = ⊎_elim (λ left. inl (inr left)) (λ ri
 
 pub has_filter_of : (test : Row → Bool) (r : Row) (L : List Row) → HasRow r (filter test L) → HasRow r L
 has_filter_of test r [] h = h
-has_filter_of test r (l ∷ L) h = elim (cases_Bool (test l)) [
-  | inl t ↦ ⊎_elim (λ here. inl here) (λ there. inr (has_filter_of test r L there)) (rw t at h)
-  | inr f ↦ inr (has_filter_of test r L (rw f at h))
-]
+has_filter_of test r (l ∷ L) h = grind (arith, nat_tests, cases_Bool, has_filter_of test r L)
 
 has_listed : (n : ℕ) (r : Row) (rows : List Row) → HasRow r (listed rows n) → HasRow r rows
 has_listed zero r rows h = has_filter_of (λ r. not r.changes && (r.position == 0)) r rows h
@@ -86,12 +83,7 @@ was_answered i j [] none = absurd none
 
 module _ (n : ℕ) (P : Trace) (rows tail : List Row) (M : History) (ledger : IsLedger n P rows tail M) where
   within : (r : Row) → HasRow r rows → is_within (length P) r ≡ true
-  within r h =
-      let of = each_has (IsRowOf n P) r rows ledger.each h in
-      elim (cases_Bool r.changes) [
-        | inl does ↦ grind (arith, nat_tests, (of.changing does).within)
-        | inr none ↦ grind (arith, nat_tests, of.late)
-      ]
+  within r h = grind (arith, nat_tests, each_has, cases_Bool)
 
   order_fits : (i j : ℕ) → IsBefore M i j → IsListed i (numbers (listed rows (length P) ++ tail)) → IsListed j (numbers (listed rows (length P) ++ tail)) → IsEarlier i j (numbers (listed rows (length P) ++ tail))
   order_fits i j before at_i at_j =

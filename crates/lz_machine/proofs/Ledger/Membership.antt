@@ -26,10 +26,7 @@ upto_all n (e ∷ P) le = grind (arith, nat_tests)
 
 pub upto_more : (j : ℕ) (P : Trace) → j < length P → upto (suc j) P ≡ publishing j P ∷ upto j P
 upto_more j [] lt = absurd (omega arith)
-upto_more j (e ∷ P) lt = elim (cases_eq (length P) j) [
-  | inl here ↦ grind (arith, nat_tests, upto_all j P)
-  | inr before ↦ grind (arith, nat_tests, upto_more j P)
-]
+upto_more j (e ∷ P) lt = grind (arith, nat_tests, cases_eq, upto_all, upto_more j P)
 
 -- the last change of a key is in the past
 pub last_change_past : (k : ℕ) (P : Trace) → last_change k P ≤ length P
@@ -45,11 +42,7 @@ keeps_key k _ P none = (refl, refl)
 unchanged : (k : ℕ) (R P : Trace) → Begins R P → last_change k P ≤ length R → (member k P ≡ member k R) × (linking k P ≡ linking k R)
 unchanged k R [] to late = (ap (member k) (sym to), ap (linking k) (sym to))
 unchanged k R (e ∷ P) (inl here) late = (ap (member k) (sym here), ap (linking k) (sym here))
-unchanged k R (e ∷ P) (inr to) late =
-    let no : changes_key k e ≡ false = grind (arith, shorter R P to) in
-    let same = keeps_key k e P no in
-    let rest = unchanged k R P to (grind arith) in
-    (same.0 ∙ rest.0, same.1 ∙ rest.1)
+unchanged k R (e ∷ P) (inr to) late = grind (arith, nat_tests, shorter, keeps_key, unchanged k R P to)
 
 -- what was settled at R isn't open
 pub yes_is_kept : (k : ℕ) (R P : Trace) → SettledYes R P k → last_change k P ≤ length R → IsOpen k P → ⊥
@@ -76,10 +69,7 @@ module _ (n : ℕ) (P : Trace) (drop : Keys) (may : MayDrop n P drop) where
   -- a change isn't past the last one
   change_before : (k j : ℕ) (Q : Trace) → j < length Q → changes_key k (publishing j Q) ≡ true → j < last_change k Q
   change_before k j [] lt is = absurd (omega arith)
-  change_before k j (e ∷ Q) lt is = elim (cases_eq (length Q) j) [
-    | inl here ↦ grind (arith, nat_tests)
-    | inr before ↦ grind (arith, nat_tests, change_before k j Q)
-  ]
+  change_before k j (e ∷ Q) lt is = grind (arith, nat_tests, cases_eq, change_before k j Q)
 
   pub row_is_right : (r : Row) → IsRowOf n P r → IsRight (kept_keys n P drop) r
   row_is_right r h = elim (cases_Bool r.changes) [
@@ -102,33 +92,17 @@ module _ (n : ℕ) (P : Trace) (drop : Keys) (may : MayDrop n P drop) where
 
   last_is_change : (k j : ℕ) (Q : Trace) → last_change k Q ≡ suc j → changes_key k (publishing j Q) ≡ true
   last_is_change k j [] is = absurd (omega arith)
-  last_is_change k j (e ∷ Q) is = elim (cases_Bool (changes_key k e)) [
-    | inl t ↦
-        let here : length Q ≡ j = grind arith in
-        grind (arith, nat_tests)
-    | inr f ↦
-        let rest : last_change k Q ≡ suc j = grind arith in
-        grind (arith, nat_tests, last_is_change k j Q rest, last_change_past k Q)
-  ]
+  last_is_change k j (e ∷ Q) is = grind (arith, nat_tests, cases_Bool, last_is_change k j Q, last_change_past)
 
   module _ (j : ℕ) (early : n ≤ j) (late : j < length P) (e : Publishing) (is : publishing j P ≡ e) where
     next : upto (suc j) P ≡ e ∷ upto j P
     next = rw (← is) (upto_more j P late)
 
     stays : (k : ℕ) → changes_key k e ≡ false → kept_keys n P drop (suc j) k ≡ kept_keys n P drop j k
-    stays k none =
-        let at : max n j ≡ j = omega arith in
-        let at_next : max n (suc j) ≡ suc j = omega arith in
-        let same : member k (upto (suc j) P) ≡ member k (upto j P) = ap (member k) next ∙ (keeps_key k e (upto j P) none).0 in
-        let not_last : last_change k P ≢ suc j = λ last. false≢true (sym none ∙ ap (changes_key k) (sym is) ∙ last_is_change k j P last) in
-        rw (at, at_next) (grind (arith, nat_tests))
+    stays k none = grind (arith, nat_tests, next, keeps_key, false≢true, last_is_change)
 
     dropped : (k : ℕ) → drop k ≡ true → last_change k P ≡ suc j → member k (e ∷ upto j P) ≡ not (member k (upto j P)) → kept_keys n P drop (suc j) k ≡ kept_keys n P drop j k
-    dropped k does last flips =
-        let at : max n j ≡ j = omega arith in
-        let at_next : max n (suc j) ≡ suc j = omega arith in
-        let flip : member k (upto (suc j) P) ≡ not (member k (upto j P)) = ap (member k) next ∙ flips in
-        rw (at, at_next) (grind (arith, nat_tests))
+    dropped k does last flips = grind (arith, nat_tests, next)
 
     becomes : (k : ℕ) → changes_key k e ≡ true → (drop k && (last_change k P == suc j)) ≡ false → kept_keys n P drop (suc j) k ≡ member k (e ∷ upto j P)
     becomes k does kept = members_before k (suc j) (omega arith) (λ d. grind (arith, nat_tests, change_before k j P late (ap (changes_key k) is ∙ does))) ∙ ap (member k) next

@@ -61,13 +61,7 @@ times_split n i (r ∷ L) = grind (arith, nat_tests, times_split n i L)
 module _ (rows : List Row) where
   pub listed_has : (n : ℕ) (r : Row) → HasRow r rows → is_within n r ≡ true → HasRow r (listed rows n)
   listed_has zero r h passes = has_filter (λ r. not r.changes && (r.position == 0)) r rows h (grind (arith, nat_tests))
-  listed_has (suc n) r h passes = elim (cases_Bool (is_within n r)) [
-    | inl t ↦ has_left r (listed rows n) _ (listed_has n r h t)
-    | inr f ↦ has_right r (listed rows n) _ (elim (cases_Bool r.changes) [
-      | inl c ↦ has_left r (change_at n rows) _ (has_filter (λ r. r.changes && (r.position == n)) r rows h (grind (arith, nat_tests)))
-      | inr c ↦ has_right r (change_at n rows) _ (has_filter (λ r. not r.changes && (r.position == suc n)) r rows h (grind (arith, nat_tests)))
-    ])
-  ]
+  listed_has (suc n) r h passes = grind (arith, nat_tests, cases_Bool, has_left, listed_has n, has_right, has_filter)
 
   -- a call of no greater position, and without change where they are equal, stands first if it did in the rows
   pub listed_order : (n : ℕ) (r q : Row) → Stands r q rows → r.position ≤ q.position → (r.position ≡ q.position → r.changes ≡ false) → is_within n q ≡ true → Stands r q (listed rows n)

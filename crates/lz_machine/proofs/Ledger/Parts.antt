@@ -1,6 +1,6 @@
 -- The rows of a ledger in parts: a call's row is taken out, and put after those that ended.
-use Rattle.std.proofs.Common.{◌≡◌, ◌≢◌, ◌⊎◌, ⊎_elim, inl, inr, ℕ, zero, suc, ◌<◌, ◌≤◌, ◌+◌, ◌==◌, if◌then◌else◌, true, false, List, [], ◌∷◌, ◌++◌, length}
-use Rattle.std.proofs.{Common.{Option, Some, None, refl, sym, ap, ◌∙◌, arith, append_assoc}, lemmas.Bool.{cases_Bool, cases_eq, Decides.{nat_tests, eqb_tells}}}
+use Rattle.std.proofs.Common.{◌≡◌, ◌≢◌, ◌⊎◌, ⊎_elim, inl, inr, ℕ, zero, suc, ◌<◌, ◌≤◌, ◌+◌, ◌==◌, if◌then◌else◌, List, [], ◌∷◌, ◌++◌, length, Option, Some}
+use Rattle.std.proofs.{Common.{None, refl, sym, ap, ◌∙◌, arith, append_assoc}, lemmas.Bool.{cases_Bool, cases_eq, Decides.{nat_tests, eqb_tells}}}
 use Rattle.std.proofs.lemmas.List.{append-nil}
 use Rattle.lz_slot.{specs.Counted.{set_of_pass}, proofs.Counted.{of_pass_same, of_pass_other}}
 use Rattle.lz_list.specs.declared.publishing.Publishing.{Publishing, TheVariants.{Linked as linked, Marked as marked}}
@@ -75,11 +75,7 @@ module _ (callers : List (Option Caller)) (notes : Notes) (a : ℕ) (last : List
   ]
 
 times_has : (i : ℕ) (x : Row) (L : List Row) → HasRow x L → x.number ≡ i → times i L ≡ 0 → ⊥
-times_has i x (l ∷ L) (inl here) number none = go (eqb_tells l.number i)
-  where
-    go : ((l.number == i) ≡ true) × (l.number ≡ i) ⊎ (((l.number == i) ≡ false) × (l.number ≢ i)) → ⊥
-    go (inl same) = omega (arith, rw same.0 at none)
-    go (inr other) = other.1 (ap (λ (q : Row). q.number) here ∙ number)
+times_has i x (l ∷ L) (inl here) number none = grind (arith, nat_tests, eqb_tells)
 times_has i x (l ∷ L) (inr there) number none = grind (arith, cases_Bool, times_has i x L there number (elim (cases_Bool (l.number == i)) [ inl same ↦ absurd (omega (arith, rw same at none)) | inr other ↦ rw other at none ]))
 times_has i x [] h number none = absurd h
 

@@ -10,10 +10,7 @@ use Rattle.lz_machine.proofs.Ledger.Growth.{row_stays, upto_more, publishing_mor
 -- no row changes anything past the end of the trace
 pub none_late : (n j : ℕ) (P : Trace) (rows : List Row) → length P ≤ j → Each (IsRowOf n P) rows → change_at j rows ≡ []
 none_late n j P [] late h = refl
-none_late n j P (r ∷ rows) late h = elim (cases_Bool r.changes) [
-  | inl does ↦ grind (arith, nat_tests, none_late n j P rows late h.1, (h.0.changing does).within)
-  | inr not_ ↦ grind (arith, nat_tests, none_late n j P rows late h.1, not_)
-]
+none_late n j P (r ∷ rows) late h = grind (arith, nat_tests, cases_Bool, none_late n j P rows late h.1)
 
 pub last_publishing : (e : Publishing) (P : Trace) → publishing (length P) (e ∷ P) ≡ e
 last_publishing e P = grind arith

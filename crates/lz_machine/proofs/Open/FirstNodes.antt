@@ -4,7 +4,7 @@ use Rattle.std.proofs.lemmas.{Bool.{cases_Bool, cases_eq, Decides.{nat_tests, eq
 use mathlib.Core.Bool.{false≢true}
 use Rattle.lz_slot.specs.{declared.slot.SlotRead.{SlotRead, TheVariants.{Member}}, Bytes.{slot_at, held, held_key}, Nodes.{has_node}}
 use Rattle.lz_vault.specs.Stages.{IsReadShut}
-use Rattle.lz_list.specs.Traces.{Chain, has_key, has_slot, on, chain, chain_of, bucket_of, key_word, linking, is_marked, is_removed, opening, IsFound, IsLoose}
+use Rattle.lz_list.specs.Traces.{Chain, has_key, has_slot, on, chain, chain_of, key_word, linking, is_marked, is_removed, opening, IsFound, IsLoose}
 use Rattle.lz_list.proofs.{Traces.{NodeBits.{on_insert_other}, WalkEnd.{on_insert}}, Changes.NodeLink.{inserted_on}}
 use Rattle.lz_list.proofs.Chains.ChainNode.{node_slot, has_key_append, has_slot_append, has_node_append}
 
@@ -19,20 +19,11 @@ module _ (buckets : ℕ) where
 
   pub node_key : (slots k s : ℕ) (found : Chain) → IsFound slots found → has_node k s found ≡ true → key_word s (opening buckets found) ≡ k
   node_key slots k s [] is has = absurd (false≢true has)
-  node_key slots k s (f ∷ found) is has = elim (eqb_tells f.1 s) [
-    | inl same ↦ grind (arith, nat_tests, same.0, node_slot k s found, ap (λ (q : ℕ). has_slot q found) same.1, is.2)
-    | inr other ↦ rw other.0 (node_key slots k s found is.3 (grind (arith, nat_tests, other.0)))
-  ]
+  node_key slots k s (f ∷ found) is has = grind (arith, nat_tests, eqb_tells, node_slot, node_key slots k s found is.3)
 
   pub node_on : (k s : ℕ) (found : Chain) → has_node k s found ≡ true → on 0 (chain_of buckets k (opening buckets found)) (suc s) ≡ true
   node_on k s [] has = absurd (false≢true has)
-  node_on k s (f ∷ found) has = elim (cases_Bool (has_node k s found)) [
-    | inl before ↦ grind (arith, nat_tests, node_on k s found before, on_insert f.0 f.1 0 (suc s) (chain_of buckets k (opening buckets found)))
-    | inr new ↦
-        let key : f.0 ≡ k = grind (arith, nat_tests) in
-        let slot : f.1 ≡ s = grind (arith, nat_tests) in
-        grind (arith, nat_tests, ap (bucket_of buckets) key, slot, inserted_on f.0 f.1 0 (chain_of buckets k (opening buckets found)))
-  ]
+  node_on k s (f ∷ found) has = grind (arith, nat_tests, cases_Bool, node_on k s found, on_insert, inserted_on)
 
   pub none_marked : (s : ℕ) (found : Chain) → is_marked s (opening buckets found) ≡ false
   none_marked s [] = refl
@@ -100,12 +91,7 @@ module _ (t : List ℕ) where
 
   found_append : (slots k s : ℕ) (c : Chain) → IsFound slots c → s < slots → has_key k c ≡ false → has_slot s c ≡ false → IsFound slots (c ++ (k, s) ∷ [])
   found_append slots k s [] h lt no_key no_slot = (lt, refl, refl, tt)
-  found_append slots k s (f ∷ c) h lt no_key no_slot = (
-    h.0,
-    has_key_append f.0 c ((k, s) ∷ []) ∙ grind (arith, nat_tests, h.1),
-    has_slot_append f.1 c ((k, s) ∷ []) ∙ grind (arith, nat_tests, h.2),
-    found_append slots k s c h.3 lt (grind (arith, nat_tests)) (grind (arith, nat_tests)),
-  )
+  found_append slots k s (f ∷ c) h lt no_key no_slot = grind (arith, nat_tests, has_key_append, has_slot_append, found_append slots k s c h.3 lt)
 
   found_of_read : (N n : ℕ) → HasNoKeyTwice N → n < N → (r : SlotRead) → slot_at t n ≡ r → IsFound N (held t n) → IsFound N (held t n ++ held_key r n)
   found_of_read N n once lt (Member k) at rest = grind (arith, found_append, cases_Bool, key_held, slot_later)

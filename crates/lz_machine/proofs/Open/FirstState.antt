@@ -1,9 +1,10 @@
 -- An open begins a sound life: its yard, its disk and its trace show the keys that it found, and nothing is under way.
 use Rattle.lz_slot.specs.declared.slot.SlotRead.TheVariants as read
-use Rattle.std.proofs.Common.{◌≡◌, inl, inr, ⊎_elim, ℕ, zero, suc, ◌+◌, ◌*◌, ◌<◌, ◌≤◌, Bool, true, false, List, [], ◌∷◌, length, get_or, take, map, replicate}
-use Rattle.std.proofs.{Common.{Option, Some, None, refl, sym, ap, ◌∙◌, subst, arith}, lemmas.Bool.{cases_Bool, cases_lt}}
+use Rattle.std.proofs.lemmas.Bool.{cases_Bool, cases_lt, Decides.{nat_tests}}
 use Rattle.std.proofs.lemmas.List.{length-replicate, length-append, length-map, get_or-map, get_or_append_left, get_or_push, Edits.{length-between}}
-use Rattle.std.{proofs.lemmas.Option.{slice_get_within, get_or_from_slice_get, none-some}, specs.{Prelude.{slice_get}, Cmp.{both_ways}}}
+use Rattle.std.proofs.{lemmas.Option.{slice_get_within, get_or_from_slice_get, none-some}, Common.{◌≡◌, inl, inr, ⊎_elim, ℕ, zero, suc, ◌+◌, ◌*◌, ◌<◌, ◌≤◌}}
+use Rattle.std.proofs.Common.{Bool, true, false, List, [], ◌∷◌, length, get_or, take, map, replicate, Option, Some, None, refl, sym, ap, ◌∙◌, subst, arith}
+use Rattle.std.specs.{Prelude.{slice_get}, Cmp.{both_ways}}
 use mathlib.Core.Bool.{false≢true}
 use Rattle.lz_slot.specs.{Rooms.{largest_of}, Sets.{Keys}, Bytes.{Holds, format_of, open_byte, header_body, slot_bytes, slot_at, held}}
 use Rattle.lz_slot.specs.declared.slot.SlotRead.{SlotRead}
@@ -15,8 +16,8 @@ use Rattle.lz_list.specs.Traces.{Trace, Chain, has_key, on, chain_of, key_word, 
 use Rattle.lz_list.proofs.{Traces.OpeningTrace.{opening_lawful, opening_members, opening_settled}, Chains.ChainNode.{node_has_key}}
 use Rattle.lz_machine.specs.declared.actor.Actor.{Actor}
 use Rattle.lz_machine.specs.Yards.{Shape, idle_actor, cell_read, use_read, slots_read, first_trace, opened_yard, actor_in, cell_in, stage_in, pin_in, IsInside}
-use Rattle.lz_machine.specs.{Runs.{Caller, caller_at, opened_service}, Ledgers.{Row, Each}, Kept.{upto}, Entries.{IsLedger, IsSettledEntry}}
-use Rattle.lz_machine.specs.{Notes.{Notes, pending, entries}, SlotsSound.{IsGateWritten, SlotStands, is_node, is_free, SlotsSound}, LocksSound.{LocksSound}}
+use Rattle.lz_machine.specs.{Runs.{Caller, caller_at, opened_service}, Ledgers.{Row}, Kept.{upto}, Entries.{IsLedger}, Notes.{Notes, pending, entries}}
+use Rattle.lz_machine.specs.{SlotsSound.{IsGateWritten, SlotStands, is_node, is_free, SlotsSound}, LocksSound.{LocksSound}}
 use Rattle.lz_machine.specs.{CallersSound.{view_of, IsCaller, CallersSound}, LedgerSound.{LedgerSound, TailsSound}}
 use Rattle.lz_machine.{specs.Sound.{TraceSound, DiskSound, ReuseSound, HasBegun, UpSound}, proofs.Ledger.Membership.{upto_all}}
 use Rattle.lz_machine.proofs.{Frames.Ranges.{on_range, opening_small}, Open.FirstNodes.{off_chains, node_key, node_on, none_marked, none_removed, never_linked}}
@@ -192,11 +193,7 @@ module _ (shape : Shape) (t : List ℕ) (found : Keys) (some : 1 ≤ shape.bucke
   waits a = grind (arith, no_caller, idle)
 
   all_wait : CallersSound shape (opened_yard shape t).vault pins actors callers P notes
-  all_wait = record {
-    count = length-replicate shape.passes None;
-    hands = length-replicate shape.passes idle_actor;
-    each = λ a. record { quiet = λ inside. absurd (not_inside a inside); begins = λ inside. absurd (not_inside a inside); stands = waits a };
-  }
+  all_wait = grind (arith, nat_tests, length-replicate, not_inside, waits)
 
   reuse : ReuseSound shape pins uses actors P notes.begun
   reuse = record {
@@ -218,18 +215,7 @@ module _ (shape : Shape) (t : List ℕ) (found : Keys) (some : 1 ≤ shape.bucke
   empty_ledger = grind arith
 
   ledger : (calls : ℕ) → LedgerSound (length P) calls shape.passes callers P [] notes
-  ledger calls = record {
-    opened = omega arith;
-    ledger = subst (λ (rows : List Row). IsLedger (length P) P rows [] []) (sym no_entries) empty_ledger;
-    settled = subst (Each (IsSettledEntry P)) (sym no_entries) tt;
-    changes = λ j early late. absurd (omega (arith, early, late));
-    numbered = λ i c is. absurd is.1;
-    refused = λ i is. absurd is.1;
-    one_call = λ i c d is. absurd is.1;
-    open_call = λ a caller is. absurd (none-some _ (sym (no_caller a) ∙ is));
-    apart = λ a b one other is. absurd (none-some _ (sym (no_caller a) ∙ is));
-    unlisted = λ a caller is. refl;
-  }
+  ledger calls = grind (arith, nat_tests, no_entries, empty_ledger, none-some, no_caller)
 
   not_written : (s : ℕ) → stage_in cells s ≡ Open → IsGateWritten (stage_in cells s) → ⊥
   not_written s opened (inl is) = let e : Open ≡ Closing = sym opened ∙ is in absurd cc

@@ -1,6 +1,6 @@
 -- The flow chart of a command: where a call goes on after an event. A property of the next place is proved by one split over its edges.
-use Rattle.std.proofs.Common.{ℕ, ◌+◌, ◌-◌, nat_lt, if◌then◌else◌, Bool, true, false, length, Option, Some, None, sym, subst, inl, inr}
-use Rattle.std.proofs.lemmas.Bool.Decides.{eqb_tells}
+use Rattle.std.proofs.Common.{arith, ℕ, ◌+◌, ◌-◌, nat_lt, if◌then◌else◌, Bool, true, false, length, Option, Some, None}
+use Rattle.std.proofs.lemmas.Bool.Decides.{nat_tests, eqb_tells}
 use Rattle.lz_slot.specs.{declared.command.Command.{Command, TheVariants.{Add, Remove, Has}}, Sets.{key_of}}
 use Rattle.lz_allot.specs.declared.counts.Counts.{Counts}
 use Rattle.lz_list.specs.declared.{place.Place.{Place}, walk.{Look.{Look, TheVariants.{AtHead}}, Met.{Met, TheVariants.{Absent, Unmarked, Marked}}}}
@@ -82,10 +82,7 @@ module _ (shape : Shape) where
   follows_edge c (Playing q i) Early = back c q i
   follows_edge c (Playing q i) o =
       elim (nat_lt (i + 1) (length (events_of c q))) as (λ (more : Bool). Edge shape c (Playing q i) o (if more then Playing q (i + 1) else goes_on q)) [ true ↦ on c q i o | false ↦ past c q i o ]
-  follows_edge c LoadsHalt (Value value) = elim (eqb_tells value 1) [
-    | inl set ↦ rw set.0 (subst (λ (n : ℕ). Edge shape c LoadsHalt (Value n) (Answering Halted)) (sym set.1) (halted c))
-    | inr other ↦ rw other.0 (begins c value)
-  ]
+  follows_edge c LoadsHalt (Value value) = grind (arith, nat_tests, eqb_tells, halted, begins)
   follows_edge c (Walking aim look) (Value value) = hops_edge c aim look value (hopped shape.buckets (key_of c) look value)
   follows_edge c (Reserving seen) (Slot s) = finds c seen s
   follows_edge c (Reserving false) (NoSlot counts) = sees c counts

@@ -54,12 +54,7 @@ module _ (callers : List (Option Caller)) (a i : ℕ) (c : Command) (first : Pro
 
   module _ (changed : ℕ → Option ℕ) (free : changed a ≡ None) where
     same_row : (b : ℕ) → pending_row (caller_at (calling callers a i c first) b) (changed b) ≡ pending_row (caller_at callers b) (changed b)
-    same_row b = elim (cases_eq b a) [
-      | inl same ↦
-          let none : changed b ≡ None = ap changed same ∙ free in
-          rw none (pending_none (caller_at (calling callers a i c first) b) ∙ sym (pending_none (caller_at callers b)))
-      | inr other ↦ ap (λ (caller : Option Caller). pending_row caller (changed b)) (is_old b other)
-    ]
+    same_row b = grind (arith, nat_tests, cases_eq, free, pending_none, is_old)
 
     pub same_pending : (m : ℕ) → pending (calling callers a i c first) changed m ≡ pending callers changed m
     same_pending zero = refl

@@ -1,19 +1,18 @@
 -- Settle keeps the invariant: of an adder, of a remover, and of a call that rests on a node; also where it comes early.
+use Rattle.std.proofs.lemmas.{Bool.{cases_Bool, Decides.{nat_tests}}, Option.{same_Some, none-some}}
 use Rattle.std.proofs.Common.{◌≡◌, ◌≢◌, ◌⊎◌, inl, inr, ℕ, suc, ◌<◌, Bool, true, false, List, [], ◌∷◌, ◌++◌, Option, Some, refl, sym, ap, ◌∙◌, subst, arith}
-use Rattle.std.proofs.lemmas.{Bool.{cases_Bool}, Option.{same_Some, none-some}}
 use mathlib.Core.Bool.{false≢true}
 use Rattle.lz_slot.specs.{declared.command.Command.{Command, TheVariants.{Add, Remove, Has}}, Histories.{History}}
 use Rattle.lz_disk.specs.Images.{Medium}
 use Rattle.lz_vault.specs.{declared.vault.Stage.{Stage, TheVariants.{Closed, Open}}, Stages.{is_covered}}
-use Rattle.lz_list.specs.declared.publishing.{Change.{Change, TheVariants.{Added, Removed}}, Publishing.{Publishing, TheVariants.{Settled as settled}}}
-use Rattle.lz_list.specs.Traces.{Trace, Begins, IsLoose, on, chain_of, bucket_of, key_word, linking, linking_in, is_settled, is_removed, is_marked, member}
-use Rattle.lz_list.{specs.{Traces.{SettledNo}, Pinned.{Stood, IsQuiet}}, proofs.Traces.{NodeBits.{node}, Hindsight.{lawful_begins, quiet_begins}}}
+use Rattle.lz_list.specs.{declared.publishing.{Change.{Change, TheVariants.{Added, Removed}}, Publishing.TheVariants.{Settled as settled}}, Traces.{Trace}}
+use Rattle.lz_list.specs.Traces.{Begins, IsLoose, on, chain_of, bucket_of, key_word, linking, linking_in, is_settled, is_removed, is_marked, member, SettledNo}
+use Rattle.lz_list.{specs.Pinned.{Stood, IsQuiet}, proofs.Traces.{NodeBits.{node}, Hindsight.{lawful_begins, quiet_begins}}}
 use Rattle.lz_list.proofs.Traces.WalkEnd.{linking_since, marked_rests, unmarked_rests, mark_stays, begins_before}
 use Rattle.lz_machine.specs.declared.event.{Event.TheVariants.{Settle}, Outcome.{Outcome, TheVariants.{Done, Early}}, Reply.{Reply, TheVariants.{Yes, No}}}
 use Rattle.lz_machine.specs.declared.{actor.Hold.{Hold, TheVariants.{Marked}}, caller.{Sequence.TheVariants.{Adding, Removing, Resting}, Progress.{Progress}}}
-use Rattle.lz_machine.specs.{declared.caller.Progress.TheVariants.{Playing, Answering}, Yards.{Yard, actor_at, cell_at, IsInside, actor_in, pin_in, stage_in}}
-use Rattle.lz_machine.specs.{Table.{is_sure, settling, yard_done, outcome_of, publishes}, Calls.{progress_after}, Runs.{Caller, caller_at, with_words}}
-use Rattle.lz_machine.specs.Notes.{Notes}
+use Rattle.lz_machine.specs.{declared.caller.Progress.TheVariants.{Playing, Answering}, Yards.{Yard, actor_at, IsInside, actor_in, pin_in, stage_in}}
+use Rattle.lz_machine.specs.{Table.{is_sure, yard_done, outcome_of, publishes}, Calls.{progress_after}, Runs.{Caller, caller_at, with_words}, Notes.{Notes}}
 use Rattle.lz_machine.specs.CallersSound.{view_of, Relies, HasAdded, HasMarked, HasMet, MayRest, IsSettledChange, RestsYes, RestsNo, HasLetGo, is_before_pin}
 use Rattle.lz_machine.specs.{SlotsSound.{IsNodeStage, IsOnChain, IsGateOpened, IsGateWritten}, LocksSound.{HasClosed, RestsOn}, Sound.{Sound}}
 use Rattle.lz_machine.proofs.Frames.{ChainSlots.{chain_stands}, OneActor.{moving}, Ranges.{on_range, stood_range, few_slots}, OtherCallers.{held_node}}
@@ -52,12 +51,7 @@ module _ (n calls : ℕ) (y : Yard) (callers : List (Option Caller)) (disk : Med
 
   -- it comes early: nothing changes
   early_form : is_sure y s ≡ false → (callers' : List (Option Caller)) → Sound n calls y callers' disk M P notes → Sound n calls (yard_done y (actor_at y a) a (Settle s)) callers' disk M (publishes y (actor_at y a) a (Settle s) ++ P) notes
-  early_form loose callers' h = subst (λ (l : List Publishing). Sound n calls (yard_done y (actor_at y a) a (Settle s)) callers' disk M (l ++ P) notes) (sym (none (cell_at y s).stage loose)) (rw loose h)
-    where
-      none : (stage : Stage) → is_covered stage ≡ false → settling stage s ≡ []
-      none Closed is = absurd (false≢true (sym is))
-      none Open is = absurd (false≢true (sym is))
-      none _ is = refl
+  early_form loose callers' h = grind (arith, nat_tests, false≢true)
 
   -- which change it settles, for a slot on which the pass may stand
   change_of : is_sure y s ≡ true → (IsOnChain y.shape y.vault.cells y.uses P s × IsNodeStage y.vault.cells y.vault.dead y.actors P s) ⊎ (stage_in y.vault.cells s ≡ Closed) → (c : Change) × Allows c (stage_in y.vault.cells s)

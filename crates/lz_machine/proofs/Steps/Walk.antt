@@ -1,11 +1,11 @@
 -- A load on a walk keeps the invariant: what the walk relies on next follows from the word that it loaded.
-use Rattle.std.proofs.Common.{◌≡◌, ◌⊎◌, inl, inr, ℕ, suc, ◌≤◌, if◌then◌else◌, not, Bool, true, false, List, [], ◌∷◌, Option, Some, None, refl, sym, ap, ◌∙◌}
-use Rattle.std.proofs.Common.{arith}
+use Rattle.std.proofs.lemmas.Bool.Decides.{nat_tests}
+use Rattle.std.proofs.Common.{◌≡◌, inl, inr, ℕ, suc, ◌≤◌, if◌then◌else◌, not, Bool, true, false, List, [], ◌∷◌, Option, Some, None, refl, sym, ap, ◌∙◌, arith}
 use Rattle.lz_slot.specs.{declared.{format.Format.{Format}, command.Command.{Command, TheVariants.{Add, Remove, Has}}}, Limits.{most_slots}, Sets.{key_of}}
 use Rattle.lz_list.specs.declared.{place.Place.{Place}, flags.Flags.{Flags}, walk.{Look.{Look}, Met.TheVariants.{Absent, Unmarked, Marked}}}
 use Rattle.lz_list.specs.{Words.{Words, get, place_number, link_to}, Walks.{wants, hopped}}
-use Rattle.lz_list.specs.{Traces.{Trace, Begins, bucket_of, key_word, is_marked, flags_after, is_removed, linking, SettledNo}, Pinned.{Once, Stood, IsQuiet}}
-use Rattle.lz_list.{specs.Laws.{IsHigh}, proofs.Traces.{Absence.{begins_itself}, Hindsight.{absent_since}, NodeBits.{node}}}
+use Rattle.lz_list.specs.{Traces.{Trace, Begins, bucket_of, key_word, is_marked, flags_after, SettledNo}, Pinned.{Once, Stood, IsQuiet}, Laws.{IsHigh}}
+use Rattle.lz_list.proofs.Traces.{Absence.{begins_itself}, Hindsight.{absent_since}, NodeBits.{node}}
 use Rattle.lz_list.proofs.Traces.WalkEnd.{left_surely, marked_rests, unmarked_rests, removed_later}
 use Rattle.lz_flush.specs.{declared.need.Need.{Need, TheVariants.{Now, Sync as needs_sync}}, Settling.{may_answer}}
 use Rattle.lz_machine.specs.declared.{event.Reply.{Reply, TheVariants.{Yes, No}}, actor.Actor.{Actor}, caller.Progress.{Progress, TheVariants.{Answering}}}
@@ -30,17 +30,7 @@ no_since k P0 P once = let r = once_some P0 P (λ R. SettledNo R P k) once in re
 
 -- what is settled at a trace is settled later
 absent_rests : (k : ℕ) (P0 P : Trace) → Once P0 P (λ R. SettledNo R R k) → RestsNo k P0 P
-absent_rests k P0 P once =
-    let r = once_some P0 P (λ R. SettledNo R R k) once in
-    record {
-      then = r.0;
-      since = record { from = r.1; upto = r.2 };
-      settled = record { begins = r.2; no_member = r.3.no_member; settled = later r.0 r.2 r.3.settled };
-    }
-  where
-    later : (R : Trace) → Begins R P → (linking k R ≡ 0) ⊎ (is_removed (linking k R) R ≡ true) → (linking k R ≡ 0) ⊎ (is_removed (linking k R) P ≡ true)
-    later R to (inl none) = inl none
-    later R to (inr is) = inr (removed_later (linking k R) R P to is)
+absent_rests k P0 P once = grind (arith, nat_tests, once_some, removed_later)
 
 absent_then : (k : ℕ) (P0 P : Trace) → Once P0 P (λ R. SettledNo R R k) → WasAbsent k P0 P
 absent_then k P0 P once = let r = once_some P0 P (λ R. SettledNo R R k) once in record { then = r.0; since = record { from = r.1; upto = r.2 }; gone = r.3.no_member }

@@ -1,20 +1,21 @@
 -- A vault is dead after the first device call that fails, and makes no other: so in each life one call at most is told of it.
-use Rattle.std.proofs.Common.{◌≡◌, ◌≢◌, ℕ, zero, suc, ◌+◌, ◌-◌, ◌<◌, ◌≤◌, Bool, true, false, List, [], ◌∷◌, ◌++◌, length, slice_set, Option, Some, None, refl}
-use Rattle.std.{proofs.{Common.{sym, ap, ◌∙◌, subst, arith}, lemmas.Bool.{cases_Bool}}, specs.Prelude.{if◌then◌else◌, replicate, slice_index_or}}
+use Rattle.std.proofs.{lemmas.Bool.{cases_Bool, Decides.{nat_tests}}, Common.{◌≡◌, ◌≢◌, ℕ, zero, suc, ◌+◌, ◌-◌, ◌<◌, ◌≤◌, Bool, true, false, List, [], ◌∷◌}}
+use Rattle.std.proofs.Common.{◌++◌, length, slice_set, Option, Some, None, refl, sym, ap, ◌∙◌, subst, arith}
+use Rattle.std.specs.Prelude.{if◌then◌else◌, replicate, slice_index_or}
 use mathlib.Core.Bool.{false≢true}
 use Rattle.lz_slot.specs.{declared.command.Command.{Command}, Counted.{set_of_pass}, Histories.{History}}
 use Rattle.lz_disk.specs.Images.{Medium}
 use Rattle.lz_vault.specs.Vaults.{MayFail, NoCall}
 use Rattle.lz_machine.specs.declared.{course.Course.{Course, TheVariants.{Dies}}, event.{Event.{Event}, Outcome.{Outcome, TheVariants.{Fault}}, Reply.{Reply}}}
-use Rattle.lz_machine.specs.declared.{event.Reply.TheVariants.{Yes, OldFile as SaysOldFile, Device}, caller.Sequence.{Sequence, TheVariants.{Resting, Halting}}}
-use Rattle.lz_machine.specs.{declared.caller.Progress.{Progress, TheVariants.{Playing, Answering}}, Yards.{Shape, Yard, actor_at}}
-use Rattle.lz_machine.specs.{Table.{course, is_old, line, line_call, line_failed, line_on}, Calls.{goes_on, first_progress, begun, progress_after}}
-use Rattle.lz_machine.specs.Runs.{Caller, Service, State, Up, Down, Start, Point, Transition, Calls, Turn, Fails, Looks, Trips, Stops, Crashes, Opens}
-use Rattle.lz_machine.specs.Runs.{OpenFails, caller_at, next_event, reply_at, moved_on, state_after, HasTurn, HasFault, MayStep, mark_of, mark_of_turn}
-use Rattle.lz_machine.specs.Runs.{marks_of_turn, marks_of, after_turn, after_fault, run, IsRun, first_point}
-use Rattle.lz_machine.{specs.Halts.{FailsOnce, calls_due, device_due, device_reply, due_in, failed_in, reply_due, told_device}, proofs.Alone.Halt.{replies}}
-use Rattle.lz_machine.proofs.{Frames.OneActor.{caller_range}, Runs.{CallerTable.{fault_no_reply}, FlowChart.{Edge, fails, again, back, on, past, next_edge}}}
-use Rattle.lz_machine.proofs.{Runs.{Course.{each_course}, Outcomes.{no_fault}}, Theorem.Marks.{Tells, run_tells}}
+use Rattle.lz_machine.specs.declared.{event.Reply.TheVariants.{Yes, Device}, caller.{Sequence.{Sequence, TheVariants.{Resting, Halting}}, Progress.{Progress}}}
+use Rattle.lz_machine.specs.{declared.caller.Progress.TheVariants.{Playing}, Yards.{Shape, Yard, actor_at}}
+use Rattle.lz_machine.specs.{Table.{course, line, line_call, line_failed, line_on}, Calls.{goes_on, progress_after}, Runs.{Caller, Service, State, Up, Down}}
+use Rattle.lz_machine.specs.Runs.{Start, Point, Transition, Calls, Turn, Fails, Looks, Trips, Stops, Crashes, Opens, OpenFails, caller_at, next_event, reply_at}
+use Rattle.lz_machine.specs.Runs.{moved_on, state_after, HasTurn, HasFault, MayStep, mark_of, mark_of_turn, marks_of_turn, marks_of, after_turn, after_fault}
+use Rattle.lz_machine.specs.{Runs.{run, IsRun, first_point}, Halts.{FailsOnce, calls_due, device_due, device_reply, due_in, failed_in, reply_due, told_device}}
+use Rattle.lz_machine.proofs.{Alone.Halt.{replies}, Frames.OneActor.{caller_range}, Runs.CallerTable.{fault_no_reply}}
+use Rattle.lz_machine.proofs.Runs.{FlowChart.{Edge, fails, again, back, on, past, next_edge}, Course.{each_course}, Outcomes.{no_fault}}
+use Rattle.lz_machine.proofs.Theorem.Marks.{Tells, run_tells}
 
 -- a dead vault makes no device call
 dead_calls : (y : Yard) (a : ℕ) (e : Event) → y.vault.dead ≡ true → line_call y a e ≡ NoCall
@@ -107,13 +108,8 @@ module _ (n : ℕ) (y : Yard) (callers : List (Option Caller)) (disk : Medium) (
     turn_failures : (y' : Yard) (disk' : Medium) (next : Progress) (reply : Option Reply) → reply_at caller.progress ≡ reply → (y'.vault.dead ≡ false → y.vault.dead ≡ false)
         → (reply ≡ None → device_reply (reply_due next) ≤ device_reply (reply_due caller.progress))
         → Failures n (Up (record { yard = y'; callers = set_of_pass callers a (moved_on reply caller next) }) disk') (mark_of_turn caller.number reply ++ M)
-    turn_failures y' disk' next None is alive onward =
-        let sum = due_here (Some (record { number = caller.number; command = caller.command; progress = next })) in let less = onward refl in let was = h.told in
-        record { none = λ still. h.none (alive still); once = h.once; told = omega (arith, sum, less, was) }
-    turn_failures y' disk' next (Some reply) is alive onward =
-        let sum = due_here None in let was = h.told in let shows = told_reply M caller.number reply in
-        let here = ap (λ (q : Progress). device_reply (reply_due q)) (replies caller.progress reply is) in
-        record { none = λ still. h.none (alive still); once = h.once; told = omega (arith, sum, was, shows, here) }
+    turn_failures y' disk' next None is alive onward = grind (arith, nat_tests, due_here)
+    turn_failures y' disk' next (Some reply) is alive onward = grind (arith, nat_tests, due_here, told_reply, replies)
 
   done_failures : (a : ℕ) (q : Option Caller) → caller_at callers a ≡ q → HasTurn serving a q → Failures n (after_turn serving disk a q) (marks_of_turn q ++ M)
   done_failures a None at may = absurd may
@@ -139,12 +135,7 @@ module _ (n : ℕ) (y : Yard) (callers : List (Option Caller)) (disk : Medium) (
       }
 
   call_failures : (i a : ℕ) (c : Command) → MayStep (Up serving disk) (Calls a c) → length callers ≡ y.shape.passes → Failures n (state_after i (Up serving disk) (Calls a c)) (marks_of i (Up serving disk) (Calls a c) ++ M)
-  call_failures i a c may count =
-      let high = may.0.1 in
-      let sum = due_set callers a (Some (record { number = i; command = c; progress = begun y.vault.format c })) may.0.0 (omega (arith, high, count)) in
-      let new : NotDue (begun y.vault.format c) = if_due (is_old y.vault.format c) (Answering SaysOldFile) first_progress refl refl in
-      let was = h.told in
-      record { none = h.none; once = h.once; told = omega (arith, sum, new, was) }
+  call_failures i a c may count = grind (arith, nat_tests, due_set, if_due)
 
 -- nothing was told yet
 nothing_told : (n : ℕ) → 0 ≤ n

@@ -1,6 +1,6 @@
 -- The marks of a run: the open calls of the history are those of the callers.
-use Rattle.std.proofs.Common.{◌≡◌, ◌≢◌, ⊎_elim, inl, inr, ℕ, suc, ◌≤◌, true, false, List, [], ◌∷◌, ◌++◌, length, Option, Some, None, refl, sym, ap, ◌∙◌, subst}
-use Rattle.std.proofs.{Common.{arith}, lemmas.{Bool.{cases_eq}, List.{length-replicate}, Option.{same_Some, none-some}}}
+use Rattle.std.proofs.{lemmas.{Bool.{cases_eq, Decides.{nat_tests}}, List.{length-replicate}, Option.{same_Some, none-some}}, Common.{◌≡◌, ◌≢◌, ⊎_elim, inl}}
+use Rattle.std.proofs.Common.{inr, ℕ, suc, ◌≤◌, true, false, List, [], ◌∷◌, ◌++◌, length, Option, Some, None, refl, sym, ap, ◌∙◌, subst, arith}
 use mathlib.Core.Bool.{false≢true}
 use Rattle.lz_slot.specs.declared.{command.Command.{Command}, history.Mark.{Mark, TheVariants.{Call, Answer, Refused, Cut, Stop, Crash, OpenFailed}}}
 use Rattle.lz_slot.{specs.{Counted.{set_of_pass}, Histories.{History, IsCalled}}, proofs.Counted.{of_pass_same, of_pass_other, length-set_of_pass}}
@@ -89,21 +89,7 @@ module _ (callers : List (Option Caller)) (M : History) (old : AreOpen callers M
   module _ (caller : Caller) (at : caller_at callers a ≡ Some caller) where
     -- the call goes on
     goes_open : (new : Caller) → new.number ≡ caller.number → AreOpen (set_of_pass callers a (Some new)) M
-    goes_open new number = record {
-      has = λ b one is. elim (cases_eq b a) [
-        | inl same ↦
-            let number_now : caller.number ≡ one.number = sym number ∙ ap (λ (q : Caller). q.number) (same_Some _ _ (sym (here (Some new) b same) ∙ is)) in
-            subst (λ (j : ℕ). IsOpenCall M j b) number_now (old.has b caller (ap (caller_at callers) same ∙ at))
-        | inr other ↦ old.has b one (sym (away (Some new) b other) ∙ is)
-      ];
-      only = λ b j is.
-          let was = old.only b j is in
-          elim (cases_eq b a) [
-            | inl same ↦ (new, here (Some new) b same, number ∙ ap (λ (q : Caller). q.number) (same_Some _ _ (sym at ∙ ap (caller_at callers) (sym same) ∙ was.1)) ∙ was.2)
-            | inr other ↦ (was.0, away (Some new) b other ∙ was.1, was.2)
-          ];
-      apart = old.apart;
-    }
+    goes_open new number = grind (arith, nat_tests, cases_eq, same_Some, here, away)
 
     -- the call ends
     reply_closes : (reply : Reply) → AreOpen (set_of_pass callers a None) (mark_of caller.number reply ∷ M)
@@ -195,11 +181,7 @@ module _ (calls : ℕ) (y : Yard) (callers : List (Option Caller)) (disk : Mediu
   up_tells _ may = absurd may
 
 opens_open : (shape : Shape) (t : List ℕ) (M : History) → ((a i : ℕ) → IsOpenCall M i a → ⊥) → AreOpen (opened_service shape t).callers M
-opens_open shape t M none = record {
-  has = λ a caller is. absurd (none-some _ (sym (pass_of shape.passes a None) ∙ is));
-  only = λ a i is. absurd (none a i is);
-  apart = λ a b i is. absurd (none a i is);
-}
+opens_open shape t M none = grind (arith, nat_tests, none-some, pass_of)
 
 module _ (calls : ℕ) (shape : Shape) (disk : Medium) (M : History) (h : Tells calls (Down shape disk) M) where
   down_tells : (step : Transition) → MayStep (Down shape disk) step → Tells (calls_made_after calls step) (state_after (suc calls) (Down shape disk) step) (marks_of (suc calls) (Down shape disk) step ++ M)

@@ -1,6 +1,7 @@
 -- A load may be put into a run after its actor's last step: the later steps don't look at it.
+use Rattle.std.proofs.lemmas.Bool.{cases_Bool, or_parts, Decides.{nat_tests}}
 use Rattle.std.proofs.Common.{◌≡◌, ◌≢◌, inl, inr, ℕ, suc, ◌%◌, Bool, true, false, List, [], ◌∷◌, ◌++◌, Option, Some, None, refl, sym, ap, ◌∙◌, subst, arith}
-use Rattle.std.{proofs.lemmas.Bool.{cases_Bool, or_parts}, specs.{Prelude.{◌||◌, IsSome}, List.{list_any}}}
+use Rattle.std.specs.{Prelude.{◌||◌, IsSome}, List.{list_any}}
 use mathlib.Core.Bool.{false≢true}
 use Rattle.lz_slot.specs.{declared.command.Command.{Command}, Counted.{set_of_pass}, Histories.{Life, lives}}
 use Rattle.lz_slot.proofs.Counted.{of_pass_other, length-set_of_pass}
@@ -163,11 +164,7 @@ module _ (p : Point) (a : ℕ) (before : List Transition) (hops : HopsBeside a (
   -- the actor's call, while the life goes on
   call_kept : (later : List Transition) → list_any (is_of a) later ≡ false → list_any ends_life later ≡ false → call_in (run p (later ++ Turn a ∷ before)).state a ≡ call_in (run p (Turn a ∷ before)).state a
   call_kept [] none goes = refl
-  call_kept (step ∷ later) none goes =
-      let parts = or_parts (is_of a step) (list_any (is_of a) later) none in
-      let ends = or_parts (ends_life step) (list_any ends_life later) goes in
-      let q = run p (later ++ Turn a ∷ before) in
-      call_stays a (suc q.calls) q.state step parts.0 ends.0 ∙ call_kept later parts.1 ends.1
+  call_kept (step ∷ later) none goes = grind (arith, nat_tests, or_parts, call_stays, call_kept later)
 
   -- the state, once it has ended
   same_over : (later : List Transition) → IsRun p (later ++ before) → list_any (is_of a) later ≡ false → list_any ends_life later ≡ true → (run p (later ++ Turn a ∷ before)).state ≡ (run p (later ++ before)).state

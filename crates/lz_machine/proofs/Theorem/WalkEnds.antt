@@ -1,8 +1,8 @@
 -- The end of a walk, in each state that is reached, from what its call relies on.
-use Rattle.std.proofs.Common.{◌≡◌, inl, inr, ℕ, suc, ◌≤◌, if◌then◌else◌, Bool, true, false, length, Option, sym, ap, ◌∙◌, subst}
+use Rattle.std.proofs.{Common.{arith, ◌≡◌, ℕ, suc, ◌≤◌, if◌then◌else◌, Bool, length, Option, ap, ◌∙◌, subst}, lemmas.Bool.Decides.{nat_tests}}
 use Rattle.lz_slot.specs.{Limits.{most_slots}, Sets.{key_of}}
 use Rattle.lz_list.specs.{declared.{flags.Flags.{Flags}, walk.{Look.{Look}, Met.TheVariants.{Unmarked, Marked}}}, Words.{Words, get, link_to, place_number}}
-use Rattle.lz_list.specs.{Walks.{wants, hopped}, Traces.{Trace, Begins, bucket_of, key_word, is_marked, flags_after}, Pinned.{Stood, IsQuiet}}
+use Rattle.lz_list.specs.{Walks.{wants, hopped}, Traces.{Trace, Begins, bucket_of, key_word, flags_after}, Pinned.{Stood, IsQuiet}}
 use Rattle.lz_list.proofs.Traces.{Hindsight.{absent_since}, WalkEnd.{marked_was_sure, unsure_node, unmarked_surely}}
 use Rattle.lz_machine.specs.{declared.caller.Progress.{Progress}, Yards.{Shape, IsInside, pin_in}}
 use Rattle.lz_machine.specs.{CallersSound.{IsCaller, IsLooking, Relies, view_of, is_before_pin, side_of}, CallsStand.{own_change, trace_outside}}
@@ -19,19 +19,7 @@ module _ (shape : Shape) (words : Words) (P : Trace) (trace : TraceSound shape w
 
   -- by the flags of k's node
   met_tells : (s : ℕ) → Stood buckets (bucket_of buckets k) P0 P (suc s) → key_word s P ≡ k → (flags : Flags) → flags ≡ flags_after s P → (mark : Bool) → flags.mark ≡ mark → MetTells k P0 P (if mark then Marked s flags else Unmarked s flags)
-  met_tells s stood key flags shown mark is = go mark is (sym (ap (λ (f : Flags). f.mark) shown) ∙ is)
-    where
-      go : (mark : Bool) → flags.mark ≡ mark → is_marked s P ≡ mark → MetTells k P0 P (if mark then Marked s flags else Unmarked s flags)
-      go false is mark = (
-        shown,
-        unsure_node buckets slots P0 k s P trace.lawful quiet stood key (inl mark),
-        λ added. unmarked_surely buckets slots P0 k s P trace.lawful quiet stood key mark (sym (ap (λ (f : Flags). f.add_settled) shown) ∙ added),
-      )
-      go true is mark = (
-        shown,
-        λ removed. marked_was_sure buckets slots P0 k s P trace.lawful quiet stood key mark (sym (ap (λ (f : Flags). f.remove_settled) shown) ∙ removed),
-        λ unsure. unsure_node buckets slots P0 k s P trace.lawful quiet stood key (inr (sym (ap (λ (f : Flags). f.remove_settled) shown) ∙ unsure)),
-      )
+  met_tells s stood key flags shown mark is = grind (arith, nat_tests, unsure_node, unmarked_surely, marked_was_sure)
 
   -- what a load tells
   hop_tells : (look : Look) → IsLooking buckets k P0 P look → HopTells k P0 P (hopped buckets k look (get words (wants buckets k look)))
