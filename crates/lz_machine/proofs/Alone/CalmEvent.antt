@@ -1,5 +1,5 @@
 -- Events of one actor alone that open no gate, retire no slot and give none back.
-use Rattle.std.proofs.Common.{◌≡◌, ℕ, Bool, true, false, Option, arith}
+use Rattle.std.proofs.{lemmas.Bool.Decides.{nat_tests}, Common.{◌≡◌, ℕ, Bool, true, false, Option, arith}}
 use mathlib.Core.Bool.{false≢true}
 use Rattle.lz_slot.specs.declared.command.Command.{Command}
 use Rattle.lz_list.specs.{Words.{Words}, Traces.{Trace}}
@@ -24,5 +24,4 @@ pub calm_sequence : (w : Words) (c : Command) (sequence : Sequence) (i : ℕ) �
 calm_sequence w c sequence i calm = grind arith
 
 pub calm_adds : (sequence : Sequence) (i s : ℕ) → is_calm_sequence sequence ≡ true → AddsTo (Playing sequence i) s → ⊥
-calm_adds (Adding t) i s calm adds = false≢true calm
-calm_adds _ i s calm adds = adds
+calm_adds sequence i s calm adds = grind (arith, nat_tests, false≢true)

@@ -1,18 +1,17 @@
 -- What an event leaves of the other actors, where one actor is alone, and of the slots whose gate isn't durable to be open.
 use Rattle.std.proofs.{lemmas.{Bool.{cases_eq, cases_lt, Decides.{nat_tests}}, List.{get_or_past}}, Common.{◌≡◌, ◌≢◌, ◌⊎◌, inl, inr, ℕ, zero, suc, ◌%◌, Bool}}
-use Rattle.std.proofs.Common.{true, false, List, [], ◌∷◌, map, Option, Some, None, refl, sym, ap, arith, length-set, get_or-set_same, get_or-set_other}
+use Rattle.std.proofs.Common.{true, false, List, [], ◌∷◌, map, Option, None, refl, sym, ap, arith, length-set, get_or-set_same, get_or-set_other}
 use Rattle.std.specs.Prelude.{slice_set}
 use mathlib.Core.Bool.{false≢true}
 use Rattle.lz_slot.{specs.Counted.{of_pass}, proofs.Counted.{of_pass_other}}
-use Rattle.lz_vault.specs.{declared.vault.Stage.{Stage, TheVariants.{Opening, Closing}}, Stages.{Cell, cell_synced}}
+use Rattle.lz_vault.specs.{declared.vault.Stage.{Stage, TheVariants.{Opening}}, Stages.{Cell, cell_synced}}
 use Rattle.lz_machine.specs.declared.{course.Course.{Course, TheVariants.{Refused, Dies, Plays}}, actor.{Actor.{Actor}, Hold.TheVariants.{Nothing}}}
-use Rattle.lz_machine.specs.declared.event.Event.{Event, TheVariants.{Pin, Reserve, WriteKey, Claim, WriteOpen, Link, WriteClose, Sync, Settle, Unlink, Retire}}
-use Rattle.lz_machine.specs.declared.event.{Event.TheVariants.{SeePin, Answer, Hop, Halt}, Outcome.TheVariants.{NotNow, Dead}}
+use Rattle.lz_machine.specs.declared.event.{Event.{Event, TheVariants.{Reserve, WriteOpen, Retire, SeePin, Answer}}, Outcome.TheVariants.{NotNow, Dead}}
 use Rattle.lz_machine.specs.Yards.{Yard, idle_actor, actor_at, cell_in, stage_in}
 use Rattle.lz_machine.specs.Table.{course, course_alive, line, line_on, pin_of, is_played_dead, actors_after, words_after, cells_after, uses_after, reserved}
 use Rattle.lz_machine.proofs.{Alone.Sights.{HasLeft, left_set, left_collect, left_seen}, Steps.{Unlink.{redirect_pins}, Sync.{not_opening}}}
 use Rattle.lz_machine.proofs.{Frames.{BesideKey.{opened_shut}, Outside.{answered_other}, SlotWrite.{put_free}}, Runs.Course.{course_by}}
-use Rattle.lz_allot.specs.Uses.{Use, Taken, collect, lowest_free}
+use Rattle.lz_allot.specs.Uses.{Use, collect, lowest_free}
 
 -- the course of an event that was played at all
 abbrev pub IsCourse : Yard → ℕ → Event → Type 0
@@ -23,23 +22,10 @@ course_is y a e now = course_by (λ k. course y a e ≡ k → IsCourse y a e) y 
 
 -- the hands and pins of others
 actors_other : (y : Yard) (actor : Actor) (a b : ℕ) (e : Event) → b ≢ a → of_pass (actors_after y actor a e) b idle_actor ≡ of_pass y.actors b idle_actor
-actors_other y actor a b (Claim pred curr) other = grind (arith, nat_tests, of_pass_other)
-actors_other y actor a b Pin other = refl
-actors_other y actor a b (Hop word) other = refl
-actors_other y actor a b (WriteKey k) other = refl
-actors_other y actor a b (Sync s) other = refl
-actors_other y actor a b (Settle s) other = refl
-actors_other y actor a b (SeePin p pin) other = refl
-actors_other y actor a b Halt other = refl
-actors_other y actor a b _ other = of_pass_other y.actors a b _ idle_actor other
+actors_other y actor a b e other = grind (arith, nat_tests, of_pass_other)
 
 pub pins_other : (y : Yard) (actor : Actor) (a b : ℕ) (e : Event) → b ≢ a → of_pass (words_after y actor a e).pins b 0 ≡ of_pass y.words.pins b 0
-pins_other y actor a b Pin other = of_pass_other y.words.pins a b _ 0 other
-pins_other y actor a b Link other = ap (λ (q : List ℕ). of_pass q b 0) (redirect_pins y.words actor.pred _)
-pins_other y actor a b Unlink other = ap (λ (q : List ℕ). of_pass q b 0) (redirect_pins y.words actor.pred _)
-pins_other y actor a b (Settle s) other = grind (arith, nat_tests)
-pins_other y actor a b Answer other = answered_other y actor a b other
-pins_other y actor a b _ other = refl
+pins_other y actor a b e other = grind (arith, nat_tests, of_pass_other, redirect_pins, answered_other)
 
 -- an actor that does nothing
 pub record IsIdleNow (y : Yard) (b : ℕ) : Type 0 where
@@ -73,17 +59,11 @@ set_none : (cells : List Cell) (r k : ℕ) (stage : Stage) → stage ≢ Opening
 set_none cells r k stage other none s is = grind (arith, cell_cases)
 
 pub none_stays : (y : Yard) (actor : Actor) (e : Event) → is_opening_event e ≡ false → NoneOpening y.vault.cells → NoneOpening (cells_after y actor e)
-none_stays y actor (WriteKey k) other none = grind (arith, set_none, opened_shut, put_free)
-none_stays y actor WriteOpen other none = absurd (false≢true (sym other))
-none_stays y actor WriteClose other none = set_none y.vault.cells _ _ Closing (λ is. absurd cc) none
-none_stays y actor (Sync s) other none = grind (arith, nat_tests, synced_none)
-none_stays y actor _ other none = none
+none_stays y actor e other none = grind (arith, nat_tests, set_none, opened_shut, put_free, false≢true, synced_none)
 
 -- the same by the event's course: a vault that lives after it lived before
 pub none_on : (k : Course) (y : Yard) (a : ℕ) (e : Event) → is_opening_event e ≡ false → (line_on k y (actor_at y a) a e).0.vault.dead ≡ false → (y.vault.dead ≡ false → NoneOpening y.vault.cells) → NoneOpening (line_on k y (actor_at y a) a e).0.vault.cells
-none_on (Refused outcome) y a e other lives none = none lives
-none_on Dies y a e other lives none = absurd (false≢true (sym lives))
-none_on Plays y a e other lives none = none_stays y (actor_at y a) e other (none lives)
+none_on k y a e other lives none = grind (arith, nat_tests, false≢true, none_stays)
 
 -- events that retire a slot or give it back
 abbrev pub is_use_event : Event → Bool
@@ -92,8 +72,7 @@ is_use_event Answer = true
 is_use_event _ = false
 
 reserved_left : (uses : List Use) (found : Option ℕ) (b : ℕ) → HasLeft uses b → HasLeft (reserved uses found) b
-reserved_left uses None b left = left
-reserved_left uses (Some s) b left = left_set uses s b Taken (λ seen is. absurd cc) left
+reserved_left uses found b left = grind (arith, nat_tests, left_set)
 
 left_plays : (y : Yard) (actor : Actor) (a b : ℕ) (e : Event) → is_use_event e ≡ false → HasLeft y.uses b → HasLeft (uses_after y actor a e) b
 left_plays y actor a b Reserve calm left = reserved_left (collect y.uses) (lowest_free (collect y.uses)) b (left_collect y.uses b left)
@@ -103,5 +82,4 @@ left_plays y actor a b Answer calm left = absurd (false≢true (sym calm))
 left_plays y actor a b _ calm left = left
 
 pub left_on : (k : Course) (y : Yard) (a b : ℕ) (e : Event) → is_use_event e ≡ false → HasLeft y.uses b → HasLeft (line_on k y (actor_at y a) a e).0.uses b
-left_on Plays y a b e calm left = left_plays y (actor_at y a) a b e calm left
-left_on _ y a b e calm left = left
+left_on k y a b e calm left = grind (arith, nat_tests, left_plays)

@@ -9,9 +9,9 @@ use Rattle.lz_vault.specs.declared.vault.Stage.TheVariants.{Opening, Open}
 use Rattle.lz_allot.specs.{declared.sight.Sight.{Sight}, Uses.{Use, Free, Limbo, use_of, collect, collect_at, lowest_free, is_free as is_free_use, has_left}}
 use Rattle.lz_list.specs.{declared.{walk.Met.TheVariants.{Unmarked, Marked}, place.Place.{Place}}, Words.{Words}, Walks.{Hopped, More, End}}
 use Rattle.lz_list.{specs.Traces.{Trace, on, chain_of, key_word, is_marked, member}, proofs.Traces.NodeBits.{node}}
-use Rattle.lz_flush.specs.{declared.need.Need.{Need, TheVariants.{Now}}, Settling.{may_answer}}
-use Rattle.lz_machine.specs.declared.{actor.Hold.TheVariants.{Nothing}, event.Outcome.{Outcome, TheVariants.{Value, True, Early, Worn, OldFile, Fault, Dead}}}
-use Rattle.lz_machine.specs.declared.{event.Reply.TheVariants.{Yes, No, Full}, caller.{Sequence.{Sequence, TheVariants.{Adding}}, Progress.{Progress}}}
+use Rattle.lz_flush.specs.{declared.need.Need.{Need}, Settling.{may_answer}}
+use Rattle.lz_machine.specs.declared.{actor.Hold.TheVariants.{Nothing}, event.{Outcome.{Outcome}, Reply.TheVariants.{Yes, No, Full}}}
+use Rattle.lz_machine.specs.declared.caller.{Sequence.{Sequence, TheVariants.{Adding}}, Progress.{Progress}}
 use Rattle.lz_machine.specs.declared.caller.Progress.TheVariants.{Playing, LoadsHalt, Walking, Reserving, SeeingPins, Claiming, Checking, Answering}
 use Rattle.lz_machine.specs.{Yards.{Shape, Yard, actor_in, cell_in, stage_in}, Calls.{progress_after, goes_on, hops_on, rests, after_event, changes}}
 use Rattle.lz_machine.specs.{Runs.{Caller}, Notes.{Notes}}
@@ -128,32 +128,22 @@ calm_goes : (y : Yard) (P : Trace) (c : Command) (sequence : Sequence) (i : ℕ)
 calm_goes y P c sequence i h = grind arith
 
 pub stands_playing : (y : Yard) (P : Trace) (shape : Shape) (c : Command) (sequence : Sequence) (i : ℕ) → WalkStands y P (goes_on sequence) c → (outcome : Outcome) → WalkStands y P (progress_after shape c (Playing sequence i) outcome) c
-stands_playing y P shape c sequence i h Early = tt
-stands_playing y P shape c sequence i h Worn = tt
-stands_playing y P shape c sequence i h OldFile = tt
-stands_playing y P shape c sequence i h Fault = tt
-stands_playing y P shape c sequence i h Dead = tt
-stands_playing y P shape c sequence i h _ = calm_goes y P c sequence i h
+stands_playing y P shape c sequence i h outcome = grind (arith, nat_tests, calm_goes)
 
 pub stands_halt : (y : Yard) (P : Trace) (shape : Shape) (c : Command) (outcome : Outcome) → WalkStands y P (progress_after shape c LoadsHalt outcome) c
 stands_halt y P shape c outcome = grind arith
 
 pub stands_claim : (y : Yard) (P : Trace) (shape : Shape) (c : Command) (aim : Option ℕ) (pred : Place) (curr : Option ℕ) (outcome : Outcome) → WalkStands y P (progress_after shape c (Claiming aim pred curr) outcome) c
-stands_claim y P shape c aim pred curr (Value v) = tt
-stands_claim y _ shape c aim pred curr _ = tt
+stands_claim y P shape c aim pred curr outcome = grind (arith, nat_tests)
 
 stands_changes : (y : Yard) (P : Trace) (c : Command) (aim curr : Option ℕ) → WalkStands y P (changes c aim curr) c
-stands_changes y P (Add k) None curr = tt
-stands_changes y P (Remove k) aim None = tt
-stands_changes y P _ _ _ = tt
+stands_changes y P c aim curr = grind (arith, nat_tests)
 
 pub stands_check : (y : Yard) (P : Trace) (shape : Shape) (c : Command) (aim curr : Option ℕ) (outcome : Outcome) → WalkStands y P (progress_after shape c (Checking aim curr) outcome) c
-stands_check y P shape c aim curr True = stands_changes y P c aim curr
-stands_check y _ shape c aim curr _ = tt
+stands_check y P shape c aim curr outcome = grind (arith, nat_tests, stands_changes)
 
 stands_rests : (y : Yard) (P : Trace) (c : Command) (s : ℕ) (need : Need) (b : Bool) → WalkStands y P (rests s need (if b then Yes else No)) c
-stands_rests y P c s Now true = tt
-stands_rests y P c s _ _ = tt
+stands_rests y P c s need b = grind (arith, nat_tests)
 
 -- after a load
 abbrev pub AsksToAdd : Command → Option ℕ → (ℕ → Type 0) → Type 0

@@ -3,8 +3,7 @@ use Rattle.std.proofs.Common.{◌≡◌, inl, inr, ℕ, zero, suc, ◌<◌, ◌�
 use Rattle.std.proofs.{Common.{◌∙◌, subst, arith}, lemmas.{Map.Keys.{IsDistinct-push}, Bool.{cases_Bool, cases_eq, or_left, or_right, Decides.{nat_tests}}}}
 use Rattle.std.{proofs.lemmas.List.{length-append}, specs.{Prelude.{nat_eq}, List.{list_any, IsDistinct}, Cmp.{nat_eq_equiv}}}
 use mathlib.Core.Bool.{false≢true}
-use Rattle.lz_slot.specs.{declared.command.Command.{Command, TheVariants.{Add}}, Sets.{members, HasMembers}, Histories.{History, Life, lives}}
-use Rattle.lz_slot.proofs.Sets.{members_among}
+use Rattle.lz_slot.{specs.{declared.command.Command.{Command}, Sets.{members, HasMembers}, Histories.{History, Life, lives}}, proofs.Sets.{members_among}}
 use Rattle.lz_disk.specs.Images.{Medium}
 use Rattle.lz_allot.specs.Uses.{collect, lowest_free}
 use Rattle.lz_list.{specs.Traces.{Trace, on, chain_of, key_word, member, is_marked}, proofs.Traces.NodeBits.{node}}
@@ -22,24 +21,16 @@ module _ (service : Service) (count : length service.callers ≡ 1) (b : ℕ) wh
   one_caller caller at = let range = caller_range service.callers b caller at in omega (arith, range.0, range.1, count)
 
   one_turn : (who : Option Caller) → caller_at service.callers b ≡ who → HasTurn service b who → b ≡ 1
-  one_turn None at may = absurd may
-  one_turn (Some caller) at may = one_caller caller at
+  one_turn who = grind (arith, nat_tests, one_caller)
 
   one_fault : (disk new : Medium) (who : Option Caller) → caller_at service.callers b ≡ who → HasFault service disk b who new → b ≡ 1
-  one_fault disk new None at may = absurd may
-  one_fault disk new (Some caller) at may = one_caller caller at
+  one_fault disk new who = grind (arith, nat_tests, one_caller)
 
   one_crash : (disk : Medium) (t : List ℕ) (who : Option Caller) → caller_at service.callers b ≡ who → LeftInside service disk b who t → b ≡ 1
-  one_crash disk t None at may = absurd may
-  one_crash disk t (Some caller) at may = one_caller caller at
+  one_crash disk t who = grind (arith, nat_tests, one_caller)
 
 own_up : (service : Service) (disk : Medium) (step : Transition) → service.yard.shape.passes ≡ 1 → length service.callers ≡ 1 → MayStep (Up service disk) step → IsOwn 1 step
-own_up service disk (Calls b c) one count may = omega (arith, may.0.0, may.0.1, one)
-own_up service disk (Turn b) one count may = one_turn service count b (caller_at service.callers b) refl may
-own_up service disk (Fails b new) one count may = one_fault service count b disk new (caller_at service.callers b) refl may
-own_up service disk (Looks b) one count may = omega (arith, may.0.0, may.0.1, one)
-own_up service disk (CrashesIn b t) one count may = one_crash service count b disk t (caller_at service.callers b) refl may
-own_up service disk _ one count may = tt
+own_up service disk step one count may = grind (arith, nat_tests, one_turn, one_fault, one_crash)
 
 own_step : (start : Start) (w : State) (M : History) (P : Trace) (calls : ℕ) (step : Transition) → start.shape.passes ≡ 1 → MayStep w step → (L : List Life) → PointSound start (point w M P calls) L → IsOwn 1 step
 own_step start w M P calls step one may [] sound = absurd sound
@@ -72,13 +63,7 @@ module _ (n calls : ℕ) (y : Yard) (callers : List (Option Caller)) (disk : Med
   -- a key among them is a slot's
   has_slot : (m q : ℕ) → members (keys_of P m) q ≡ true → (s : ℕ) × (s < m) × (key_word s P ≡ q)
   has_slot zero q is = absurd (false≢true is)
-  has_slot (suc m) q is = elim (cases_Bool (members (keys_of P m) q)) [
-    | inl there ↦ let at = has_slot m q there in (at.0, omega (arith, at.1), at.2)
-    | inr none ↦ (m, omega arith, last none)
-  ]
-    where
-      last : members (keys_of P m) q ≡ false → key_word m P ≡ q
-      last none = grind (arith, nat_tests, none, is, members_append (keys_of P m) (key_word m P ∷ []) q)
+  has_slot (suc m) q is = grind (arith, nat_tests, cases_Bool, has_slot m q, members_append)
 
   slot_has : (m s : ℕ) → s < m → members (keys_of P m) (key_word s P) ≡ true
   slot_has zero s lt = absurd (omega (arith, lt))
@@ -148,8 +133,7 @@ module _ (service : Service) (disk : Medium) (P : Trace) (a : ℕ) (caller : Cal
       slots = by_actor (λ b. (actor_in y.actors b).slot ≡ None) a rely.1 (λ b other. (h.others b other).slot)
 
       left : (c : Command) → IsAdder c → WalkStands y P (Reserving true) c → LeftBelow y.uses (suc y.shape.passes)
-      left (Add k) adder stands = stands.1
-      left _ adder stands = absurd adder
+      left c adder stands = grind (arith, nat_tests)
 
   full_here : FullAt 1 (Up service disk) P → HasMembers (λ k. member k P) y.shape.slots
   full_here full =

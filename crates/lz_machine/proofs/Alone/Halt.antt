@@ -1,6 +1,6 @@
 -- Halted is answered only where the vault is dead, and worn only at the last pin.
-use Rattle.std.proofs.{Common.{◌≡◌, ℕ, true, Option, Some, ap, subst, arith}, lemmas.Option.{none-some, same_Some}}
-use Rattle.lz_slot.specs.declared.command.Command.{Command, TheVariants.{Add}}
+use Rattle.std.proofs.{lemmas.{Bool.Decides.{nat_tests}, Option.{none-some, same_Some}}, Common.{◌≡◌, ℕ, true, Option, Some, subst, arith}}
+use Rattle.lz_slot.specs.declared.command.Command.{Command}
 use Rattle.lz_list.specs.Traces.{Trace, halt_word}
 use Rattle.lz_machine.specs.declared.{event.Reply.{Reply, TheVariants.{Worn as SaysWorn, OldFile as SaysOldFile, Halted, Device}}, caller.Progress.{Progress}}
 use Rattle.lz_machine.specs.{declared.caller.Progress.TheVariants.{Answering}, Table.{pin_of, is_old}, Runs.{Caller, run, first_point, reply_at}}
@@ -9,16 +9,13 @@ use Rattle.lz_machine.proofs.{Theorem.Timeliness.{worn_there}, Frames.OneActor.{
 
 -- what is about to be answered
 pub replies : (at : Progress) (reply : Reply) → reply_at at ≡ Some reply → at ≡ Answering reply
-replies (Answering other) reply is = ap Answering (same_Some other reply is)
-replies _ reply is = absurd (none-some reply is)
+replies at reply is = grind (arith, nat_tests, same_Some, none-some)
 
 pub halted_word : (v : View) (c : Command) (P0 P : Trace) (changed : Option ℕ) → Relies v c (Answering Halted) P0 P changed → halt_word P ≡ 1
-halted_word v (Add k) P0 P changed h = h.0
-halted_word v _ P0 P changed h = h.0
+halted_word v c P0 P changed h = grind (arith, nat_tests)
 
 pub device_word : (v : View) (c : Command) (P0 P : Trace) (changed : Option ℕ) → Relies v c (Answering Device) P0 P changed → halt_word P ≡ 1
-device_word v (Add k) P0 P changed h = h.0
-device_word v _ P0 P changed h = h.0
+device_word v c P0 P changed h = grind (arith, nat_tests)
 
 -- a call that is told of an old file adds a key that the file can't hold
 pub old_command : (v : View) (c : Command) (P0 P : Trace) (changed : Option ℕ) (at : Progress) → at ≡ Answering SaysOldFile → Relies v c at P0 P changed → is_old v.format c ≡ true

@@ -1,6 +1,6 @@
 -- Where one actor is alone, full comes exactly where there is no room.
-use Rattle.std.proofs.Common.{◌≡◌, inl, ℕ, suc, ◌≤◌, ◌<◌, ◌%◌, if◌then◌else◌, Bool, true, false, List, [], ◌∷◌, ◌++◌, length, Option, Some, None, refl, sym, ap}
-use Rattle.std.proofs.{Common.{◌∙◌, subst, arith}, lemmas.Option.{same_Some}}
+use Rattle.std.proofs.{lemmas.{Bool.Decides.{nat_tests}, Option.{same_Some}}, Common.{◌≡◌, inl, ℕ, suc, ◌≤◌, ◌<◌, if◌then◌else◌, Bool, true, false, List, []}}
+use Rattle.std.proofs.Common.{◌∷◌, ◌++◌, length, Option, Some, None, refl, sym, ap, ◌∙◌, subst, arith}
 use Rattle.lz_slot.specs.{declared.{command.Command.{Command, TheVariants.{Add}}, history.Mark.TheVariants.{Call}, format.Format.{Format}}, Sets.{Keys}}
 use Rattle.lz_slot.specs.{Bytes.{Holds, format_of, slot_at}, Counted.{set_of_pass}, Histories.{History, Life, lives, with_mark}}
 use Rattle.lz_slot.proofs.Counted.{of_pass_same, of_pass_other}
@@ -62,15 +62,7 @@ module _ (n calls : ℕ) (y : Yard) (callers : List (Option Caller)) (disk : Med
       (faulted n calls y callers disk M P notes sound a caller.number caller.command caller.progress (next_event y caller) goes (subst (λ (who : Option Caller). AloneFull a y who P) is h))
 
   full_look : caller_at callers a ≡ None → AloneFull a (looked y a) (caller_at callers a) P
-  full_look none = subst (λ (who : Option Caller). AloneFull a (looked y a) who P) (sym none) (go (subst (λ (who : Option Caller). AloneFull a y who P) none h))
-    where
-      go : AloneFull a y None P → AloneFull a (looked y a) None P
-      go h = record {
-        others = λ b other. let was = h.others b other in record { outside = ap (λ (v : ℕ). v % 2) (of_pass_other y.words.pins a b _ 0 other) ∙ was.outside; slot = was.slot; hold = was.hold };
-        left = λ _. h.left refl;
-        opening = λ lives s opens. absurd (h.opening lives s opens);
-        stands = tt;
-      }
+  full_look none = grind (arith, nat_tests, of_pass_other)
 
 -- each step keeps it
 full_step : (start : Start) (a : ℕ) (w : State) (M : History) (P : Trace) (calls : ℕ) (step : Transition) → IsOwn a step → MayStep w step → (L : List Life) → PointSound start (point w M P calls) L → FullAt a w P
@@ -105,12 +97,10 @@ reached_full start (step ∷ steps) a is runs alone =
 
 -- a mark that says nothing of room
 room_no : (N : ℕ) (c : Command) (T : Keys) → HasRoomFor N c false T
-room_no N (Add k) T = tt
-room_no N _ T = tt
+room_no N c T = grind (arith, nat_tests)
 
 sized_mark : (F : Format) (N i a : ℕ) (c : Command) (L : List Life) → AreSized F N L → AreSized F N (with_mark (Call i a c) L)
-sized_mark F N i a c [] h = h
-sized_mark F N i a c (life ∷ earlier) h = h
+sized_mark F N i a c L h = grind (arith, nat_tests)
 
 -- a call that isn't told of an old file adds no key of another format
 not_old : (F : Format) (c : Command) (reply : Reply) → (is_old F c ≡ true → reply ≡ OldFile) → (reply ≡ OldFile → ⊥) → is_old F c ≡ false
@@ -183,8 +173,7 @@ module _ (start : Start) (a : ℕ) (service : Service) (disk : Medium) (M : Hist
       adds counts same = go c (stands (Full counts) same)
         where
           go : (d : Command) → WalkStands y P (Answering (Full counts)) d → (k : ℕ) × (d ≡ Add k)
-          go (Add k) h = (k, refl)
-          go _ h = absurd h
+          go d h = grind (arith, nat_tests)
 
       each : (k : ℕ) → c ≡ Add k → (counts : Counts) → reply ≡ Full counts → (s : ℕ) → s < N → HoldsOther disk.seen k s
       each k add counts same s lt =

@@ -1,13 +1,14 @@
 -- What runs of one actor keep: its calls end one after the other, and once a call was cut off, each later one loads the halt word.
-use Rattle.std.proofs.Common.{◌≡◌, ◌≢◌, ◌⊎◌, inl, inr, ℕ, ◌<◌, Bool, true, false, List, ◌∷◌, Option, Some, None, refl, sym, subst, arith}
+use Rattle.std.proofs.lemmas.Bool.Decides.{nat_tests}
+use Rattle.std.proofs.Common.{◌≡◌, ◌≢◌, ◌⊎◌, inl, inr, ℕ, ◌<◌, Bool, true, List, ◌∷◌, Option, Some, None, refl, sym, subst, arith}
 use Rattle.std.specs.Prelude.{if◌then◌else◌}
 use Rattle.lz_slot.specs.{declared.{command.Command.{Command}, history.Mark.TheVariants.{Call}}, Histories.{History}}
 use Rattle.lz_disk.specs.Images.{Medium, IsImage}
 use Rattle.lz_vault.specs.Vaults.{NoCall}
 use Rattle.lz_list.specs.declared.word.Word.TheVariants.{Halt as halt_word}
 use mathlib.Core.Bool.{false≢true}
-use Rattle.lz_machine.{proofs.{Runs.Course.{course_by, each_course}, Alone.Service.{Ended}}, specs.declared.course.Course.{Course, TheVariants.{Plays}}}
-use Rattle.lz_machine.specs.declared.{actor.Actor.{Actor}, event.{Event.{Event, TheVariants.{Pin, Hop, Answer}}, Outcome.TheVariants.{NotNow}, Reply.{Reply}}}
+use Rattle.lz_machine.{proofs.{Runs.Course.{course_by, each_course}, Alone.Service.{Ended}}, specs.declared.{course.Course.{Course}, actor.Actor.{Actor}}}
+use Rattle.lz_machine.specs.declared.event.{Event.{Event, TheVariants.{Pin, Hop, Answer}}, Outcome.TheVariants.{NotNow}, Reply.{Reply}}
 use Rattle.lz_machine.specs.declared.{event.Reply.TheVariants.{Worn as SaysWorn, OldFile as SaysOldFile, Halted}, caller.Sequence.TheVariants.{Pinning}}
 use Rattle.lz_machine.specs.{declared.caller.Progress.{Progress, TheVariants.{Playing, LoadsHalt, Answering}}, Yards.{Yard, actor_at}}
 use Rattle.lz_machine.specs.{Table.{course, line, line_on, line_call, call_on, call_of}, Calls.{event_at, loaded, progress_after, first_progress}}
@@ -19,8 +20,7 @@ IsHalting at = (at ≡ Playing Pinning 0) ⊎ (at ≡ LoadsHalt) ⊎ (at ≡ Ans
 
 -- a call begins so
 pub begun_halting : (b : Bool) → IsHalting (if b then Answering SaysOldFile else first_progress)
-begun_halting true = inr (inr (inr (inr refl)))
-begun_halting false = inl refl
+begun_halting b = grind (arith, nat_tests)
 
 abbrev pub HasHalting : Option Caller → Type 0
 HasHalting None = Unit {0}
@@ -42,8 +42,7 @@ IsQuietCall service a None = Unit {0}
 IsQuietCall service a (Some caller) = line_call service.yard a (next_event service.yard caller) ≡ NoCall
 
 calls_nothing : (k : Course) (y : Yard) (actor : Actor) (e : Event) → call_of y actor e ≡ NoCall → call_on k y actor e ≡ NoCall
-calls_nothing Plays y actor e none = none
-calls_nothing _ y actor e none = refl
+calls_nothing k y actor e none = grind (arith, nat_tests)
 
 pub answer_is_quiet : (y : Yard) (a : ℕ) → line_call y a Answer ≡ NoCall
 answer_is_quiet y a = calls_nothing (course y a Answer) y (actor_at y a) Answer refl
@@ -78,11 +77,7 @@ module _ (y : Yard) (a : ℕ) (c : Command) (halt : y.words.halt ≡ 1) where
       (λ has fresh now. (halt, inr (inl refl)))
 
   hop_halted : StaysHalted y a c LoadsHalt
-  hop_halted =
-      course_by (λ k. (line_on k y (actor_at y a) a (Hop halt_word)).1 ≢ NotNow → AfterHop k) y a (Hop halt_word) (λ dead stops. absurd (false≢true (sym stops))) (λ lacks now. absurd (now refl)) (λ has lives now. (halt, inr (inr (inl loads))))
-    where
-      loads : (progress_after y.shape c LoadsHalt (line_on Plays y (actor_at y a) a (Hop halt_word)).1) ≡ Answering Halted
-      loads = rw halt refl
+  hop_halted = grind (arith, nat_tests, course_by, false≢true)
 
   pub turn_halted : (at : Progress) → IsHalting at → ((reply : Reply) → at ≢ Answering reply) → StaysHalted y a c at
   turn_halted at (inl is) going = subst (StaysHalted y a c) (sym is) pin_halted

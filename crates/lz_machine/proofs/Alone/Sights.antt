@@ -1,11 +1,11 @@
 -- What has been seen of the passes, where one actor is alone: which limbo slots a pass has left.
-use Rattle.std.proofs.Common.{◌≡◌, ◌≢◌, ◌⊎◌, ⊎_elim, inl, inr, ℕ, zero, suc, ◌≤◌, ◌%◌, true, false, List, [], ◌∷◌, length, refl, sym, ap, ◌∙◌, subst, arith}
-use Rattle.std.proofs.{Common.{length-set, get_or-set_same, get_or-set_other}, lemmas.{Bool.{cases_eq, cases_lt}, List.{get_or_past}}}
+use Rattle.std.proofs.{lemmas.{Bool.{cases_eq, cases_lt, Decides.{nat_tests}}, List.{get_or_past}}, Common.{◌≡◌, ◌≢◌, ◌⊎◌, ⊎_elim, ℕ, zero, suc, ◌≤◌, ◌%◌}}
+use Rattle.std.proofs.Common.{true, false, List, [], ◌∷◌, length, refl, sym, ap, ◌∙◌, subst, arith, length-set, get_or-set_same, get_or-set_other}
 use Rattle.std.specs.{Prelude.{slice_set}, List.{list_all}}
 use mathlib.Core.Bool.{false≢true}
 use Rattle.lz_slot.specs.Counted.{of_pass, set_of_pass}
 use Rattle.lz_allot.specs.declared.sight.Sight.{Sight, TheVariants.{Inside, Left}}
-use Rattle.lz_allot.specs.Uses.{Use, Taken, Limbo, use_of, collect_at, collect, see_pin_at, see_pin, sight_after, has_left}
+use Rattle.lz_allot.specs.Uses.{Use, Limbo, use_of, collect_at, collect, see_pin_at, see_pin, sight_after, has_left}
 use Rattle.lz_machine.proofs.Frames.Uses.{use_map, limbo_same}
 
 -- pass b has left each limbo slot
@@ -18,13 +18,7 @@ IsSeenOdd uses p = (s : ℕ) (seen : List Sight) (u : ℕ) → use_of uses s ≡
 
 -- one use of a list
 pub set_cases : (uses : List Use) (r s : ℕ) (u : Use) → (use_of (slice_set uses r u) s ≡ u) ⊎ (use_of (slice_set uses r u) s ≡ use_of uses s)
-set_cases uses r s u = elim (cases_eq s r) [
-  | inl same ↦ elim (cases_lt s (length uses)) [
-    | inl lt ↦ inl (subst (λ (q : ℕ). use_of (slice_set uses q u) s ≡ u) same (get_or-set_same uses s u Taken lt))
-    | inr past ↦ inr (get_or_past (slice_set uses r u) s Taken (omega (arith, past, length-set uses r u)) ∙ sym (get_or_past uses s Taken past))
-  ]
-  | inr other ↦ inr (get_or-set_other uses r s u Taken other)
-]
+set_cases uses r s u = grind (arith, nat_tests, cases_eq, cases_lt, get_or-set_same, get_or_past, length-set, get_or-set_other)
 
 pub left_set : (uses : List Use) (r b : ℕ) (u : Use) → ((seen : List Sight) → u ≢ Limbo seen) → HasLeft uses b → HasLeft (slice_set uses r u) b
 left_set uses r b u no_limbo left s seen is = grind (arith, set_cases)
@@ -40,18 +34,14 @@ left_collect uses b left s seen is = left s seen (collected_limbo uses s seen is
 
 -- one sight of a list
 sight_cases : (seen : List Sight) (p b : ℕ) (x : Sight) → ((b ≡ p) × (of_pass (set_of_pass seen p x) b Left ≡ x)) ⊎ (of_pass (set_of_pass seen p x) b Left ≡ of_pass seen b Left)
-sight_cases seen zero b x = inr refl
-sight_cases seen (suc i) zero x = inr refl
-sight_cases seen (suc i) (suc j) x = grind (arith, cases_eq, cases_lt, get_or-set_same, get_or_past, length-set, get_or-set_other)
+sight_cases seen p b x = grind (arith, nat_tests, cases_eq, cases_lt, get_or-set_same, get_or_past, length-set, get_or-set_other)
 
 -- what is looked at of a pass itself
 own_sight : (seen : List Sight) (p : ℕ) (x : Sight) → (of_pass (set_of_pass seen p x) p Left ≡ x) ⊎ (of_pass (set_of_pass seen p x) p Left ≡ Left)
-own_sight seen zero x = inr refl
-own_sight seen (suc i) x = grind (arith, cases_lt, get_or-set_same, get_or_past, length-set)
+own_sight seen p x = grind (arith, nat_tests, cases_lt, get_or-set_same, get_or_past, length-set)
 
 seen_limbo : (p v : ℕ) (u : Use) (seen : List Sight) → see_pin_at p v u ≡ Limbo seen → (old : List Sight) × (u ≡ Limbo old) × (seen ≡ set_of_pass old p (sight_after v (of_pass old p Left)))
-seen_limbo p v (Limbo x) seen is = (x, refl, sym (limbo_same is))
-seen_limbo p v _ seen is = absurd cc
+seen_limbo p v u seen is = grind (arith, nat_tests, limbo_same)
 
 -- a slot in limbo was so before a pin was seen
 saw : (uses : List Use) (p v s : ℕ) (seen : List Sight) → use_of (see_pin p v uses) s ≡ Limbo seen → (old : List Sight) × (use_of uses s ≡ Limbo old) × (seen ≡ set_of_pass old p (sight_after v (of_pass old p Left)))

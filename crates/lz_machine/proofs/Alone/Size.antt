@@ -5,7 +5,7 @@ use Rattle.std.{proofs.lemmas.Bool.{cases_eq, cases_Bool, and_parts, not-true, D
 use Rattle.std.specs.{List.{list_any, IsDistinct}, Cmp.{nat_eq_equiv, both_ways}}
 use mathlib.Core.Bool.{false≢true}
 use Rattle.lz_slot.specs.declared.{command.Command.{Command, TheVariants.{Add, Remove, Has}}, history.Refusal.TheVariants.{Full, Worn, OldFile}}
-use Rattle.lz_slot.specs.declared.{history.Mark.TheVariants.{Call, Answer, Refused, Cut}, slot.SlotRead.{SlotRead, TheVariants.{Closed as Shut, Member}}}
+use Rattle.lz_slot.specs.declared.{history.Mark.TheVariants.{Call, Answer, Refused, Cut}, slot.SlotRead.{SlotRead, TheVariants.{Member}}}
 use Rattle.lz_slot.{specs.{Sets.{Keys, Same, members, HasMembers}, Bytes.{Holds, slot_at}, Histories.{History}}, proofs.Sets.{members_among, after_same}}
 use Rattle.lz_machine.{specs.Alone.{has_cut, IsPlain, HasRoomFor, IsFull}, proofs.Crash.ImageSlots.{found, found_in, in_found, reads_key}}
 use Rattle.lz_machine.proofs.Alone.Service.{Ended}
@@ -20,8 +20,7 @@ keys_but k t zero = []
 keys_but k t (suc n) = keys_but k t n ++ key_but k (slot_at t n)
 
 one_key : (k : ℕ) (r : SlotRead) → length (key_but k r) ≤ 1
-one_key k (Member j) = grind (arith, nat_tests)
-one_key k _ = omega arith
+one_key k r = grind (arith, nat_tests)
 
 count_all : (k : ℕ) (t : List ℕ) (n : ℕ) → length (keys_but k t n) ≤ n
 count_all k t zero = omega arith
@@ -56,7 +55,6 @@ pub members_append : (xs ys : List ℕ) (q : ℕ) → members (xs ++ ys) q ≡ (
 members_append xs ys q = list_any-append (λ (x : ℕ). x == q) xs ys
 
 key_members : (k q : ℕ) (r : SlotRead) → members (key_but k r) q ≡ (not (k == q) && reads_key q r)
-key_members k q Shut = grind (arith, nat_tests)
 key_members k q _ = grind (arith, nat_tests)
 
 distribute : (n x y : Bool) → ((n && x) || (n && y)) ≡ (n && (y || x))
@@ -84,8 +82,7 @@ next_distinct k t N n S holds le before = go (slot_at t n) refl
     of_key j true is = subst (IsDistinct nat_eq) (sym (append-nil (keys_but k t n))) before
 
     go : (r : SlotRead) → slot_at t n ≡ r → IsDistinct nat_eq (keys_but k t n ++ key_but k r)
-    go (Member j) is = of_key j (j == k) is
-    go _ is = subst (IsDistinct nat_eq) (sym (append-nil (keys_but k t n))) before
+    go r is = grind (arith, nat_tests, of_key, append-nil)
 
 pub none_distinct : IsDistinct nat_eq []
 unfolding IsDistinct

@@ -229,12 +229,10 @@ module _ (n calls : ℕ) (y : Yard) (callers : List (Option Caller)) (disk : Med
 
   -- an answer
   given_left : (slot : Option ℕ) (b : ℕ) → HasLeft y.uses b → HasLeft (given_back y slot) b
-  given_left None b left = left
-  given_left (Some s) b left = grind (arith, nat_tests, left_set)
+  given_left slot b left = grind (arith, nat_tests, left_set)
 
   given_odd : (slot : Option ℕ) (p : ℕ) → IsSeenOdd (given_back y slot) p
-  given_odd None p = seen_odd p
-  given_odd (Some s) p = grind (arith, nat_tests, free_limbo, seen_odd, set_cases)
+  given_odd slot p = grind (arith, nat_tests, seen_odd, free_limbo, set_cases)
 
   answer_left : (k : Course) → HasLeft y.uses a → HasLeft (line_on k y actor a Answer).0.uses a
   answer_left Plays left = left_seen (given_back y actor.slot) a (pin_answered actor (pin_of y a)) a (given_left actor.slot a left)
@@ -267,8 +265,7 @@ module _ (n calls : ℕ) (y : Yard) (callers : List (Option Caller)) (disk : Med
       → AloneFull a (line y a (next_event y (call_at i c at))).0 (moved_on (reply_at at) (call_at i c at) (progress_after (line y a (next_event y (call_at i c at))).0.shape c at (line y a (next_event y (call_at i c at))).1)) (line_publishes y a (next_event y (call_at i c at)) ++ P)
 
   no_adding : (t j : ℕ) (d : Command) → Relies (view_of y.shape y.vault y.actors a) d (Playing (Adding t) j) (notes.begun a) P (notes.changed a) → (k : ℕ) × (d ≡ Add k)
-  no_adding t j (Add k) rely = (k, refl)
-  no_adding t j _ rely = absurd rely
+  no_adding t j d rely = grind (arith, nat_tests)
 
   past_adding : (t j : ℕ) (d : Command) → Relies (view_of y.shape y.vault y.actors a) d (Playing (Adding t) (suc (suc (suc (suc (suc j)))))) (notes.begun a) P (notes.changed a) → ⊥
   past_adding t j (Add k) rely = rely

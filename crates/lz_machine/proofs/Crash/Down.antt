@@ -1,5 +1,6 @@
 -- What is kept where no service is open: after a stop, after a crash and after an open that is refused, each image has a list.
-use Rattle.std.proofs.{Common.{◌≡◌, inl, ℕ, Bool, true, false, List, [], ◌∷◌, refl, sym, ap, ◌∙◌, subst, arith}, lemmas.Grind.{same_number_lists}}
+use Rattle.std.proofs.lemmas.{Bool.Decides.{nat_tests}, Grind.{same_number_lists}}
+use Rattle.std.proofs.Common.{◌≡◌, inl, ℕ, Bool, true, false, List, refl, sym, ap, ◌∙◌, subst, arith}
 use Rattle.lz_slot.specs.{Histories.{History, Life, lives}, declared.format.Format.{Format}, Bytes.{format_of}}
 use Rattle.lz_disk.specs.Images.{Medium, AreBytes, IsImage, at_rest, synced}
 use Rattle.lz_vault.specs.Stages.{Suits}
@@ -43,8 +44,7 @@ down_synced shape disk life P down = crashed shape disk life P disk.seen down.so
 -- a step that adds nothing to the lives
 keeps_lives : (start : Start) (p q : Point) → shape_of q.state ≡ shape_of p.state
     → ((life : Life) → StateSound p p.state life → HasFormat (format_of start.text) p.state → StateSound q q.state life × HasFormat (format_of start.text) q.state) → (L : List Life) → PointSound start p L → PointSound start q L
-keeps_lives start p q shape keeps [] h = absurd h
-keeps_lives start p q shape keeps (life ∷ earlier) h = let kept = keeps life h.2 h.3 in (shape ∙ h.0, h.1, kept.0, kept.1)
+keeps_lives start p q shape keeps L h = grind (arith, nat_tests)
 
 -- on a text at rest
 pub rest_format : (F : Format) (b : Bool) (shape : Shape) (t : List ℕ) → format_of t ≡ F → HasFormat F (Down shape (at_rest b t))

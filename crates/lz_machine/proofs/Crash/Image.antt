@@ -53,13 +53,10 @@ fits_from : (M : History) (L : List ℕ) (S T U : Keys) → Same S T → Fits S 
 fits_from M L S T U same fits = record { once = fits.once; answered = fits.answered; not_refused = fits.not_refused; order = fits.order; runs = runs_from M L S T U same fits.runs }
 
 is_at_opening : (stage : Stage) → is_opening stage ≡ true → stage ≡ Opening
-is_at_opening Opening is = refl
-is_at_opening _ is = absurd (false≢true is)
+is_at_opening stage is = grind (arith, nat_tests, false≢true)
 
 no_bad_key : (k : ℕ) (r : SlotRead) → IsReadShut r ⊎ (r ≡ Member k) → r ≢ BadKey
-no_bad_key k r (inl (inl shut)) bad = absurd cc
-no_bad_key k r (inl (inr torn)) bad = absurd cc
-no_bad_key k r (inr is) bad = absurd cc
+no_bad_key k r h bad = grind (arith, nat_tests)
 
 -- what differs from the trace in the image
 abbrev differs : Bool → Bool → Bool
@@ -68,7 +65,6 @@ differs false now = now
 
 -- what differs from the trace and is in no row was dropped
 kept_is : (was now dropped named : Bool) → dropped ≡ (not named && differs was now) → named ≡ false → (if dropped then not was else was) ≡ now
-kept_is true true dropped named is none = grind (arith, is, none)
 kept_is _ _ dropped named is none = grind (arith, is, none)
 
 module _ (n calls : ℕ) (service : Service) (disk : Medium) (life : Life) (P : Trace) (notes : Notes) (up : UpSound n calls service disk life P notes) (t : List ℕ) (image : IsImage disk t) where

@@ -2,13 +2,12 @@
 -- and no two are of one key.
 use Rattle.std.proofs.Common.{◌≡◌, ◌⊎◌, ⊎_elim, inl, inr, ℕ, zero, suc, ◌<◌, ◌==◌, ◌||◌, Bool, true, false, List, Option, Some, refl, sym, ap, ◌∙◌, subst}
 use Rattle.std.proofs.{Common.{arith}, lemmas.Bool.{cases_eq, cases_Bool, or_cases, or_left, or_right, eq-eqb, Decides.{nat_tests}}}
-use Rattle.std.{proofs.lemmas.Option.{slice_get-get_or, same_Some}, specs.Prelude.{slice_get}}
+use Rattle.std.proofs.lemmas.Option.{slice_get-get_or, same_Some}
 use mathlib.Core.Bool.{false≢true}
-use Rattle.lz_slot.specs.{Sets.{Keys}, Bytes.{slot_at}, declared.{format.Format.{Format, TheVariants.{Four}}, slot.SlotRead.{SlotRead, TheVariants.{Member}}}}
-use Rattle.lz_slot.specs.Histories.{History}
+use Rattle.lz_slot.specs.{Sets.{Keys}, Bytes.{slot_at}, declared.{format.Format.{Format}, slot.SlotRead.{SlotRead, TheVariants.{Member}}}, Histories.{History}}
 use Rattle.lz_disk.specs.Images.{Medium, IsImage}
-use Rattle.lz_vault.specs.declared.vault.Stage.{Stage, TheVariants.{Closed, Torn, KeyLoose, Keyed, Open, Closing}}
-use Rattle.lz_vault.{specs.{Stages.{MayRead, IsFree, IsReadShut, IsReadShutIn}, Members.{no_cell}}, proofs.Reading.{image_reads}}
+use Rattle.lz_vault.specs.{declared.vault.Stage.{Stage, TheVariants.{Closing}}, Stages.{MayRead, IsFree, IsReadShut, IsReadShutIn}}
+use Rattle.lz_vault.proofs.Reading.{image_reads}
 use Rattle.lz_list.specs.{Words.{place_number, link_to}, Locks.{owner}}
 use Rattle.lz_list.{specs.Traces.{Trace, WordsShow, has_key, on, chain_of, bucket_of, key_word, next_link, member}, proofs.Chains.PlaceRank.{has_on}}
 use Rattle.lz_list.proofs.{Chains.TraceChain.{words_show_chain}, Traces.{Absence.{unlinked_is_settled}, NodeBits.{one_node}, TraceWords.{node_of_key}}}
@@ -27,15 +26,11 @@ found t zero k = false
 found t (suc n) k = reads_key k (slot_at t n) || found t n k
 
 key_read : (k : ℕ) (r : SlotRead) → reads_key k r ≡ true → r ≡ Member k
-key_read k (Member j) is = ap Member (grind (arith, nat_tests, is))
-key_read k _ is = absurd (false≢true is)
+key_read k r is = grind (arith, nat_tests, false≢true)
 
 pub found_in : (t : List ℕ) (n k : ℕ) → found t n k ≡ true → (i : ℕ) × (i < n) × (slot_at t i ≡ Member k)
 found_in t zero k is = absurd (false≢true is)
-found_in t (suc n) k is = elim (or_cases (reads_key k (slot_at t n)) (found t n k) is) [
-  | inl here ↦ (n, omega arith, key_read k (slot_at t n) here)
-  | inr before ↦ let at = found_in t n k before in (at.0, omega (arith, at.1), at.2)
-]
+found_in t (suc n) k is = grind (arith, nat_tests, or_cases, key_read, found_in t n k)
 
 read_key : (k : ℕ) (r : SlotRead) → r ≡ Member k → reads_key k r ≡ true
 read_key k r is = ap (reads_key k) is ∙ eq-eqb k k refl
@@ -48,31 +43,19 @@ in_found t (suc n) k i lt is = elim (cases_eq i n) [
 ]
 
 pub not_both : (j : ℕ) (r : SlotRead) → IsReadShut r → r ≡ Member j → ⊥
-not_both j r (inl shut) is = absurd cc
-not_both j r (inr torn) is = absurd cc
+not_both j r h is = grind (arith, nat_tests)
 
 shut_in : (F : Format) (r : SlotRead) → IsReadShutIn F r → IsReadShut r
-shut_in Four r shut = shut
-shut_in F r shut = inl shut
+shut_in F r shut = grind (arith, nat_tests)
 
 pub shut_read : (F : Format) (stage : Stage) (k : ℕ) (r : SlotRead) → MayRead F stage k r → IsFree stage → IsReadShut r
-shut_read F Closed k r may free = inl may
-shut_read F Torn k r may free = shut_in F r may
-shut_read F KeyLoose k r may free = shut_in F r may
-shut_read F Keyed k r may free = inl may
-shut_read F _ k r may free = absurd free
+shut_read F stage k r may free = grind (arith, nat_tests, shut_in)
 
 shut_or_member : (F : Format) (k : ℕ) (r : SlotRead) → IsReadShutIn F r ⊎ (r ≡ Member k) → IsReadShut r ⊎ (r ≡ Member k)
-shut_or_member F k r (inl shut) = inl (shut_in F r shut)
-shut_or_member F k r (inr is) = inr is
+shut_or_member F k r h = grind (arith, nat_tests, shut_in)
 
 pub one_or_other : (F : Format) (stage : Stage) (k : ℕ) (r : SlotRead) → MayRead F stage k r → IsReadShut r ⊎ (r ≡ Member k)
-one_or_other F Open k r may = inr may
-one_or_other F Closed k r may = inl (inl may)
-one_or_other F Keyed k r may = inl (inl may)
-one_or_other F Torn k r may = inl (shut_in F r may)
-one_or_other F KeyLoose k r may = inl (shut_in F r may)
-one_or_other F _ k r may = shut_or_member F k r may
+one_or_other F stage k r may = grind (arith, nat_tests, shut_in, shut_or_member)
 
 -- a slot that is read as a key's
 pub member_read : (F : Format) (stage : Stage) (k j : ℕ) (r : SlotRead) → MayRead F stage k r → r ≡ Member j → (k ≡ j) × (IsGateOpened stage ⊎ (stage ≡ Closing))
@@ -141,9 +124,7 @@ module _ (n calls : ℕ) (y : Yard) (callers : List (Option Caller)) (disk : Med
 
   module _ (t : List ℕ) (image : IsImage disk t) where
     pub reads : (s : ℕ) → s < y.shape.slots → MayRead y.vault.format (stage_in y.vault.cells s) (cell_in y.vault.cells s).key (slot_at t s)
-    reads s lt =
-        let there : slice_get y.vault.cells s ≡ Some (cell_in y.vault.cells s) = slice_get-get_or y.vault.cells s no_cell (omega (arith, lt, sound.images.count)) in
-        image_reads y.vault.format y.vault.cells disk sound.images.keeps.vouches t s (cell_in y.vault.cells s) (omega (arith, sound.images.count, sound.images.slots.1)) image there (sound.images.keys s (cell_in y.vault.cells s) there)
+    reads s lt = grind (arith, nat_tests, slice_get-get_or, image_reads)
 
     not_shut : (s k : ℕ) → s < y.shape.slots → slot_at t s ≡ Member k → IsFree (stage_in y.vault.cells s) → ⊥
     not_shut s k lt is shut = not_both k (slot_at t s) (shut_read y.vault.format (stage_in y.vault.cells s) (cell_in y.vault.cells s).key (slot_at t s) (reads s lt) shut) is

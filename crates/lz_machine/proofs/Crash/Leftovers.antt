@@ -1,14 +1,15 @@
 -- What a crash may leave at any time, also inside a call of the device, has a list; so a crash inside a call keeps the invariant.
+use Rattle.std.proofs.lemmas.Bool.Decides.{nat_tests}
 use Rattle.std.proofs.Common.{◌≡◌, ◌≢◌, inl, inr, ℕ, Bool, true, false, List, [], ◌∷◌, ◌++◌, Option, Some, None, refl, sym, ap, ◌∙◌, subst, arith}
 use mathlib.Core.Bool.{false≢true}
 use Rattle.lz_slot.specs.{Sets.{Keys}, Bytes.{Holds, format_of}, declared.{format.Format.{Format, TheVariants.{Four}}, command.Command.{Command}}}
 use Rattle.lz_slot.specs.Histories.{History, Life, ChainTo, lives, last_history}
 use Rattle.lz_disk.specs.Images.{Medium, AreBytes, IsImage}
-use Rattle.lz_vault.specs.{Stages.{Suits}, Vaults.{DeviceCall, NoCall, medium_after}}
+use Rattle.lz_vault.specs.{Stages.{Suits}, Vaults.{DeviceCall, medium_after}}
 use Rattle.lz_list.specs.{declared.publishing.Publishing.TheVariants.{KeyPrepared as key_prepared, LinkPrepared as link_prepared}, Traces.{Trace}}
 use Rattle.lz_machine.specs.declared.event.{Event.{Event, TheVariants.{WriteKey, WriteOpen, WriteClose, Sync, Answer}}, Outcome.TheVariants.{Done, NotNow}}
-use Rattle.lz_machine.specs.declared.{event.Reply.{Reply}, course.Course.{Course, TheVariants.{Refused, Dies, Plays}}, actor.Actor.{Actor}}
-use Rattle.lz_machine.specs.{declared.caller.Progress.{Progress, TheVariants.{Answering}}, Yards.{Shape, Yard, actor_at}}
+use Rattle.lz_machine.specs.declared.{event.Reply.{Reply}, course.Course.{Course, TheVariants.{Plays}}, actor.Actor.{Actor}, caller.Progress.{Progress}}
+use Rattle.lz_machine.specs.Yards.{Shape, Yard, actor_at}
 use Rattle.lz_machine.specs.Table.{course, line, line_on, call_on, call_of, published_on, publishes, vault_after, yard_done, outcome_of}
 use Rattle.lz_machine.specs.{Calls.{event_at, loaded}, Runs.{Start, Service, Caller, State, Up, Down, CrashesIn, Point, Reached, IsStart, IsRun, Transition}}
 use Rattle.lz_machine.specs.Runs.{MayStep, MayLeave, LeftInside, HasTurn, point_after, run, first_point, disk_of, shape_of, start_keys, caller_at, next_event}
@@ -45,8 +46,7 @@ has_list_before slots life P Q t before h = record { found = h.found; calls = h.
 
 -- no call makes a medium bytewise, or takes that from it
 same_kind : (call : DeviceCall) (disk : Medium) → (medium_after call disk).bytewise ≡ disk.bytewise
-same_kind NoCall disk = refl
-same_kind _ disk = refl
+same_kind call disk = grind (arith, nat_tests)
 
 -- an event other than Answer, and how far its call has come
 abbrev is_answer : Event → Bool
@@ -54,17 +54,14 @@ is_answer Answer = true
 is_answer _ = false
 
 no_reply : (y : Yard) (c : Command) (at : Progress) (e : Event) → loaded y.words (event_at y.shape c at) ≡ e → is_answer e ≡ false → reply_at at ≡ None
-no_reply y c (Answering reply) e is other = absurd (false≢true (sym other ∙ sym (ap is_answer is)))
-no_reply y c _ e is other = refl
+no_reply y c at e is other = grind (arith, nat_tests, false≢true)
 
 done_is_now : Done ≡ NotNow → ⊥
 done_is_now is = absurd cc
 
 -- what a crash inside a call leaves are bytes
 pub inside_bytes : (a : ℕ) (service : Service) (disk : Medium) (who : Option Caller) (t : List ℕ) → LeftInside service disk a who t → AreBytes t
-inside_bytes a service disk None t h = absurd h
-inside_bytes a service disk (Some caller) t (inl image) = image.bytes
-inside_bytes a service disk (Some caller) t (inr image) = image.bytes
+inside_bytes a service disk who t h = grind (arith, nat_tests)
 
 module _ (start : Start) (a : ℕ) (service : Service) (disk : Medium) (M : History) (P : Trace) (calls : ℕ) (sound : IsSound start (point (Up service disk) M P calls)) (caller : Caller) (is : caller_at service.callers a ≡ Some caller) where
   abbrev y : Yard
@@ -129,8 +126,7 @@ module _ (start : Start) (a : ℕ) (service : Service) (disk : Medium) (M : Hist
 
   left_on : (c : Course) (e : Event) (t : List ℕ) → next_event y caller ≡ e → course y a e ≡ c → IsImage (medium_after (call_on c y actor e) disk) t → IsLeft (point (Up service disk) M P calls) t (lives (start_keys start) M)
   left_on Plays e t next plays image = left_playing e t next plays image
-  left_on Dies e t next dies image = itself t image
-  left_on (Refused outcome) e t next refused image = itself t image
+  left_on _ e t next _ image = itself t image
 
   left_of_caller : (t : List ℕ) → LeftInside service disk a (Some caller) t → IsLeft (point (Up service disk) M P calls) t (lives (start_keys start) M)
   left_of_caller t (inl image) = itself t image
@@ -181,11 +177,7 @@ module _ (reached_sound : (start : Start) (steps : List Transition) → IsStart 
     where
       go : (L : List Life) → PointSound start (run (first_point start) reached.steps) L → IsLeft (run (first_point start) reached.steps) t L → (S : Keys) × Holds t start.shape.slots S × ChainTo L S
       go [] h left = absurd h
-      go (life ∷ earlier) h left = (
-        left.1.found,
-        subst (λ (shape : Shape). Holds t shape.slots left.1.found) h.0 left.1.holds,
-        (left.1.calls, left.1.fits, left.0),
-      )
+      go (life ∷ earlier) h left = grind (arith, nat_tests)
 
   abbrev HasSettled : Start → List ℕ → History → Trace → Type 0
   HasSettled start t M P = (S : Keys) × Holds t start.shape.slots S × Lasts P (last_history (lives (start_keys start) M)) S
@@ -197,8 +189,4 @@ module _ (reached_sound : (start : Start) (steps : List Transition) → IsStart 
     where
       go : (L : List Life) → PointSound start (run (first_point start) reached.steps) L → IsLeft (run (first_point start) reached.steps) t L → (S : Keys) × Holds t start.shape.slots S × Lasts (run (first_point start) reached.steps).trace (last_history L) S
       go [] h left = absurd h
-      go (life ∷ earlier) h left = (
-        left.1.found,
-        subst (λ (shape : Shape). Holds t shape.slots left.1.found) h.0 left.1.holds,
-        left.1.lasts,
-      )
+      go (life ∷ earlier) h left = grind (arith, nat_tests)

@@ -1,5 +1,6 @@
 -- What a caller relies on stays when another's event changes cells, or the vault dies.
-use Rattle.std.proofs.Common.{◌≡◌, ◌≢◌, ℕ, ◌<◌, Bool, true, List, length, Option, Some, None, sym, ap, subst, get_or-set_same, get_or-set_other, arith}
+use Rattle.std.proofs.lemmas.Bool.Decides.{nat_tests}
+use Rattle.std.proofs.Common.{◌≡◌, ◌≢◌, ℕ, ◌<◌, Bool, true, List, length, Option, Some, sym, ap, subst, get_or-set_same, get_or-set_other, arith}
 use Rattle.std.specs.Prelude.{slice_set}
 use Rattle.lz_slot.specs.declared.{format.Format.{Format}, command.Command.{Command}}
 use Rattle.lz_vault.specs.{declared.vault.Stage.{Stage, TheVariants.{Keyed}}, Stages.{Cell}, Members.{no_cell}}
@@ -24,8 +25,7 @@ module _ (buckets passes : ℕ) (format : Format) (cells cells' : List Cell) (de
   relies_keeps c at h = grind arith
 
   caller_keeps : (pin : ℕ) (caller : Option Caller) → IsCaller v pin caller P0 P changed → IsCaller w pin caller P0 P changed
-  caller_keeps pin None h = h
-  caller_keeps pin (Some caller) h = (h.0, h.1, relies_keeps caller.command caller.progress h.2)
+  caller_keeps pin caller h = grind (arith, nat_tests, relies_keeps)
 
   pub caller_vaulted : (pin : ℕ) (caller : Option Caller) → CallerSound v pin caller P0 P changed → CallerSound w pin caller P0 P changed
   caller_vaulted pin caller h = record { quiet = h.quiet; begins = h.begins; stands = caller_keeps pin caller h.stands }

@@ -61,12 +61,10 @@ none_beyond b n (_ ∷ P) le = none_beyond b n P (omega (arith, le))
 
 -- a pass that is outside has changed nothing
 side_out : (b : Bool) → side_of b ≡ 0 → b ≡ true
-side_out true side = refl
-side_out false side = absurd (omega (arith, side))
+side_out b side = grind (arith, nat_tests)
 
 before_pin : (v : View) (c : Command) (at : Progress) (P0 P : Trace) (changed : Option ℕ) → is_before_pin at ≡ true → Relies v c at P0 P changed → changed ≡ None
 before_pin v c at P0 P changed outside h = grind arith
 
 pub none_outside : (v : View) (pin : ℕ) (caller : Option Caller) (P0 P : Trace) (changed : Option ℕ) → pin % 2 ≡ 0 → IsCaller v pin caller P0 P changed → changed ≡ None
-none_outside v pin None P0 P changed even h = h.1
-none_outside v pin (Some caller) P0 P changed even h = before_pin v caller.command caller.progress P0 P changed (side_out (is_before_pin caller.progress) (sym (side_even pin caller.progress h.0) ∙ even)) h.2
+none_outside v pin caller P0 P changed even h = grind (arith, nat_tests, before_pin, side_out, side_even)

@@ -1,7 +1,7 @@
 -- The key that a call writes is one that the file can hold.
 use Rattle.std.{specs.Prelude.{nat_lt}, proofs.{Common.{◌≡◌, ℕ, zero, suc, ◌≤◌, false, Option, Some, None, refl, arith}, lemmas.Option.{none-some}}}
 use Rattle.std.proofs.lemmas.Bool.Decides.{nat_tests}
-use Rattle.lz_slot.specs.{declared.{command.Command.{Command, TheVariants.{Add}}, format.Format.{Format}}, Rooms.{largest_of}, Sets.{key_of}}
+use Rattle.lz_slot.specs.{declared.{command.Command.{Command}, format.Format.{Format}}, Rooms.{largest_of}, Sets.{key_of}}
 use Rattle.lz_list.specs.{Words.{Words}, Traces.{Trace}}
 use Rattle.lz_machine.specs.declared.caller.Sequence.{Sequence, TheVariants.{Pinning, Resting, Writing, Adding, Removing, Releasing, Halting}}
 use Rattle.lz_machine.specs.{declared.{caller.Progress.{Progress, TheVariants.{Playing}}, event.Event.{Event, TheVariants.{WriteKey}}}, Yards.{Shape}}
@@ -11,8 +11,7 @@ within : (most k : ℕ) → nat_lt most k ≡ false → k ≤ most
 within most k is = grind (arith, nat_tests)
 
 pub adds_fitting : (format : Format) (c : Command) → IsAdder c → is_old format c ≡ false → key_of c ≤ largest_of format
-adds_fitting format (Add k) adder fits = within (largest_of format) k fits
-adds_fitting format _ adder fits = absurd adder
+adds_fitting format c adder fits = grind (arith, nat_tests, within)
 
 -- the key that an event writes
 abbrev pub key_written : Event → Option ℕ

@@ -1,8 +1,8 @@
 -- What an actor has in hand, and may rely on its hold for, stays when its hold changes so, and when the vault dies.
-use Rattle.std.proofs.Common.{◌≡◌, ℕ, Bool, true, false, Some, refl, arith}
+use Rattle.std.proofs.{lemmas.Bool.Decides.{nat_tests}, Common.{◌≡◌, ℕ, Bool, true, false, Some, arith}}
 use mathlib.Core.Bool.{false≢true}
-use Rattle.lz_machine.specs.declared.actor.{Actor.{Actor}, Hold.{Hold, TheVariants.{Nothing, Released}}}
-use Rattle.lz_machine.specs.{SlotsSound.{IsOut, IsCloser, closes, opens, shuts, unlocks, has_removed_node}, LocksSound.{has_locks}}
+use Rattle.lz_machine.specs.{declared.actor.{Actor.{Actor}, Hold.{Hold}}, SlotsSound.{IsOut, IsCloser, closes, opens, shuts, unlocks, has_removed_node}}
+use Rattle.lz_machine.specs.LocksSound.{has_locks}
 
 -- the actor has the same slots in hand, and may rely on its hold for them
 pub record KeepsGrips (dead dead' : Bool) (old new : Actor) : Type 0 where
@@ -23,6 +23,4 @@ keeps_itself dead dead' old new dies same = grind arith
 
 -- an actor that may have closed a gate has its locks
 pub closer_locks : (dead : Bool) (hold : Hold) → closes dead hold ≡ true → has_locks hold ≡ true
-closer_locks dead Nothing is = absurd (false≢true is)
-closer_locks dead Released is = absurd (false≢true is)
-closer_locks dead _ is = refl
+closer_locks dead hold is = grind (arith, nat_tests, false≢true)

@@ -1,12 +1,11 @@
 -- What an actor relies on because of its locks stays when another publishes.
 use Rattle.lz_machine.proofs.Frames.OtherLink as links
 use Rattle.lz_machine.proofs.Frames.OtherUnlink as unlinks
-use Rattle.std.proofs.{Common.{◌≡◌, ◌≢◌, ℕ, zero, suc, Bool, true, false, List, ◌∷◌, Some, refl, sym, ap, ◌∙◌, subst, arith}, lemmas.Bool.Decides.{nat_tests}}
-use Rattle.lz_list.specs.declared.{place.Place.{Place, TheVariants.{Bucket, Node}}, publishing.{Change.{Change}, Publishing.{Publishing}}}
-use Rattle.lz_list.specs.declared.publishing.Publishing.TheVariants.{Linked as linked, Marked as marked, Unlinked as unlinked, KeyPrepared as key_prepared}
-use Rattle.lz_list.specs.declared.publishing.Publishing.TheVariants.{LinkPrepared as link_prepared, Settled as settled, Halted as halted}
-use Rattle.lz_list.specs.{Words.{place_number, link_to}, Traces.{Trace, Lawful, place_of, bucket_of, key_word, is_marked, rank_at}, Laws.{IsLow, IsHigh}}
-use Rattle.lz_list.specs.Locks.{NodeLocks}
+use Rattle.std.proofs.{Common.{◌≡◌, ◌≢◌, ℕ, suc, Bool, true, false, List, ◌∷◌, Some, refl, sym, ◌∙◌, subst, arith}, lemmas.Bool.Decides.{nat_tests}}
+use Rattle.lz_list.specs.declared.{place.Place.{Place}, publishing.{Change.{Change}, Publishing.{Publishing, TheVariants.{Linked as linked, Marked as marked}}}}
+use Rattle.lz_list.specs.declared.publishing.Publishing.TheVariants.{Unlinked as unlinked, KeyPrepared as key_prepared, LinkPrepared as link_prepared}
+use Rattle.lz_list.specs.{declared.publishing.Publishing.TheVariants.{Settled as settled, Halted as halted}, Words.{place_number, link_to}}
+use Rattle.lz_list.specs.{Traces.{Trace, Lawful, place_of, bucket_of, key_word, is_marked, rank_at}, Laws.{IsLow, IsHigh}, Locks.{NodeLocks}}
 use Rattle.lz_machine.specs.{declared.actor.{Actor.{Actor}, Hold.{Hold, TheVariants.{Checked, GateOpened, GateClosed, Marked}}}, Yards.{Shape, actor_in}}
 use Rattle.lz_machine.specs.{Stands.{IsLinkable, Faces, InBucket, IsLeaving}, LocksSound.{IsBeside, IsRightBefore, HasClosed, RestsOn, LocksSound}}
 
@@ -74,8 +73,7 @@ pair_published buckets e actor P leaves h = grind (arith, nat_tests, pair_stays)
 
 -- what a publishing leaves of ranks and links, where it leaves the key words, and where it leaves each link
 rank_same : (e : Publishing) (P : Trace) → ((t : ℕ) → key_word t (e ∷ P) ≡ key_word t P) → (x : ℕ) → rank_at (λ t. key_word t (e ∷ P)) x ≡ rank_at (λ t. key_word t P) x
-rank_same e P word zero = refl
-rank_same e P word (suc t) = ap suc (word t)
+rank_same e P word x = grind (arith, nat_tests)
 
 -- A linking at another place, of another slot.
 pub linked_leaves : (buckets slots k s p : ℕ) (actor : Actor) (P : Trace) → Lawful buckets slots P
@@ -134,6 +132,4 @@ locks_published shape locks actors e P leaves h = record { heads = h.heads; node
 
 -- two places of one bucket with one number are one place
 pub one_place : (buckets j k : ℕ) (p q : Place) → InBucket buckets j p → InBucket buckets k q → bucket_of buckets j ≡ bucket_of buckets k → place_number p ≡ place_number q → p ≡ q
-one_place buckets j k (Bucket b) (Bucket c) at there same number = ap Bucket (at ∙ same ∙ sym there)
-one_place buckets j k (Node s) (Node t) at there same number = ap Node (omega (arith, number))
-one_place buckets j k _ _ at there same number = absurd (omega (arith, number))
+one_place buckets j k p q = grind (arith, nat_tests)

@@ -1,5 +1,5 @@
 -- What is said of slots stays where all that it speaks of changes only so far: holds, uses, cells and nodes.
-use Rattle.std.proofs.Common.{◌≡◌, ◌≢◌, ◌⊎◌, inl, inr, ℕ, suc, Bool, true, List, ◌∷◌, refl, sym, ◌∙◌, subst}
+use Rattle.std.proofs.{Common.{arith, ◌≡◌, ◌≢◌, ◌⊎◌, inl, inr, ℕ, suc, Bool, true, List, ◌∷◌, refl, sym, ◌∙◌, subst}, lemmas.Bool.Decides.{nat_tests}}
 use Rattle.lz_vault.specs.{declared.vault.Stage.TheVariants.{Closed, Opening}, Stages.{Cell, IsFree}}
 use Rattle.lz_allot.specs.{declared.sight.Sight.{Sight}, Uses.{Use, Free, Limbo, use_of}}
 use Rattle.lz_list.specs.declared.publishing.Publishing.{Publishing}
@@ -50,11 +50,7 @@ module _ (shape : Shape) (cells cells' : List Cell) (dead dead' : Bool) (uses us
   in_limbo s loose (inr (seen, limbo)) closed = is_limbo seen loose limbo closed
 
   stands : (s : ℕ) → SlotStands shape cells dead uses actors P s → SlotStands shape cells' dead' uses' actors' P' s
-  stands s (is_node on_it stage) = is_node (record {
-    there = subst (λ (k : ℕ). on 0 (chain_of shape.buckets k P') (suc s) ≡ true) (sym (nodes.word s)) (nodes.chain (key_word s P) s on_it.there);
-    taken = used.taken s on_it.taken;
-    key = key_kept s on_it.key;
-  }) (node_stage s stage)
+  stands s (is_node on_it stage) = grind (arith, nat_tests, key_kept, node_stage)
   stands s (is_held b slot) = is_held b ((grips b).slot ∙ slot)
   stands s (is_out b out) = is_out b ((grips b).still_out s out)
   stands s (is_free loose free stage) = is_free (nodes.loose s loose) (used.free s free) ((gates s).shut stage)

@@ -1,7 +1,7 @@
 -- A slot that every pass has left is away from every pass that is inside.
-use Rattle.std.proofs.Common.{◌≡◌, inl, inr, ℕ, suc, ◌≤◌, ◌%◌, true, [], ◌∷◌, length, sym, ◌∙◌, arith}
+use Rattle.std.proofs.{lemmas.Bool.Decides.{nat_tests}, Common.{◌≡◌, inl, inr, ℕ, suc, ◌≤◌, ◌%◌, true, [], ◌∷◌, length, sym, ◌∙◌, arith}}
 use mathlib.Core.Bool.{false≢true}
-use Rattle.lz_allot.specs.{declared.sight.Sight.{Sight, TheVariants.{Unseen, Inside, Left}}, Uses.{sight_after}}
+use Rattle.lz_allot.specs.{declared.sight.Sight.{Sight}, Uses.{sight_after}}
 use Rattle.lz_list.{specs.{declared.publishing.Publishing.{Publishing}, Traces.{Trace, Begins, on, chain, IsLoose}}, proofs.Traces.Hindsight.{once_begins}}
 use Rattle.lz_machine.specs.Limbo.{IsAway, IsRightSight}
 
@@ -19,24 +19,17 @@ away_new buckets t (e ∷ P) loose b (inr before) = let less = shorter (e ∷ P)
 
 -- and stays away while no chain has it
 pub away_stays : (buckets t : ℕ) (P0 : Trace) (e : Publishing) (P : Trace) → IsLoose buckets t (e ∷ P) → IsAway buckets P0 P t → IsAway buckets P0 (e ∷ P) t
-away_stays buckets t P0 e P loose away b (inl now) = false≢true (sym (loose b) ∙ now.1)
-away_stays buckets t P0 e P loose away b (inr before) = away b before
+away_stays buckets t P0 e P loose away b h = grind (arith, nat_tests, false≢true)
 
 module _ (buckets t : ℕ) where
   pub seen_step : (v : ℕ) (P0 : Trace) (e : Publishing) (P : Trace) (seen : Sight) → IsLoose buckets t (e ∷ P) → IsRightSight buckets v P0 P t seen → IsRightSight buckets v P0 (e ∷ P) t seen
-  seen_step v P0 e P Unseen loose h = tt
-  seen_step v P0 e P (Inside u) loose h = (h.0, h.1, λ lt odd. away_stays buckets t P0 e P loose (h.2 lt odd))
-  seen_step v P0 e P Left loose h = λ odd. away_stays buckets t P0 e P loose (h odd)
+  seen_step v P0 e P seen loose h = grind (arith, nat_tests, away_stays)
 
   pub seen_pin : (v : ℕ) (P0 P : Trace) (seen : Sight) → IsLoose buckets t P → IsRightSight buckets v P0 P t seen → IsRightSight buckets (suc v) P P t seen
-  seen_pin v P0 P Unseen loose h = tt
-  seen_pin v P0 P (Inside u) loose h = (h.0, omega (arith, h.1), λ lt odd. away_new buckets t P loose)
-  seen_pin v P0 P Left loose h = λ odd. away_new buckets t P loose
+  seen_pin v P0 P seen loose h = grind (arith, nat_tests, away_new)
 
   pub seen_leave : (v : ℕ) (P0 P : Trace) (seen : Sight) → v % 2 ≡ 1 → IsRightSight buckets v P0 P t seen → IsRightSight buckets (suc v) P0 P t seen
-  seen_leave v P0 P Unseen inside h = tt
-  seen_leave v P0 P (Inside u) inside h = (h.0, omega (arith, h.1), λ lt odd. absurd (omega arith))
-  seen_leave v P0 P Left inside h = λ odd. absurd (omega arith)
+  seen_leave v P0 P seen inside h = grind (arith, nat_tests)
 
   pub seen_see : (v : ℕ) (P0 P : Trace) (seen : Sight) → IsRightSight buckets v P0 P t seen → IsRightSight buckets v P0 P t (sight_after v seen)
   seen_see v P0 P seen h = grind arith

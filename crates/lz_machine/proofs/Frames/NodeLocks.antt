@@ -1,6 +1,6 @@
 -- Node locks: what a claim and a release make of them.
-use Rattle.std.proofs.Common.{◌≡◌, ◌≢◌, ◌⊎◌, inl, inr, ℕ, zero, suc, ◌<◌, ◌≤◌, true, false, List, length, Option, Some, None, refl, sym, ap, ◌∙◌, subst, arith}
-use Rattle.std.proofs.Common.{get_or-set_other, get_or-set_same, length-set}
+use Rattle.std.proofs.{lemmas.Bool.Decides.{nat_tests}, Common.{◌≡◌, ◌≢◌, ◌⊎◌, inl, inr, ℕ, ◌<◌, ◌≤◌, true, false, List, length, Option, Some, None, refl, sym}}
+use Rattle.std.proofs.Common.{◌∙◌, subst, arith, get_or-set_other, get_or-set_same, length-set}
 use mathlib.Core.Bool.{false≢true}
 use Rattle.lz_list.specs.{declared.place.Place.{Place, TheVariants.{Bucket, Node}}, Traces.{Trace}}
 use Rattle.lz_list.specs.Locks.{NodeLocks, owner, with_owner, is_pair_free, pair_owned, claimed_places}
@@ -17,22 +17,16 @@ IsPlaceIn locks (Node s) = s < length locks.nodes
 
 module _ (a : ℕ) where
   owner_same : (locks : NodeLocks) (place : Place) → IsPlaceIn locks place → owner (with_owner locks place a) place ≡ a
-  owner_same locks (Bucket b) lt = get_or-set_same locks.heads b a 0 lt
-  owner_same locks (Node s) lt = get_or-set_same locks.nodes s a 0 lt
+  owner_same locks place lt = grind (arith, nat_tests, get_or-set_same)
 
   owner_other : (locks : NodeLocks) (place other : Place) → other ≢ place → owner (with_owner locks place a) other ≡ owner locks other
-  owner_other locks (Bucket b) (Bucket c) apart = get_or-set_other locks.heads b c a 0 (λ same. apart (ap Bucket same))
-  owner_other locks (Node s) (Node t) apart = get_or-set_other locks.nodes s t a 0 (λ same. apart (ap Node same))
-  owner_other locks _ _ apart = refl
+  owner_other locks place other apart = grind (arith, nat_tests, get_or-set_other)
 
   in_still : (locks : NodeLocks) (place other : Place) → IsPlaceIn locks other → IsPlaceIn (with_owner locks place a) other
-  in_still locks (Bucket b) (Bucket c) lt = omega (arith, lt, length-set locks.heads b a)
-  in_still locks (Node s) (Node t) lt = omega (arith, lt, length-set locks.nodes s a)
-  in_still locks _ _ lt = lt
+  in_still locks place other lt = grind (arith, nat_tests, length-set)
 
   with_lengths : (locks : NodeLocks) (place : Place) → (length (with_owner locks place a).heads ≡ length locks.heads) × (length (with_owner locks place a).nodes ≡ length locks.nodes)
-  with_lengths locks (Bucket b) = (length-set locks.heads b a, refl)
-  with_lengths locks (Node s) = (refl, length-set locks.nodes s a)
+  with_lengths locks place = grind (arith, nat_tests, length-set)
 
   pub pair_lengths : (locks : NodeLocks) (pred : Place) (curr : Option ℕ) → (length (pair_owned locks pred curr a).heads ≡ length locks.heads) × (length (pair_owned locks pred curr a).nodes ≡ length locks.nodes)
   pair_lengths locks pred None = with_lengths locks pred
@@ -63,8 +57,7 @@ pair_free locks pred curr place free h5 = grind arith
 
 -- no actor is 0
 pub no_lock : (actors : List Actor) (b : ℕ) (place : Place) → HasLock (actor_in actors b) place → 1 ≤ b
-no_lock actors zero place h = absurd (false≢true h.locks)
-no_lock actors (suc b) place h = omega arith
+no_lock actors b place h = grind (arith, nat_tests, false≢true)
 
 module _ (shape : Shape) (locks : NodeLocks) (actors actors' : List Actor) (P : Trace) (a : ℕ) (others : (b : ℕ) → b ≢ a → actor_in actors' b ≡ actor_in actors b) (sound : LocksSound shape locks actors P) where
   others_lock : (b : ℕ) → b ≢ a → (place : Place) → HasLock (actor_in actors' b) place → HasLock (actor_in actors b) place

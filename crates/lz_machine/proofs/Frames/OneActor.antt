@@ -1,6 +1,6 @@
 -- A turn of one actor: the other actors' part is as before, and so is the ledger, where the call goes on without a publishing.
+use Rattle.std.proofs.lemmas.{Bool.{cases_eq, cases_lt, Decides.{nat_tests}}, List.{get_or_past}, Option.{same_Some, none-some}}
 use Rattle.std.proofs.Common.{◌≡◌, ◌≢◌, inl, inr, ℕ, zero, suc, ◌≤◌, [], ◌∷◌, ◌++◌, Bool, true, List, length, Option, Some, None, refl, ap, ◌∙◌, subst, arith}
-use Rattle.std.proofs.lemmas.{Bool.{cases_eq, cases_lt}, List.{get_or_past}, Option.{same_Some, none-some}}
 use Rattle.lz_slot.specs.{declared.format.Format.{Format}, Counted.{set_of_pass}, Histories.{History}}
 use Rattle.lz_slot.proofs.Counted.{of_pass_same, of_pass_other, length-set_of_pass}
 use Rattle.lz_vault.specs.{Stages.{Cell}, Vaults.{Vaulted}}
@@ -11,8 +11,7 @@ use Rattle.lz_machine.{specs.LedgerSound.{LedgerSound}, proofs.{Frames.ActorTabl
 
 -- an actor with a call is one of the service's
 pub caller_range : (callers : List (Option Caller)) (a : ℕ) (caller : Caller) → caller_at callers a ≡ Some caller → (1 ≤ a) × (a ≤ length callers)
-caller_range callers zero caller at = absurd (none-some _ at)
-caller_range callers (suc i) caller at = grind (arith, cases_lt, none-some, get_or_past)
+caller_range callers a caller = grind (arith, nat_tests, none-some, cases_lt, get_or_past)
 
 -- the call where it has come to next
 abbrev pub moved : Caller → Progress → Caller
@@ -36,8 +35,7 @@ module _ (callers : List (Option Caller)) (a : ℕ) (caller : Caller) (at : call
   moved_other b other = of_pass_other callers a b (Some (moved caller next)) None other
 
   row_of_moved : (changed : Option ℕ) → pending_row (Some (moved caller next)) changed ≡ pending_row (Some caller) changed
-  row_of_moved None = refl
-  row_of_moved (Some j) = refl
+  row_of_moved _ = refl
 
   same_row : (changed : ℕ → Option ℕ) (b : ℕ) → pending_row (caller_at (moving callers a caller next) b) (changed b) ≡ pending_row (caller_at callers b) (changed b)
   same_row changed = grind (arith, by_actor, moved_same, row_of_moved, moved_other)

@@ -1,5 +1,5 @@
 -- One load of a walk: what holds where a walk goes on and where it ends holds after each load, by hindsight.
-use Rattle.std.proofs.Common.{◌≡◌, inl, ℕ, zero, suc, ◌<◌, ◌≤◌, ◌^◌, nat_lt, if◌then◌else◌, Bool, true, Option, Some, None, refl, sym, subst, arith}
+use Rattle.std.proofs.Common.{◌≡◌, ℕ, zero, suc, ◌<◌, ◌≤◌, ◌^◌, nat_lt, if◌then◌else◌, Bool, true, Option, Some, refl, sym, subst, arith}
 use Rattle.std.proofs.lemmas.Bool.Decides.{nat_tests, eqb_tells}
 use Rattle.lz_slot.specs.Limits.{most_slots}
 use Rattle.lz_list.specs.declared.{flags.Flags.{Flags}, place.Place.{Place, TheVariants.{Bucket, Node}}, word.Word.TheVariants.{Head, Link}, walk.Look.{Look}}
@@ -40,11 +40,7 @@ module _ (buckets slots : ℕ) (few : slots ≤ most_slots) (P0 P : Trace) (law 
   link_next s stood = next_of_link (node_next buckets s P) (node_small s stood) (flags_after s P)
 
   link_flags : (s : ℕ) → Stood buckets b P0 P (suc s) → flags_of (word_after buckets P (Link s)) ≡ flags_after s P
-  link_flags s stood =
-      let m = mark_of_link (node_next buckets s P) (node_small s stood) (flags_after s P) in
-      let a = added_of_link (node_next buckets s P) (node_small s stood) (flags_after s P) in
-      let r = removed_of_link (node_next buckets s P) (node_small s stood) (flags_after s P) in
-      (λ i. record { mark = m i; add_settled = a i; remove_settled = r i })
+  link_flags s stood = grind (arith, nat_tests, mark_of_link, node_small, added_of_link, removed_of_link)
 
   module _ (A : Hopped → Type 0) (more : (look : Look) → IsLooking buckets k P0 P look → A (More look))
       (past : (pred : Place) (curr : Option ℕ) → WasBetween buckets k pred (link_to curr) P0 P → IsHigh k (link_to curr) P → A (End pred curr Absent))
@@ -52,8 +48,7 @@ module _ (buckets slots : ℕ) (few : slots ≤ most_slots) (P0 P : Trace) (law 
       → (mark : Bool) → flags.mark ≡ mark → A (End pred (Some s) (if mark then Marked s flags else Unmarked s flags))) where
     -- along a next link
     reached : (pred : Place) (n : ℕ) → WasBetween buckets k pred n P0 P → A (reaches pred n)
-    reached pred zero h = past pred None h (inl refl)
-    reached pred (suc s) h = more (AtKey pred s) h
+    reached pred n h = grind (arith, nat_tests)
 
     -- by the node's key
     compared : (pred : Place) (s word : ℕ) → WasBetween buckets k pred (suc s) P0 P → key_word s P ≡ word → A (hopped buckets k (AtKey pred s) word)

@@ -1,4 +1,5 @@
 -- A turn that changes one slot, and what its actor has in hand: what is said of the other slots stays.
+use Rattle.std.proofs.lemmas.Bool.Decides.{nat_tests}
 use Rattle.std.proofs.Common.{◌≡◌, ◌≢◌, inl, inr, ℕ, suc, ◌<◌, Bool, true, false, List, length, Some, refl, sym, ap, ◌∙◌, subst, arith}
 use mathlib.Core.Bool.{false≢true}
 use Rattle.lz_vault.specs.{declared.vault.Stage.{Stage, TheVariants.{Closed, Opening}}, Stages.{Cell, IsFree}}
@@ -22,16 +23,7 @@ pub record KeepsOtherGrips (dead dead' : Bool) (s : ℕ) (old new : Actor) : Typ
 
 -- as where it keeps all of them
 pub other_grips : (dead dead' : Bool) (s : ℕ) (old new : Actor) → KeepsGrips dead dead' old new → KeepsOtherGrips dead dead' s old new
-other_grips dead dead' s old new g = record {
-  slot = λ t apart is. sym g.slot ∙ is;
-  still_slot = λ t apart is. g.slot ∙ is;
-  out = λ t apart is. g.out t is;
-  still_out = λ t apart is. g.still_out t is;
-  closer = λ t apart is. g.closer t is;
-  opener = λ t apart slot is. g.opener is;
-  unlock = λ t apart slot is. g.unlock is;
-  shut = λ t apart curr is. g.shut t curr is;
-}
+other_grips dead dead' s old new g = grind (arith, nat_tests)
 
 -- or where the slot is that of its node
 pub node_grips : (dead dead' : Bool) (s : ℕ) (old new : Actor) → old.curr ≡ Some s → new.curr ≡ Some s → new.slot ≡ old.slot → opens dead old.hold ≡ false → unlocks new.hold ≡ false → KeepsOtherGrips dead dead' s old new
@@ -84,11 +76,7 @@ module _ (shape : Shape) (cells cells' : List Cell) (dead dead' : Bool) (uses us
   node_stage t apart (inr (b, closer, written)) = inr (b, (grips b).closer t apart closer, stage_then IsGateWritten t apart written)
 
   stands : (t : ℕ) → t ≢ s → SlotStands shape cells dead uses actors P t → SlotStands shape cells' dead' uses' actors' P' t
-  stands t apart (is_node on_it stage) = is_node (record {
-    there = subst (λ (k : ℕ). on 0 (chain_of shape.buckets k P') (suc t) ≡ true) (sym (nodes.word t apart)) (nodes.chain t apart on_it.there);
-    taken = same_use t apart ∙ on_it.taken;
-    key = key_then t apart on_it.key;
-  }) (node_stage t apart stage)
+  stands t apart (is_node on_it stage) = grind (arith, nat_tests, key_then, node_stage)
   stands t apart (is_held b slot) = is_held b ((grips b).still_slot t apart slot)
   stands t apart (is_out b out) = is_out b ((grips b).still_out t apart out)
   stands t apart (is_free loose free stage) = is_free (nodes.loose t apart loose) (same_use t apart ∙ free) (stage_then IsFree t apart stage)

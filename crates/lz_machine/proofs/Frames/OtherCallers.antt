@@ -1,13 +1,13 @@
 -- What is said of the callers stays when another actor publishes: their locks keep their nodes on their chains.
-use Rattle.std.proofs.{Common.{◌≡◌, ℕ, suc, true, List, ◌∷◌, Option, Some, sym, ◌∙◌, subst, arith}, lemmas.Option.{same_Some}}
+use Rattle.std.proofs.{lemmas.{Bool.Decides.{nat_tests}, Option.{same_Some}}, Common.{◌≡◌, ℕ, suc, true, List, ◌∷◌, Option, Some, subst, arith}}
 use mathlib.Core.Bool.{false≢true}
 use Rattle.lz_vault.specs.Vaults.{Vaulted}
 use Rattle.lz_list.specs.{declared.publishing.Publishing.{Publishing}, Locks.{NodeLocks}, Pinned.{IsKept}}
 use Rattle.lz_list.{specs.Traces.{Trace, Lawful, Adjacent, on, chain_of, bucket_of, key_word}, proofs.Chains.PlaceRank.{adjacent_next}}
 use Rattle.lz_list.proofs.Traces.Hindsight.{stands}
-use Rattle.lz_machine.specs.{declared.actor.{Actor.{Actor}, Hold.{Hold, TheVariants.{Checked, GateClosed, Marked}}}, Yards.{Shape, IsInside, actor_in, pin_in}}
-use Rattle.lz_machine.specs.{Runs.{Caller, caller_at}, Stands.{FacesNode}, Notes.{Notes}, CallersSound.{view_of, CallerSound, CallersSound}}
-use Rattle.lz_machine.{specs.LocksSound.{RestsOn, LocksSound}, proofs.Frames.Publishing.{relies_on_node, caller_published}}
+use Rattle.lz_machine.specs.{declared.actor.{Actor.{Actor}, Hold.{Hold}}, Yards.{Shape, IsInside, actor_in, pin_in}, Runs.{Caller, caller_at}}
+use Rattle.lz_machine.specs.{Stands.{FacesNode}, Notes.{Notes}, CallersSound.{view_of, CallerSound, CallersSound}, LocksSound.{RestsOn, LocksSound}}
+use Rattle.lz_machine.proofs.Frames.Publishing.{relies_on_node, caller_published}
 
 -- a node to which a place of its chain leads is on the chain
 pub faces_on : (buckets slots k x t : ℕ) (P : Trace) → Lawful buckets slots P → FacesNode buckets k x t P → on 0 (chain_of buckets k P) (suc t) ≡ true
@@ -17,10 +17,7 @@ faces_on buckets slots k x t P law h =
 
 -- so the node on which an actor relies is on its chain
 pub held_node : (shape : Shape) (P : Trace) (hold : Hold) (actor : Actor) → Lawful shape.buckets shape.slots P → RestsOn shape.buckets hold actor P → (t : ℕ) → actor.curr ≡ Some t → relies_on_node hold ≡ true → on 0 (chain_of shape.buckets (key_word t P) P) (suc t) ≡ true
-held_node shape P Checked actor law h t is relies = faces_on shape.buckets shape.slots (key_word t P) _ t P law (h.before t is).0.faces
-held_node shape P GateClosed actor law h t is relies = subst (λ (q : ℕ). on 0 (chain_of shape.buckets (key_word q P) P) (suc q) ≡ true) (same_Some _ _ (sym h.curr ∙ is)) (faces_on shape.buckets shape.slots (key_word h.node P) _ h.node P law h.before.faces)
-held_node shape P Marked actor law h t is relies = subst (λ (q : ℕ). on 0 (chain_of shape.buckets (key_word q P) P) (suc q) ≡ true) (same_Some _ _ (sym h.curr ∙ is)) (faces_on shape.buckets shape.slots (key_word h.node P) _ h.node P law h.before.faces)
-held_node shape _ _ actor law h t is relies = absurd (false≢true relies)
+held_node shape P hold actor law h t is relies = grind (arith, nat_tests, faces_on, same_Some, false≢true)
 
 module _ (shape : Shape) (vault : Vaulted) (pins : List ℕ) (locks : NodeLocks) (actors : List Actor) (callers : List (Option Caller)) (e : Publishing) (P : Trace) (law : Lawful shape.buckets shape.slots (e ∷ P)) (notes : Notes)
     (held : LocksSound shape locks actors P) (h : CallersSound shape vault pins actors callers P notes) where

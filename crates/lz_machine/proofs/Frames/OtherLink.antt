@@ -1,6 +1,5 @@
 -- What a caller relies on stays when another links a node.
-use Rattle.std.proofs.{Common.{◌≡◌, ◌≢◌, inl, inr, ℕ, zero, suc, ◌<◌, true, false, ◌∷◌, sym, ap, ◌∙◌, subst, arith}, lemmas.Bool.{cases_eq, cases_Bool}}
-use Rattle.std.proofs.lemmas.Bool.Decides.{nat_tests}
+use Rattle.std.proofs.{Common.{◌≡◌, ◌≢◌, ℕ, suc, ◌<◌, false, ◌∷◌, sym, ap, ◌∙◌, subst, arith}, lemmas.Bool.{cases_eq, cases_Bool, Decides.{nat_tests}}}
 use mathlib.Core.Bool.{false≢true}
 use Rattle.lz_list.specs.declared.publishing.Publishing.TheVariants.{Linked as linked}
 use Rattle.lz_list.specs.Traces.{Trace, on, has_key, chain_of, place_of, bucket_of, key_word, next_link, IsLoose, link_above, MayLink, Lawful, Adjacent}
@@ -43,25 +42,8 @@ module _ (buckets slots : ℕ) (P : Trace) (law : Lawful buckets slots P) where
     loose_place t loose is = false≢true (sym (loose (bucket_of buckets k)) ∙ ap (on 0 (chain_of buckets k P)) (sym is) ∙ before_on k 0 (chain_of buckets k P))
 
     pub ready_stays : (j n t : ℕ) → t ≢ s → IsLinkable buckets j n t P → IsLinkable buckets j n t (linked k s p ∷ P)
-    ready_stays j n t other h = record {
-      loose = loose_stays t other h.loose;
-      key = h.key;
-      link = grind (arith, nat_tests, h.link, loose_place t h.loose);
-      no_mark = h.no_mark;
-      not_added = h.not_added;
-      not_removed = h.not_removed;
-    }
+    ready_stays j n t other h = grind (arith, nat_tests, loose_stays, loose_place)
 
     -- a place of bucket j's chain that isn't the one that changes keeps its next link
     pub faces_stays : (j x n : ℕ) → (bucket_of buckets j ≡ bucket_of buckets k → x ≢ place_of buckets k P) → Faces buckets j x n P → Faces buckets j x n (linked k s p ∷ P)
-    faces_stays j x n apart h = record {
-      there = grind (arith, nat_tests, h.there, on_insert k s 0 x (chain_of buckets j P));
-      next = elim (cases_eq (bucket_of buckets j) (bucket_of buckets k)) [
-        | inl same ↦ linked_off buckets k s p P (bucket_of buckets j) x (apart same)
-        | inr other ↦ elsewhere x h.there other
-      ] ∙ h.next;
-    }
-      where
-        elsewhere : (y : ℕ) → on 0 (chain_of buckets j P) y ≡ true → bucket_of buckets j ≢ bucket_of buckets k → next_link buckets (bucket_of buckets j) (linked k s p ∷ P) y ≡ next_link buckets (bucket_of buckets j) P y
-        elsewhere zero there other = grind (arith, nat_tests, other)
-        elsewhere (suc t) there other = linked_off buckets k s p P (bucket_of buckets j) (suc t) (apart_bucket buckets k s p P (words_show_chain buckets slots P law) (bucket_of buckets j) t other there)
+    faces_stays j x n apart h = grind (arith, nat_tests, on_insert, cases_eq, linked_off, apart_bucket, words_show_chain)

@@ -1,6 +1,6 @@
 -- A settling that is durable keeps the invariant of all actors.
-use Rattle.std.proofs.Common.{◌≡◌, ◌≢◌, ◌⊎◌, inl, inr, ℕ, suc, ◌<◌, ◌≤◌, ◌==◌, true, false, List, ◌∷◌, Option, Some, refl, sym, ap, ◌∙◌, arith}
-use Rattle.std.{proofs.lemmas.Bool.{cases_Bool, Decides.{nat_tests, eqb_tells}}, specs.Prelude.{slice_set}}
+use Rattle.std.proofs.{Common.{◌≡◌, ◌≢◌, ◌⊎◌, ℕ, suc, ◌<◌, ◌≤◌, ◌==◌, true, false, List, ◌∷◌, Option, Some, refl, sym, ◌∙◌, arith}, lemmas.Bool.{cases_Bool}}
+use Rattle.std.proofs.lemmas.Bool.Decides.{nat_tests, eqb_tells}
 use mathlib.Core.Bool.{false≢true}
 use Rattle.lz_slot.specs.{Limits.{most_slots}, Histories.{History}}
 use Rattle.lz_disk.specs.Images.{Medium}
@@ -31,17 +31,7 @@ module _ (shape : Shape) (words : Words) (P : Trace) (trace : TraceSound shape w
   word_other t other = let apart : (s == t) ≡ false = grind (arith, nat_tests, other) in cc apart
 
   pub trace_settled : TraceSound shape stored (settled s c ∷ P)
-  trace_settled = record {
-    lawful = (tt, trace.lawful);
-    some = trace.some;
-    small = trace.small;
-    heads = trace.heads;
-    links = ap (λ (l : List ℕ). slice_set l s (link_with (next_of (get words (link_at s))) (flags_then c (flags_of (get words (link_at s)))))) trace.links
-        ∙ table_set shape.slots (λ t. word_after shape.buckets P (link_at t)) (λ t. word_after shape.buckets (settled s c ∷ P) (link_at t)) s _ lt (sym (word_is c)) word_other;
-    keys = trace.keys;
-    halt = trace.halt;
-    pins = trace.pins;
-  }
+  trace_settled = grind (arith, nat_tests, table_set, word_is, word_other)
 
 -- the stage that allows a settling as this change
 abbrev pub Allows : Change → Stage → Type 0
@@ -65,23 +55,14 @@ module _ (n calls : ℕ) (y : Yard) (callers : List (Option Caller)) (disk : Med
     not_opening h0 = grind arith
 
     is_added : (k t : ℕ) → key_word t P ≡ k → on 0 (chain_of y.shape.buckets k P) (suc t) ≡ true → is_settled (linking k P) (settled s c ∷ P) ≡ true → stage_in y.vault.cells t ≢ Opening
-    is_added k t key there is = elim (eqb_tells (linking_in s P) (linking k P)) [
-      | inl same ↦ λ e. not_opening allows (ap (stage_in y.vault.cells) (sym (named k t key there same.1)) ∙ e)
-      | inr other ↦ sound.slots.added k t key there (rw other.0 at is)
-    ]
+    is_added k t key there is = grind (arith, nat_tests, eqb_tells, not_opening, named)
 
     removes : (change : Change) → is_removal change ≡ true → Allows change (stage_in y.vault.cells s) → stage_in y.vault.cells s ≡ Closed
     removes Removed is h = h
     removes Added is h = absurd (false≢true is)
 
     is_removed_then : (k t : ℕ) → key_word t P ≡ k → on 0 (chain_of y.shape.buckets k P) (suc t) ≡ true → is_removed (linking k P) (settled s c ∷ P) ≡ true → stage_in y.vault.cells t ≡ Closed
-    is_removed_then k t key there is = elim (eqb_tells (linking_in s P) (linking k P)) [
-      | inl same ↦ elim (cases_Bool (is_removal c)) [
-        | inl removal ↦ ap (stage_in y.vault.cells) (named k t key there same.1) ∙ removes c removal allows
-        | inr adding ↦ sound.slots.removed k t key there (grind (arith, nat_tests, is, adding))
-      ]
-      | inr other ↦ sound.slots.removed k t key there (rw other.0 at is)
-    ]
+    is_removed_then k t key there is = grind (arith, nat_tests, eqb_tells, cases_Bool, named, removes)
 
     slots : SlotsSound y.shape y.vault.cells y.vault.dead y.uses y.actors (settled s c ∷ P)
     slots = slots_published y.shape y.vault.cells y.vault.dead y.actors y.uses (settled s c) P (record { loose = λ t loose. loose; word = λ t. refl; mark = λ t. refl; chain = λ k t there. there }) sound.slots sound.slots.halted is_added is_removed_then

@@ -1,9 +1,8 @@
 -- What a caller relies on stays when another takes a node out.
-use Rattle.std.proofs.{Common.{◌≡◌, ◌≢◌, inl, inr, ℕ, zero, suc, true, ◌∷◌, refl, sym, ap, ◌∙◌, subst, arith}, lemmas.Bool.{cases_eq, cases_Bool}}
-use Rattle.std.proofs.lemmas.Bool.Decides.{nat_tests}
+use Rattle.std.proofs.{Common.{◌≡◌, ◌≢◌, inl, inr, ℕ, suc, true, ◌∷◌, sym, ap, ◌∙◌, subst, arith}, lemmas.Bool.{cases_eq, cases_Bool, Decides.{nat_tests}}}
 use mathlib.Core.Bool.{false≢true}
 use Rattle.lz_list.specs.declared.publishing.Publishing.TheVariants.{Unlinked as unlinked}
-use Rattle.lz_list.specs.Traces.{Trace, without, on, chain, chain_of, place_of, bucket_of, key_word, next_link, IsLoose, MayUnlink, Lawful, Adjacent}
+use Rattle.lz_list.specs.Traces.{Trace, on, chain, chain_of, place_of, bucket_of, key_word, next_link, IsLoose, MayUnlink, Lawful, Adjacent}
 use Rattle.lz_list.proofs.Chains.{PlaceRank.{before_on, on_start, adjacent_next, has_on}, TraceChain.{words_show_chain, unlinked_off, apart_bucket, bucket_on}}
 use Rattle.lz_list.proofs.Traces.{Hindsight.{stands}, NodeBits.{on_without, one_node, none_without}, WalkEnd.{on_without_other}}
 use Rattle.lz_list.proofs.Changes.CheckedPlace.{place_to}
@@ -43,21 +42,4 @@ module _ (buckets slots k x s p : ℕ) (P : Trace) (law : Lawful buckets slots P
 
   -- another place of the chain, not the node itself, keeps its place and its next link
   pub faces_stays : (j y n : ℕ) → (bucket_of buckets j ≡ bucket_of buckets k → (y ≢ x) × (y ≢ suc s)) → Faces buckets j y n P → Faces buckets j y n (unlinked k s p ∷ P)
-  faces_stays j y n apart h = record {
-    there = elim (cases_eq (bucket_of buckets k) (bucket_of buckets j)) [
-      | inl same ↦ grind (arith, nat_tests, same, still y refl h.there same)
-      | inr other ↦ grind (arith, nat_tests, other, h.there)
-    ];
-    next = elim (cases_eq (bucket_of buckets j) (bucket_of buckets k)) [
-      | inl same ↦ unlinked_off buckets k s p P (bucket_of buckets j) y (λ at. (apart same).0 (at ∙ place_at))
-      | inr other ↦ elsewhere y h.there other
-    ] ∙ h.next;
-  }
-    where
-      elsewhere : (y : ℕ) → on 0 (chain_of buckets j P) y ≡ true → bucket_of buckets j ≢ bucket_of buckets k → next_link buckets (bucket_of buckets j) (unlinked k s p ∷ P) y ≡ next_link buckets (bucket_of buckets j) P y
-      elsewhere zero there other = grind (arith, nat_tests, other)
-      elsewhere (suc t) there other = unlinked_off buckets k s p P (bucket_of buckets j) (suc t) (apart_bucket buckets k s p P (words_show_chain buckets slots P law) (bucket_of buckets j) t other there)
-
-      still : (z : ℕ) → y ≡ z → on 0 (chain_of buckets j P) z ≡ true → bucket_of buckets k ≡ bucket_of buckets j → on 0 (without k (chain_of buckets j P)) z ≡ true
-      still zero is_y there same = on_start 0 (without k (chain_of buckets j P))
-      still (suc t) is_y there same = grind (arith, words_show_chain, node_there, on_without_other, one_node)
+  faces_stays j y n apart h = grind (arith, nat_tests, cases_eq, unlinked_off, place_at, apart_bucket, words_show_chain, on_start, node_there, on_without_other, one_node)

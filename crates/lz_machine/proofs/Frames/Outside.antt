@@ -1,12 +1,10 @@
 -- Actors that answer without a pin, and the pin words after an Answer.
-use Rattle.std.proofs.Common.{◌≡◌, ◌≢◌, ℕ, ◌≤◌, ◌%◌, ◌==◌, ◌&&◌, ◌||◌, not, Bool, true, false, length, refl, sym, ap, ◌∙◌, arith}
-use Rattle.std.proofs.lemmas.Bool.Decides.{nat_tests}
+use Rattle.std.proofs.{Common.{◌≡◌, ◌≢◌, ℕ, ◌≤◌, ◌%◌, ◌==◌, ◌&&◌, ◌||◌, not, Bool, true, false, length, ap, ◌∙◌, arith}, lemmas.Bool.Decides.{nat_tests}}
 use mathlib.Core.Bool.{false≢true}
 use Rattle.lz_slot.{specs.Counted.{of_pass}, proofs.Counted.{of_pass_same, of_pass_other}}
 use Rattle.lz_allot.specs.Uses.{is_outside}
-use Rattle.lz_machine.specs.declared.{actor.Actor.{Actor}, event.{Event.TheVariants.{Answer}, Reply.TheVariants.{Worn as SaysWorn}}, caller.Progress.{Progress}}
-use Rattle.lz_machine.specs.{declared.caller.Progress.TheVariants.{Answering}, Yards.{Yard}, Table.{last_pin, pin_of, stays_out, pin_answered, words_after}}
-use Rattle.lz_machine.specs.CallersSound.{IsSide, is_before_pin, side_of}
+use Rattle.lz_machine.specs.{declared.{actor.Actor.{Actor}, event.Event.TheVariants.{Answer}, caller.Progress.{Progress}}, Yards.{Yard}}
+use Rattle.lz_machine.specs.{Table.{last_pin, pin_of, stays_out, pin_answered, words_after}, CallersSound.{IsSide, is_before_pin, side_of}}
 
 pub even_of : (pin : ℕ) → (pin % 2 == 0) ≡ true → pin % 2 ≡ 0
 even_of pin is = grind (arith, nat_tests)
@@ -16,16 +14,13 @@ outside_even pin even = ap (λ (q : ℕ). q == 0) even
 
 -- the side of a call's pass
 pub side_even : (pin : ℕ) (at : Progress) → IsSide pin at → pin % 2 ≡ side_of (is_before_pin at)
-side_even pin (Answering SaysWorn) side = ap (λ (q : ℕ). q % 2) side
-side_even pin _ side = side
+side_even pin at side = grind (arith, nat_tests)
 
 pub inside_side : (pin : ℕ) (at : Progress) → is_before_pin at ≡ false → pin % 2 ≡ 1 → IsSide pin at
-inside_side pin (Answering SaysWorn) inside odd = absurd (false≢true (sym inside))
-inside_side pin _ inside odd = odd ∙ ap side_of (sym inside)
+inside_side pin at inside odd = grind (arith, nat_tests, false≢true)
 
 or_true : (b : Bool) → (b || true) ≡ true
-or_true true = refl
-or_true false = refl
+or_true b = grind (arith, nat_tests)
 
 -- such an actor is outside
 pub out_even : (actor : Actor) (pin : ℕ) → stays_out actor pin ≡ true → pin % 2 ≡ 0

@@ -1,18 +1,17 @@
 -- What a caller relies on stays when another actor publishes.
+use Rattle.std.proofs.lemmas.Bool.{cases_Bool, Decides.{nat_tests, eqb_tells}}
+use Rattle.std.proofs.Common.{List, ◌≡◌, ◌⊎◌, inl, inr, ℕ, zero, suc, Bool, true, false, ◌∷◌, Option, Some, None, refl, ap, ◌∙◌, subst, arith}
 use Rattle.lz_vault.specs.Stages.{Cell}
-use Rattle.std.proofs.Common.{List, ◌≡◌, ◌⊎◌, inl, inr, ℕ, zero, suc, Bool, true, false, ◌∷◌, Option, Some, None, refl, sym, ap, ◌∙◌, subst, arith}
-use Rattle.std.proofs.lemmas.Bool.{cases_Bool, Decides.{eqb_tells}}
 use mathlib.Core.Bool.{false≢true}
 use Rattle.lz_slot.specs.{declared.{format.Format.{Format}, command.Command.{Command, TheVariants.{Add, Remove, Has}}}, Sets.{key_of}}
-use Rattle.lz_list.specs.declared.{place.Place.{Place}, publishing.Publishing.{Publishing, TheVariants.{Linked as linked, Halted as halted}}, walk.Look.{Look}}
-use Rattle.lz_list.specs.{declared.walk.Look.TheVariants.{AtHead, AtKey, AtMet, AtBelow}, Words.{place_number, link_to}, Traces.{Trace, May, has_key, Lawful}}
-use Rattle.lz_list.specs.Traces.{Adjacent, on, chain, chain_of, bucket_of, key_word, linking, linking_in, is_removed, halt_word, rank_at, next_link}
+use Rattle.lz_list.specs.declared.{place.Place.{Place}, publishing.Publishing.{Publishing, TheVariants.{Halted as halted}}, walk.Look.{Look}}
+use Rattle.lz_list.specs.{declared.walk.Look.TheVariants.{AtHead, AtKey, AtMet, AtBelow}, Words.{place_number, link_to}}
+use Rattle.lz_list.specs.Traces.{Trace, Lawful, Adjacent, on, chain, chain_of, bucket_of, key_word, linking, linking_in, is_removed, halt_word, rank_at}
 use Rattle.lz_list.{specs.{Pinned.{Stood, IsKept, IsQuiet}, Laws.{IsHigh}}, proofs.Chains.{PlaceRank.{adjacent_on, has_on}, TraceChain.{words_show_chain}}}
 use Rattle.lz_list.proofs.Traces.{Absence.{begins_itself}, Hindsight.{key_stays, once_weaker, next_stood}, WalkEnd.{mark_stays, linking_stays, removed_later}}
 use Rattle.lz_machine.specs.declared.event.Reply.{Reply, TheVariants.{Yes, No, Full, Worn as SaysWorn, OldFile as SaysOldFile, Halted, Device}}
 use Rattle.lz_machine.specs.declared.{actor.{Actor.{Actor}, Hold.{Hold, TheVariants.{Nothing, Checked, GateClosed, Marked}}}, caller.Sequence.{Sequence}}
-use Rattle.lz_machine.specs.declared.caller.{Sequence.TheVariants.{Pinning, Resting, Writing, Adding, Removing, Releasing, Halting}, Progress.{Progress}}
-use Rattle.lz_machine.specs.declared.caller.Progress.TheVariants.{Playing, LoadsHalt, Walking, Reserving, SeeingPins, Claiming, Checking, Answering}
+use Rattle.lz_machine.specs.declared.caller.Progress.{Progress, TheVariants.{Playing, LoadsHalt, Walking, Reserving, SeeingPins, Claiming, Checking, Answering}}
 use Rattle.lz_machine.specs.{Runs.{Caller}, Stands.{IsWalking, WasBetween}, Yards.{IsInside}, CallersSound.{View, IsWritten, IsAimed, IsBeyond, HasEnded}}
 use Rattle.lz_machine.specs.CallersSound.{IsLooking, IsSince, RestsYes, RestsNo, WasAbsent, IsSettledChange, MayAnswer, HasAdded, HasMarked, MayRest}
 use Rattle.lz_machine.specs.CallersSound.{IsEmptyHanded, ReliesWriting, ReliesAdding, ReliesRemoving, ReliesOn, Relies, IsCaller, CallerSound, is_before_pin}
@@ -43,23 +42,12 @@ module _ (buckets slots : ℕ) (e : Publishing) (P : Trace) (law : Lawful bucket
 
   -- and so does its key
   pub key_linking : (k t : ℕ) → on 0 (chain_of buckets k P) (suc t) ≡ true → key_word t P ≡ k → linking k (e ∷ P) ≡ linking k P
-  key_linking k t there key = go e law.0
-    where
-      go : (f : Publishing) → May buckets slots f P → linking k (f ∷ P) ≡ linking k P
-      go (linked j s p) may = elim (eqb_tells j k) [
-        | inl same ↦
-            let shown = words_show_chain buckets slots P law.1 (bucket_of buckets k) in
-            let has = has_on (next_link buckets (bucket_of buckets k) P) (λ t. key_word t P) k t 0 (chain_of buckets k P) shown.shows (omega arith) key there in
-            absurd (false≢true (sym (subst (λ (q : ℕ). has_key q (chain_of buckets q P) ≡ false) same.1 may.no_node) ∙ has))
-        | inr f ↦ rw f.0
-      ]
-      go _ may = refl
+  key_linking k t there key = grind (arith, nat_tests, eqb_tells, words_show_chain, has_on, false≢true)
 
   module _ (P0 : Trace) (kept : IsKept buckets P0 e P) (quiet : IsQuiet buckets P0 P) where
     -- a place of a chain keeps its rank
     pub rank_stays : (b x : ℕ) → Stood buckets b P0 P x → rank_at (λ t. key_word t (e ∷ P)) x ≡ rank_at (λ t. key_word t P) x
-    rank_stays b zero stood = refl
-    rank_stays b (suc t) stood = ap suc (key_stays buckets slots P0 b t e P kept stood)
+    rank_stays b x stood = grind (arith, nat_tests, key_stays, kept)
 
     pub walking_stays : (k x : ℕ) → IsWalking buckets k x P0 P → IsWalking buckets k x P0 (e ∷ P)
     walking_stays k x h = record { stood = inr h.stood; low = omega (arith, h.low, rank_stays (bucket_of buckets k) x h.stood) }
@@ -77,8 +65,7 @@ module _ (buckets slots : ℕ) (e : Publishing) (P : Trace) (law : Lawful bucket
     word_stays k pred t j h is = key_stays buckets slots P0 (bucket_of buckets k) t e P kept (next_is k pred t h) ∙ is
 
     high_stays : (k : ℕ) (pred : Place) (curr : Option ℕ) → WasBetween buckets k pred (link_to curr) P0 P → IsHigh k (link_to curr) P → IsHigh k (link_to curr) (e ∷ P)
-    high_stays k pred None h high = inl refl
-    high_stays k pred (Some t) h high = inr (grind (arith, high, key_stays buckets slots P0 (bucket_of buckets k) t e P kept (next_is k pred t h)))
+    high_stays k pred curr h high = grind (arith, nat_tests, key_stays, kept, next_is)
 
     met_there : (k : ℕ) (pred : Place) (curr : Option ℕ) (t : ℕ) → WasBetween buckets k pred (link_to curr) P0 P → curr ≡ Some t → WasBetween buckets k pred (suc t) P0 P
     met_there k pred curr t h is = subst (λ (q : Option ℕ). WasBetween buckets k pred (link_to q) P0 P) is h
@@ -132,12 +119,10 @@ module _ (buckets slots : ℕ) (e : Publishing) (P : Trace) (law : Lawful bucket
   answer_stays _ _ _ changed h = h
 
   idle_stays : (actor : Actor) → IsEmptyHanded actor P → IsEmptyHanded actor (e ∷ P)
-  idle_stays actor (inl none) = inl none
-  idle_stays actor (inr halt) = inr (halt_stays e P halt)
+  idle_stays actor h = grind (arith, nat_tests, halt_stays)
 
   let_go : (hold : Hold) → (hold ≡ Nothing) ⊎ (halt_word P ≡ 1) → (hold ≡ Nothing) ⊎ (halt_word (e ∷ P) ≡ 1)
-  let_go hold (inl none) = inl none
-  let_go hold (inr halt) = inr (halt_stays e P halt)
+  let_go hold h = grind (arith, nat_tests, halt_stays)
 
   -- What another's publishing leaves of a caller: its slot's key word, its node on the chain, and the slots that it may stand on.
   pub record LeavesCaller (actor : Actor) (pin : ℕ) (P0 : Trace) : Type 0 where
@@ -153,13 +138,10 @@ module _ (buckets slots : ℕ) (e : Publishing) (P : Trace) (law : Lawful bucket
     written_stays k s h = record { slot = h.slot; stage = h.stage; key = h.key; word = leaves.word s h.slot ∙ h.word }
 
     aimed_stays : (k : ℕ) (aim : Option ℕ) → IsAimed v k P aim → IsAimed v k (e ∷ P) aim
-    aimed_stays k None h = h
-    aimed_stays k (Some s) h = written_stays k s h
+    aimed_stays k aim h = grind (arith, nat_tests, written_stays)
 
     writing_stays : (c : Command) (s i : ℕ) → ReliesWriting v c s i P changed → ReliesWriting v c s i (e ∷ P) changed
-    writing_stays c s zero h = h
-    writing_stays c s (suc zero) h = (h.0, h.1, h.2, leaves.word s h.1 ∙ h.3, h.4, h.5)
-    writing_stays c s (suc (suc i)) h = absurd h
+    writing_stays c s i h = grind (arith, nat_tests)
 
     -- the remover's node, which its locks keep
     node_there : (t : ℕ) → actor.curr ≡ Some t → (hold : Hold) → actor.hold ≡ hold → relies_on_node hold ≡ true → on 0 (chain_of buckets (key_word t P) P) (suc t) ≡ true
@@ -191,15 +173,7 @@ module _ (buckets slots : ℕ) (e : Publishing) (P : Trace) (law : Lawful bucket
       adding_stays k s _ h = (h.0, added_stays P0 (leaves.kept inside) quiet k s changed h.1)
 
       on_stays : (c : Command) (sequence : Sequence) (i : ℕ) → ReliesOn v c sequence i P0 P changed → ReliesOn v c sequence i P0 (e ∷ P) changed
-      on_stays c Pinning zero h = (idle_stays actor h.0, h.1, h.2)
-      on_stays c (Resting s reply) zero h = (h.0, rest_stays c reply s P0 h.1)
-      on_stays c (Resting s reply) (suc zero) h = (h.0, rest_stays c reply s P0 h.1)
-      on_stays c (Writing s) i h = writing_stays c s i h
-      on_stays (Add k) (Adding s) i h = adding_stays k s i h
-      on_stays (Remove k) (Removing s) i h = (h.0, h.1, removing_stays k s i h.0 h.2)
-      on_stays c (Releasing aim) zero h = (h.0, aimed_stays (key_of c) aim h.1, h.2, h.3)
-      on_stays c (Halting reply) zero h = h
-      on_stays _ _ _ h = absurd h
+      on_stays c sequence i h = grind (arith, nat_tests, idle_stays, rest_stays, writing_stays, adding_stays, removing_stays, aimed_stays)
 
       relies_stays : (c : Command) (at : Progress) → Relies v c at P0 P changed → Relies v c at P0 (e ∷ P) changed
       relies_stays c (Playing sequence i) h = on_stays c sequence i h

@@ -1,5 +1,6 @@
 -- Whether an actor's call was refused says nothing of what it has in hand.
-use Rattle.std.proofs.Common.{◌≡◌, ◌≢◌, ℕ, ◌≤◌, Bool, true, false, List, length, Option, None, if◌then◌else◌, refl, sym, ap, ◌∙◌, subst, arith, ◌%◌}
+use Rattle.std.proofs.lemmas.Bool.Decides.{nat_tests}
+use Rattle.std.proofs.Common.{◌≡◌, ◌≢◌, ℕ, ◌≤◌, Bool, List, length, Option, None, if◌then◌else◌, refl, sym, ap, ◌∙◌, subst, arith, ◌%◌}
 use Rattle.lz_slot.specs.{declared.command.Command.{Command}, Counted.{set_of_pass}, Histories.{History, Life}}
 use Rattle.lz_slot.proofs.Counted.{of_pass_same, of_pass_other, length-set_of_pass}
 use Rattle.lz_disk.specs.Images.{Medium}
@@ -13,8 +14,7 @@ use Rattle.lz_machine.proofs.Frames.{Grip.{KeepsGrips, keeps_itself}, KeptSlots.
 
 -- a call begins outside
 pub begun_side : (pin : ℕ) (b : Bool) → pin % 2 ≡ 0 → IsSide pin (if b then Answering SaysOldFile else first_progress)
-begun_side pin true even = even
-begun_side pin false even = even
+begun_side pin b even = grind (arith, nat_tests)
 
 -- what it relies on, where its actor has noted whether it was refused
 pub begun_relies : (v : View) (c : Command) (P0 P : Trace) (changed : Option ℕ) → v.actor.refused ≡ is_old v.format c → IsEmptyHanded v.actor P → changed ≡ None → Relies v c (begun v.format c) P0 P changed
@@ -49,9 +49,7 @@ module _ (n calls : ℕ) (y : Yard) (callers : List (Option Caller)) (disk : Med
 
   -- the actor has no call
   idle_caller : CallerSound (view_of y.shape y.vault actors' a) (pin_in y.words.pins a) None (notes.begun a) P (notes.changed a)
-  idle_caller =
-      let old = subst (λ (q : Option Caller). CallerSound (view_of y.shape y.vault y.actors a) (pin_in y.words.pins a) q (notes.begun a) P (notes.changed a)) none (sound.callers.each a) in
-      record { quiet = old.quiet; begins = old.begins; stands = (subst (λ (q : Actor). IsEmptyHanded q P) (sym same_hand) old.stands.0, old.stands.1) }
+  idle_caller = grind (arith, nat_tests, same_hand)
 
   invoked_callers : CallersSound y.shape y.vault y.words.pins actors' callers P notes
   invoked_callers = record {

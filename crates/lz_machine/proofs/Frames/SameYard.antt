@@ -1,12 +1,13 @@
 -- A turn that leaves the yard as it is keeps the invariant, where the call may go on so.
-use Rattle.std.proofs.{Common.{◌≡◌, inl, inr, ℕ, ◌≤◌, true, List, Option, Some, None, refl, sym, ap, ◌∙◌, arith}, lemmas.{Bool.{cases_eq}, Option.{same_Some}}}
-use Rattle.lz_slot.specs.{declared.command.Command.{Command, TheVariants.{Add, Remove}}, Histories.{History}}
+use Rattle.std.proofs.lemmas.{Bool.{cases_eq, Decides.{nat_tests}}, Option.{same_Some}}
+use Rattle.std.proofs.Common.{◌≡◌, inl, inr, ℕ, ◌≤◌, true, List, Option, Some, None, refl, sym, ap, ◌∙◌, arith}
+use Rattle.lz_slot.specs.{declared.command.Command.{Command}, Histories.{History}}
 use Rattle.lz_disk.specs.Images.{Medium}
 use Rattle.lz_vault.specs.Stages.{Cell}
 use Rattle.lz_list.specs.Traces.{Trace}
-use Rattle.lz_machine.specs.{declared.{actor.Actor.{Actor}, caller.Progress.{Progress}}, Yards.{Yard, Shape, actor_in, pin_in, cell_in}}
-use Rattle.lz_machine.specs.{Runs.{Caller, caller_at}, Ledgers.{times}, Notes.{Notes, entries}, CallersSound.{view_of, CallerSound}}
-use Rattle.lz_machine.specs.{LedgerSound.{may_have_tail, HasTail, TailsSound}, Sound.{Sound}}
+use Rattle.lz_machine.specs.{declared.{actor.Actor.{Actor}, caller.Progress.{Progress}}, Yards.{Yard, Shape, actor_in, pin_in}, Runs.{Caller, caller_at}}
+use Rattle.lz_machine.specs.{Ledgers.{times}, Notes.{Notes, entries}, CallersSound.{view_of, CallerSound}, LedgerSound.{may_have_tail, HasTail, TailsSound}}
+use Rattle.lz_machine.specs.Sound.{Sound}
 use Rattle.lz_machine.proofs.Frames.OneActor.{caller_range, moved, moving, moved_same, moved_other, has_entry, same_entries, ledger_turn, callers_turn}
 
 -- a call that has changed nothing goes on so that its tail stays
@@ -37,10 +38,7 @@ module _ (callers : List (Option Caller)) (a : ℕ) (caller : Caller) (at : call
   pub tails_turn : (shape : Shape) (cells : List Cell) (actors actors' : List Actor) (P : Trace) (M : History)
       → ((b : ℕ) → (actor_in actors' b).slot ≡ (actor_in actors b).slot)
       → TailsSound shape cells actors P callers (entries passes callers notes) M → TailsSound shape cells actors' P (moving callers a caller next) (entries passes (moving callers a caller next) notes) M
-  tails_turn shape cells actors actors' P M slots h = record {
-    adding = λ b s hand opened. tail_turn (Add (cell_in cells s).key) M (h.adding b s (sym (slots b) ∙ hand) opened);
-    removing = λ s there unmarked written. tail_turn (Remove (cell_in cells s).key) M (h.removing s there unmarked written);
-  }
+  tails_turn shape cells actors actors' P M slots h = grind (arith, nat_tests, tail_turn)
 
 -- an actor with a call has a pass
 pub in_passes : (n calls : ℕ) (y : Yard) (callers : List (Option Caller)) (disk : Medium) (M : History) (P : Trace) (notes : Notes) (a : ℕ) (caller : Caller) → caller_at callers a ≡ Some caller → Sound n calls y callers disk M P notes → a ≤ y.shape.passes

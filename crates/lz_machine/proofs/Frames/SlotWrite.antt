@@ -1,32 +1,27 @@
 -- What putting a key, opening a slot and closing one make of the disk, done or failed.
-use Rattle.std.proofs.Common.{◌≡◌, inl, inr, ℕ, ◌<◌, ◌≤◌, Bool, true, false, List, Some, refl, sym, ap, ◌∙◌, subst, arith, length-set}
-use Rattle.std.{proofs.lemmas.Option.{slice_get-get_or}, specs.Prelude.{slice_get, slice_set}}
-use Rattle.lz_slot.specs.{Rooms.{largest_of}, declared.format.Format.{Format, TheVariants.{Four}}}
+use Rattle.std.proofs.lemmas.{Bool.Decides.{nat_tests}, Option.{slice_get-get_or}}
+use Rattle.std.proofs.Common.{◌≡◌, inl, inr, ℕ, ◌<◌, ◌≤◌, Bool, true, false, List, Some, sym, ap, ◌∙◌, subst, arith, length-set}
+use Rattle.std.specs.Prelude.{slice_get, slice_set}
+use Rattle.lz_slot.specs.{Rooms.{largest_of}, declared.format.Format.{Format}}
 use Rattle.lz_disk.specs.Images.{Medium}
-use Rattle.lz_vault.specs.declared.vault.Stage.{Stage, TheVariants.{Torn, KeyLoose, Keyed, Opening, Closing}}
-use Rattle.lz_vault.specs.Stages.{Cell, IsFree, IsOpened, Keeps, stage_put}
+use Rattle.lz_vault.specs.{declared.vault.Stage.{Stage, TheVariants.{Keyed, Opening, Closing}}, Stages.{Cell, IsFree, IsOpened, Keeps, stage_put}}
 use Rattle.lz_vault.specs.{Vaults.{Vaulted, MayFail, key_call, opening_call, closing_call, medium_after, syncs_after, cells_failed}, Members.{no_cell}}
 use Rattle.lz_vault.proofs.{Changes.{set_cases}, SlotWrites.{key_put, key_put_failed, opening_written, opening_failed, closing_written, closing_failed}}
 use Rattle.lz_machine.specs.{Yards.{Shape, cell_in, stage_in}, CallersSound.{IsKeyed}, Sound.{DiskSound}}
 
 -- after a key was put the slot is still surely closed
 pub put_keyed : (F : Format) (stage : Stage) → IsKeyed (stage_put F stage)
-put_keyed Four Torn = inl refl
-put_keyed Four KeyLoose = inl refl
-put_keyed Four _ = inr refl
-put_keyed _ stage = inl refl
+put_keyed F stage = grind (arith, nat_tests)
 
 pub put_free : (F : Format) (stage : Stage) → IsFree (stage_put F stage)
 put_free F stage = elim (put_keyed F stage) [ inl loose ↦ subst IsFree (sym loose) tt | inr keyed ↦ subst IsFree (sym keyed) tt ]
 
 -- putting one is no sync
 pub key_syncs : (F : Format) (stage : Stage) (s k syncs : ℕ) → syncs_after (key_call F stage s k) syncs ≡ syncs
-key_syncs Four Torn s k syncs = refl
-key_syncs _ _ s k syncs = refl
+key_syncs F stage s k syncs = grind (arith, nat_tests)
 
 pub key_cells : (F : Format) (stage : Stage) (s k : ℕ) (old cells : List Cell) → cells_failed (key_call F stage s k) old cells ≡ cells
-key_cells Four Torn s k old cells = refl
-key_cells _ _ s k old cells = refl
+key_cells F stage s k old cells = grind (arith, nat_tests)
 
 module _ (shape : Shape) (vault : Vaulted) (disk : Medium) (images : DiskSound shape vault disk) (alive : vault.dead ≡ false) (s : ℕ) (lt : s < shape.slots) where
   abbrev with_cell : Cell → Bool → Vaulted

@@ -30,17 +30,7 @@ module _ (shape : Shape) (words : Words) (P : Trace) (trace : TraceSound shape w
     marked_other t other = let apart : (s == t) ≡ false = grind (arith, nat_tests, other) in cc apart
 
     pub trace_marked : TraceSound shape (change_flags marked_flags words s) (marked k s p ∷ P)
-    trace_marked = record {
-      lawful = (may, trace.lawful);
-      some = trace.some;
-      small = trace.small;
-      heads = trace.heads;
-      links = ap (λ (l : List ℕ). slice_set l s (link_with (next_of (get words (link_at s))) (marked_flags (flags_of (get words (link_at s)))))) trace.links
-          ∙ table_set shape.slots (λ t. word_after buckets P (link_at t)) (λ t. word_after buckets (marked k s p ∷ P) (link_at t)) s _ lt (sym marked_word) marked_other;
-      keys = trace.keys;
-      halt = trace.halt;
-      pins = trace.pins;
-    }
+    trace_marked = grind (arith, nat_tests, table_set, marked_word, marked_other)
 
   -- a key is written
   module _ (s v : ℕ) (lt : s < shape.slots) (loose : IsLoose shape.buckets s P) where
@@ -61,16 +51,7 @@ module _ (shape : Shape) (words : Words) (P : Trace) (trace : TraceSound shape w
     link_other t other = let apart : (s == t) ≡ false = grind (arith, nat_tests, other) in cc apart
 
     pub trace_link : v ≤ shape.slots → TraceSound shape (set words (link_at s) v) (link_prepared s v ∷ P)
-    trace_link short = record {
-      lawful = (loose, trace.lawful);
-      some = trace.some;
-      small = small_stays buckets shape.slots (link_prepared s v) P (loose, trace.lawful) short trace.small;
-      heads = trace.heads;
-      links = ap (λ (l : List ℕ). slice_set l s v) trace.links ∙ table_set shape.slots (λ t. word_after buckets P (link_at t)) (λ t. word_after buckets (link_prepared s v ∷ P) (link_at t)) s v lt link_same link_other;
-      keys = trace.keys;
-      halt = trace.halt;
-      pins = trace.pins;
-    }
+    trace_link short = grind (arith, nat_tests, small_stays, table_set, link_same, link_other)
 
   -- the place before k is redirected, by a linking or an unlinking
   redirected : (e : Publishing) (k n : ℕ) (pred : Place) → Lawful shape.buckets shape.slots (e ∷ P) → ((t : ℕ) → node_next buckets t (e ∷ P) ≤ shape.slots)
@@ -119,8 +100,7 @@ module _ (shape : Shape) (words : Words) (P : Trace) (trace : TraceSound shape w
       (λ t. refl) (λ t. refl) refl
     where
       head_off : (b : ℕ) → (b ≢ bucket_of buckets k) ⊎ (place_number pred ≢ 0) → head_word buckets b (linked k s p ∷ P) ≡ head_word buckets b P
-      head_off b (inl other) = grind (arith, nat_tests, other)
-      head_off b (inr more) = grind (arith, nat_tests, more, at)
+      head_off b h = grind (arith, nat_tests)
 
   -- a node is taken out from after the place before its key
   pub trace_unlinked : (k s p : ℕ) (pred : Place) → May shape.buckets shape.slots (unlinked k s p) P → InBucket buckets k pred → ((t : ℕ) → pred ≡ Node t → t < shape.slots) → place_of buckets k P ≡ place_number pred
@@ -133,5 +113,4 @@ module _ (shape : Shape) (words : Words) (P : Trace) (trace : TraceSound shape w
       (λ t. refl) (λ t. refl) refl
     where
       head_off : (b : ℕ) → (b ≢ bucket_of buckets k) ⊎ (place_number pred ≢ 0) → head_word buckets b (unlinked k s p ∷ P) ≡ head_word buckets b P
-      head_off b (inl other) = grind (arith, nat_tests, other)
-      head_off b (inr more) = grind (arith, nat_tests, more, at)
+      head_off b h = grind (arith, nat_tests)

@@ -1,6 +1,6 @@
 -- How uses change when pins are seen, and when limbo slots that every pass has left become free: what is said of reuse stays.
 use Rattle.std.proofs.lemmas.{Bool.{cases_Bool, cases_eq, cases_lt, Decides.{nat_tests}}, List.{get_or_past, length-map}}
-use Rattle.std.proofs.Common.{◌≡◌, ◌⊎◌, inl, inr, ℕ, zero, suc, ◌≤◌, true, List, [], ◌∷◌, length, map, get_or, refl, sym, ap, ◌∙◌, subst, arith}
+use Rattle.std.proofs.Common.{◌≡◌, ◌⊎◌, inl, inr, ℕ, zero, suc, ◌≤◌, true, List, [], ◌∷◌, length, map, get_or, refl, sym, ◌∙◌, subst, arith}
 use Rattle.std.specs.List.{list_all}
 use mathlib.Core.Bool.{false≢true}
 use Rattle.lz_slot.{specs.Counted.{of_pass, set_of_pass}, proofs.Counted.{of_pass_same, of_pass_other, length-set_of_pass}}
@@ -33,8 +33,7 @@ pub record KeepsUses (old new : List Use) : Type 0 where
 
 -- a pass that is inside is one of the table's
 pub inside_range : (pins : List ℕ) (a : ℕ) → IsInside (pin_in pins a) → (1 ≤ a) × (a ≤ length pins)
-inside_range pins zero inside = absurd (omega (arith, inside))
-inside_range pins (suc i) inside = grind (arith, cases_lt, get_or_past)
+inside_range pins a inside = grind (arith, nat_tests, cases_lt, get_or_past)
 
 -- pins are seen
 module _ (p v : ℕ) where
@@ -43,30 +42,14 @@ module _ (p v : ℕ) where
 
   -- a slot in limbo was so before
   see_at : (u : Use) (seen : List Sight) → see_pin_at p v u ≡ Limbo seen → (sights : List Sight) × (u ≡ Limbo sights) × (seen ≡ set_of_pass sights p (sight_after v (of_pass sights p Left)))
-  see_at (Limbo sights) seen is = (sights, refl, sym (limbo_same is))
-  see_at _ seen is = absurd cc
+  see_at u seen is = grind (arith, nat_tests, limbo_same)
 
   see_free : (u : Use) → see_pin_at p v u ≡ Free → u ≡ Free
-  see_free Free is = refl
-  see_free _ is = absurd cc
+  see_free u is = grind (arith, nat_tests)
 
   pub seen_reuse : (shape : Shape) (pins : List ℕ) (uses : List Use) (actors : List Actor) (P : Trace) (begun : ℕ → Trace) → v ≡ pin_in pins p → 1 ≤ p → p ≤ shape.passes
       → ReuseSound shape pins uses actors P begun → ReuseSound shape pins (see_pin p v uses) actors P begun
-  seen_reuse shape pins uses actors P begun value low high h = record {
-    worn = h.worn;
-    sights = λ s seen is. let was = see_at (use_of uses s) seen (sym (use_map (see_pin_at p v) uses s refl) ∙ is) in ap length was.2 ∙ length-set_of_pass was.0 p _ ∙ h.sights s was.0 was.1;
-    seen = λ a s seen is.
-        let was = see_at (use_of uses s) seen (sym (use_map (see_pin_at p v) uses s refl) ∙ is) in
-        let count = h.sights s was.0 was.1 in
-        subst (λ (l : List Sight). IsRightSight shape.buckets (pin_in pins a) (begun a) P s (of_pass l a Left)) (sym was.2) (elim (cases_eq a p) [
-          | inl same ↦ subst (λ (q : Sight). IsRightSight shape.buckets (pin_in pins a) (begun a) P s q) (sym (ap (λ (q : ℕ). of_pass (set_of_pass was.0 p (sight_after v (of_pass was.0 p Left))) q Left) same ∙ of_pass_same was.0 p (sight_after v (of_pass was.0 p Left)) Left low (omega (arith, high, count))))
-              (subst (λ (q : ℕ). IsRightSight shape.buckets (pin_in pins a) (begun a) P s (sight_after q (of_pass was.0 p Left))) (ap (pin_in pins) same ∙ sym value)
-              (seen_see shape.buckets s (pin_in pins a) (begun a) P (of_pass was.0 p Left) (subst (λ (q : ℕ). IsRightSight shape.buckets (pin_in pins a) (begun a) P s (of_pass was.0 q Left)) same (h.seen a s was.0 was.1))))
-          | inr other ↦ subst (λ (q : Sight). IsRightSight shape.buckets (pin_in pins a) (begun a) P s q) (sym (of_pass_other was.0 p a (sight_after v (of_pass was.0 p Left)) Left other)) (h.seen a s was.0 was.1)
-        ]);
-    free = λ a s is inside. h.free a s (see_free (use_of uses s) (sym (use_map (see_pin_at p v) uses s refl) ∙ is)) inside;
-    reserved = h.reserved;
-  }
+  seen_reuse shape pins uses actors P begun value low high h = grind (arith, nat_tests, see_at, use_map, length-set_of_pass, cases_eq, of_pass_same, seen_see, of_pass_other, see_free)
 
 -- slots that every pass has left become free
 pub collect_keeps : (uses : List Use) → KeepsUses uses (collect uses)
@@ -85,8 +68,7 @@ all_left (Inside u ∷ sights) i all = absurd (false≢true all)
 all_left _ _ all = refl
 
 pub left_of : (sights : List Sight) (a : ℕ) → list_all has_left sights ≡ true → of_pass sights a Left ≡ Left
-left_of sights zero all = refl
-left_of sights (suc i) all = all_left sights i all
+left_of sights a all = grind (arith, nat_tests, all_left)
 
 pub collect_reuse : (shape : Shape) (pins : List ℕ) (uses : List Use) (actors : List Actor) (P : Trace) (begun : ℕ → Trace) → ReuseSound shape pins uses actors P begun → ReuseSound shape pins (collect uses) actors P begun
 collect_reuse shape pins uses actors P begun h = record {

@@ -84,25 +84,7 @@ module _ (callers : List (Option Caller)) (notes : Notes) (a position : ℕ) (ca
 
   inserted : (m : ℕ) → a ≤ m → IsInserted (row_of caller position) (pending callers notes.changed m) (pending callers later m)
   inserted zero le = absurd (omega (arith, le, (caller_range callers a caller at).0))
-  inserted (suc m) le = elim (cases_eq (suc m) a) [
-    | inl last ↦
-        let same = same_below m (omega (arith, last)) in
-        record {
-          front = pending callers notes.changed m;
-          back = [];
-          was = ap (λ (l : List Row). pending callers notes.changed m ++ l) (ap (λ (q : ℕ). pending_row (caller_at callers q) (notes.changed q)) last ∙ no_row);
-          is = ap (λ (l : List Row). l ++ pending_row (caller_at callers (suc m)) (later (suc m))) same ∙ ap (λ (l : List Row). pending callers notes.changed m ++ l) (ap (λ (q : ℕ). pending_row (caller_at callers q) (later q)) last ∙ new_row);
-        }
-    | inr more ↦
-        let rest = inserted m (omega (arith, le, more)) in
-        let row = pending_row (caller_at callers (suc m)) (notes.changed (suc m)) in
-        record {
-          front = rest.front;
-          back = rest.back ++ row;
-          was = ap (λ (l : List Row). l ++ row) rest.was ∙ append_assoc rest.front rest.back row;
-          is = ap (λ (l : List Row). pending callers later m ++ l) (same_row (suc m) more) ∙ ap (λ (l : List Row). l ++ row) rest.is ∙ append_assoc rest.front (row_of caller position ∷ rest.back) row;
-        }
-  ]
+  inserted (suc m) le = grind (arith, nat_tests, cases_eq, same_below, no_row, new_row, inserted m, append_assoc, same_row)
 
   pub inserted_entry : (passes : ℕ) → a ≤ passes → IsInserted (row_of caller position) (entries passes callers notes) (entries passes callers (changes_at notes a position))
   inserted_entry passes le =
@@ -125,9 +107,7 @@ pending_open callers changed zero x h = absurd h
 pending_open callers changed (suc m) x h = ⊎_elim (λ before. pending_open callers changed m x before) (λ here. go (caller_at callers (suc m)) (changed (suc m)) refl refl here) (has_append x (pending callers changed m) (pending_row (caller_at callers (suc m)) (changed (suc m))) h)
   where
     go : (caller : Option Caller) (j : Option ℕ) → caller_at callers (suc m) ≡ caller → changed (suc m) ≡ j → HasRow x (pending_row caller j) → (b : ℕ) × (c : Caller) × (i : ℕ) × (caller_at callers b ≡ Some c) × (changed b ≡ Some i) × (c.number ≡ x.number)
-    go (Some c) (Some j) is was (inl here) = (suc m, c, j, is, was, ap (λ (q : Row). q.number) here)
-    go (Some c) (Some j) is was (inr none) = absurd none
-    go _ _ is was h = absurd h
+    go caller j is was h = grind (arith, nat_tests)
 
 no_times : (j : ℕ) (L : List Row) → ((x : Row) → HasRow x L → x.number ≢ j) → times j L ≡ 0
 no_times j [] other = refl
@@ -135,12 +115,7 @@ no_times j (q ∷ L) other = let here = other q (inl refl) in grind (arith, nat_
 
 -- an open call that has changed nothing has no row
 pub no_entry : (n calls passes : ℕ) (callers : List (Option Caller)) (P : Trace) (M : History) (notes : Notes) (a : ℕ) (caller : Caller) → caller_at callers a ≡ Some caller → notes.changed a ≡ None → LedgerSound n calls passes callers P M notes → times caller.number (entries passes callers notes) ≡ 0
-no_entry n calls passes callers P M notes a caller at none sound = times_append caller.number notes.ended (pending callers notes.changed passes) ∙ omega (arith, sound.unlisted a caller at, no_times caller.number (pending callers notes.changed passes) (λ x h same. other x h same))
-  where
-    other : (x : Row) → HasRow x (pending callers notes.changed passes) → x.number ≡ caller.number → ⊥
-    other x h same =
-        let found = pending_open callers notes.changed passes x h in
-        none-some _ (sym (sym found.4 ∙ ap notes.changed (sound.apart found.0 a found.1 caller found.3 at (found.5 ∙ same)) ∙ none))
+no_entry n calls passes callers P M notes a caller at none sound = grind (arith, nat_tests, times_append, no_times, pending_open, none-some)
 
 -- the tail of an open call that writes a gate
 pub own_tail : (n calls passes : ℕ) (callers : List (Option Caller)) (P : Trace) (M : History) (notes : Notes) (a : ℕ) (caller : Caller) → caller_at callers a ≡ Some caller → notes.changed a ≡ None → may_have_tail caller.progress ≡ true → LedgerSound n calls passes callers P M notes → HasTail caller.command callers (entries passes callers notes) M
@@ -171,13 +146,7 @@ module _ (n calls passes : ℕ) (callers : List (Option Caller)) (e : Publishing
 
   -- the call has no row yet
   not_listed : times caller.number old ≡ 0
-  not_listed = times_append caller.number notes.ended (pending callers notes.changed passes) ∙ omega (arith, sound.unlisted a caller at, no_times caller.number (pending callers notes.changed passes) (λ x h same. other x h same))
-    where
-      other : (x : Row) → HasRow x (pending callers notes.changed passes) → x.number ≡ caller.number → ⊥
-      other x h same =
-          let found = pending_open callers notes.changed passes x h in
-          let it = sound.apart found.0 a found.1 caller found.3 at (found.5 ∙ same) in
-          none-some _ (sym (sym found.4 ∙ ap notes.changed it ∙ none))
+  not_listed = grind (arith, nat_tests, times_append, no_times, pending_open, none-some)
 
   upto_now : upto (length P) (e ∷ P) ≡ P
   upto_now = upto_more (length P) e P (omega arith) ∙ upto_all (length P) P (omega arith)
@@ -236,15 +205,7 @@ module _ (n calls passes : ℕ) (callers : List (Option Caller)) (e : Publishing
   }
     where
       once_now : (j : ℕ) → times j (parts.front ++ r ∷ parts.back) + 0 ≤ 1
-      once_now j = elim (eqb_tells caller.number j) [
-        | inl same ↦
-            let zero_before : times j (parts.front ++ parts.back) ≡ 0 = ap (λ (q : ℕ). times q (parts.front ++ parts.back)) (sym same.1) ∙ ap (times caller.number) (sym parts.was) ∙ not_listed in
-            let count : times j (parts.front ++ r ∷ parts.back) ≡ suc (times j (parts.front ++ parts.back)) = times_insert r j parts.front parts.back ∙ rw same.0 refl in
-            omega (arith, zero_before, count)
-        | inr other ↦
-            let count : times j (parts.front ++ r ∷ parts.back) ≡ times j (parts.front ++ parts.back) = times_insert r j parts.front parts.back ∙ rw other.0 refl in
-            omega (arith, count, grown.once j)
-      ]
+      once_now j = grind (arith, nat_tests, eqb_tells, parts, not_listed, times_insert, grown)
 
   pub ledger_changed : LedgerSound n calls passes callers (e ∷ P) M notes'
   ledger_changed = record {
@@ -261,16 +222,7 @@ module _ (n calls passes : ℕ) (callers : List (Option Caller)) (e : Publishing
   }
     where
       change_then : (j : ℕ) → n ≤ j → j < length (e ∷ P) → IsChangeOf (publishing j (e ∷ P)) (change_at j (parts.front ++ r ∷ parts.back))
-      change_then j early late = elim (cases_lt j (length P)) [
-        | inl within ↦
-            subst (λ (f : Publishing). IsChangeOf f (change_at j (parts.front ++ r ∷ parts.back))) (sym (publishing_more j e P within))
-            (subst (IsChangeOf (publishing j P)) (ap (change_at j) parts.was ∙ sym (change_other r j parts.front parts.back (λ same. omega (arith, within, same)))) (sound.changes j early within))
-        | inr past ↦
-            let now : length P ≡ j = omega (arith, past, late) in
-            subst (λ (q : ℕ). IsChangeOf (publishing q (e ∷ P)) (change_at q (parts.front ++ r ∷ parts.back))) now
-            (subst (λ (f : Publishing). IsChangeOf f (change_at (length P) (parts.front ++ r ∷ parts.back))) (sym (last_publishing e P))
-            (subst (IsChangeOf e) (sym (change_here r (length P) parts.front parts.back refl refl (ap (change_at (length P)) (sym parts.was) ∙ none_late n (length P) P old (omega arith) sound.ledger.each))) tells))
-      ]
+      change_then j early late = grind (arith, nat_tests, cases_lt, parts, publishing_more, change_other, last_publishing, change_here, none_late)
 
   -- the tails of other commands have no row still
   pub tail_changed : (d : Command) → (d ≡ caller.command → ⊥) → HasTail d callers old M → HasTail d callers (entries passes callers notes') M

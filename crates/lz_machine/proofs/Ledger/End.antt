@@ -4,7 +4,7 @@ use Rattle.std.proofs.Common.{◌≡◌, ◌≢◌, ◌⊎◌, ⊎_elim, inl, in
 use Rattle.std.proofs.{Common.{ap, ◌∙◌, subst, arith}, lemmas.{Bool.{cases_eq, Decides.{nat_tests}}, List.{append-nil}, Option.{none-some}}}
 use Rattle.lz_slot.specs.declared.{command.Command.{Command}, history.{Mark.{Mark, TheVariants.{Call, Answer, Refused}}, Refusal.{Refusal}}}
 use Rattle.lz_slot.specs.Histories.{History, IsCalled, IsAnswered, IsBefore, IsUnderWay}
-use Rattle.lz_list.specs.{Traces.{Trace}, declared.publishing.Publishing.{Publishing, TheVariants.{Linked as linked, Marked as marked}}}
+use Rattle.lz_list.specs.{Traces.{Trace}, declared.publishing.Publishing.{Publishing}}
 use Rattle.lz_machine.specs.{Runs.{Caller, caller_at}, Ledgers.{Row, HasRow, Stands, Each, change_at, times}, Kept.{publishing, IsRowOf}}
 use Rattle.lz_machine.specs.{Entries.{IsRowIn, IsLedger, IsSettledEntry, IsChangeOf}, Notes.{Notes, pending_row, pending, entries}, Yards.{IsInside, pin_in}}
 use Rattle.lz_machine.specs.{LedgerSound.{LedgerSound, may_have_tail, HasTail}, Sound.{IsAfter}}
@@ -21,9 +21,7 @@ module _ (p r : Row) (same : p.command ≡ r.command) where
   none_here e = absurd cc
 
   swapped : (f : Publishing) → IsChangeOf f (p ∷ []) → IsChangeOf f (r ∷ [])
-  swapped (linked k s q) h = (r, refl, sym same ∙ ap (λ (z : Row). z.command) (first_same h.1) ∙ h.2)
-  swapped (marked k s q) h = (r, refl, sym same ∙ ap (λ (z : Row). z.command) (first_same h.1) ∙ h.2)
-  swapped _ h = none_here h
+  swapped f h = grind (arith, nat_tests, first_same, none_here)
 
   -- a row that changes alone at its position is put elsewhere
   moved_change : (f : Publishing) (A C D : List Row) → IsChangeOf f (A ++ (C ++ (p ∷ D))) → IsChangeOf f ((A ++ r ∷ []) ++ (C ++ D))
@@ -81,8 +79,7 @@ module _ (n calls passes : ℕ) (callers : List (Option Caller)) (P : Trace) (M 
   under_way = sound.open_call a caller at
 
   all_pend : (changed : Option ℕ) → Each (λ r. r.number ≡ i) (pending_row (Some caller) changed)
-  all_pend None = tt
-  all_pend (Some j) = (refl, tt)
+  all_pend changed = grind (arith, nat_tests)
 
   abbrev rows : List Row
   rows = E ++ (F ++ B)
@@ -205,10 +202,7 @@ module _ (n calls passes : ℕ) (callers : List (Option Caller)) (P : Trace) (M 
   open_still j c apart h = grind arith
 
   is_open : (b : ℕ) (one : Caller) → caller_at (ending callers a) b ≡ Some one → (b ≢ a) × (caller_at callers b ≡ Some one)
-  is_open b one is = elim (cases_eq b a) [
-    | inl same ↦ absurd (none-some _ (sym (gone callers notes a last caller at) ∙ ap (caller_at (ending callers a)) (sym same) ∙ is))
-    | inr other ↦ (other, sym (stays_open callers notes a last caller at b other) ∙ is)
-  ]
+  is_open b one is = grind (arith, nat_tests, cases_eq, none-some, gone, ending, stays_open)
 
   old_called : (j : ℕ) (c : Command) → IsCalled (m ∷ M) j c → IsCalled M j c
   old_called j c (b, inl now) = absurd (ends.no_call j b c now)
@@ -241,24 +235,7 @@ module _ (n calls passes : ℕ) (callers : List (Option Caller)) (P : Trace) (M 
 
   -- a call whose pending row becomes its last one
   pub ledger_moved : (p r : Row) → pended ≡ p ∷ [] → last ≡ r ∷ [] → p.command ≡ r.command → p.position ≡ r.position → p.changes ≡ true → r.changes ≡ true → LedgerSound n calls passes (ending callers a) P (m ∷ M) notes'
-  ledger_moved p r is_p is_r command position does also = ledger_ended (λ j early late. elim (cases_eq p.position j) [
-    | inl here ↦
-        subst (IsChangeOf (publishing j P)) (sym (now j here))
-        (moved_change p r command (publishing j P) (change_at j E) (change_at j F) (change_at j B) (subst (IsChangeOf (publishing j P)) (then_at j here) (sound.changes j early late)))
-    | inr away ↦ subst (IsChangeOf (publishing j P)) (sym (change_kept j (ap (change_at j) is_p ∙ alone_away p j does away) (ap (change_at j) is_r ∙ alone_away r j also (λ e. away (position ∙ e))))) (sound.changes j early late)
-  ])
-    where
-      alone_away : (x : Row) (j : ℕ) → x.changes ≡ true → x.position ≢ j → change_at j (x ∷ []) ≡ []
-      alone_away x j changing other = grind (arith, nat_tests, changing, other)
-
-      alone_here : (x : Row) (j : ℕ) → x.changes ≡ true → x.position ≡ j → change_at j (x ∷ []) ≡ x ∷ []
-      alone_here x j changing same = grind (arith, nat_tests, changing, same)
-
-      then_at : (j : ℕ) → p.position ≡ j → change_at j (entries passes callers notes) ≡ change_at j E ++ (change_at j F ++ (p ∷ change_at j B))
-      then_at j here = ap (change_at j) old_is ∙ change_append j E (F ++ (pended ++ B)) ∙ ap (λ (l : List Row). change_at j E ++ l) (change_append j F (pended ++ B) ∙ ap (λ (l : List Row). change_at j F ++ l) (change_append j pended B ∙ ap (λ (l : List Row). l ++ change_at j B) (ap (change_at j) is_p ∙ alone_here p j does here)))
-
-      now : (j : ℕ) → p.position ≡ j → change_at j (entries passes (ending callers a) notes') ≡ (change_at j E ++ r ∷ []) ++ (change_at j F ++ change_at j B)
-      now j here = ap (change_at j) new_is ∙ change_append j (E ++ last) (F ++ B) ∙ ap (λ (l : List Row). l ++ change_at j (F ++ B)) (change_append j E last ∙ ap (λ (l : List Row). change_at j E ++ l) (ap (change_at j) is_r ∙ alone_here r j also (sym position ∙ here))) ∙ ap (λ (l : List Row). (change_at j E ++ r ∷ []) ++ l) (change_append j F B)
+  ledger_moved p r is_p is_r command position does also = grind (arith, nat_tests, ledger_ended, cases_eq, moved_change, change_kept, old_is, change_append, ending, new_is)
 
   -- what is said of pins of other calls
   pub after_ended : (pins' : List ℕ) → ((b : ℕ) → b ≢ a → pin_in pins' b ≡ pin_in pins b) → IsAfter pins' (ending callers a) (entries passes (ending callers a) notes') (m ∷ M) notes.begun

@@ -1,6 +1,6 @@
 -- The list that a trace and a ledger give fits the history.
-use Rattle.std.proofs.Common.{◌≡◌, ◌⊎◌, ⊎_elim, inl, inr, ℕ, zero, suc, ◌<◌, ◌≤◌, Bool, true, not, ◌==◌, ◌&&◌, List, [], ◌∷◌, ◌++◌, length, filter, None, refl}
-use Rattle.std.proofs.{Common.{sym, ap, ◌∙◌, subst, arith}, lemmas.{Bool.{cases_Bool, cases_lt, Decides.{nat_tests}}, Option.{none-some}}}
+use Rattle.std.proofs.Common.{◌≡◌, ◌⊎◌, ⊎_elim, inl, inr, ℕ, zero, suc, ◌<◌, ◌≤◌, Bool, true, not, ◌==◌, ◌&&◌, List, [], ◌∷◌, ◌++◌, length, filter, refl, sym}
+use Rattle.std.proofs.{Common.{ap, subst, arith}, lemmas.{Bool.{cases_Bool, cases_lt, Decides.{nat_tests}}, Option.{none-some}}}
 use Rattle.lz_slot.specs.{Sets.{Keys, after}, Histories.{IsRefused, History, IsAnswered, IsBefore, IsListed, count_of, IsEarlier, Runs, Fits}}
 use Rattle.lz_list.specs.Traces.{Trace, Lawful}
 use Rattle.lz_machine.specs.Ledgers.{Row, quiet_at, change_at, listed, HasRow, Stands, times, is_within, Each, IsRight, Moves, Leads}
@@ -92,15 +92,9 @@ module _ (n : ℕ) (P : Trace) (rows tail : List Row) (M : History) (ledger : Is
       subst (λ (x : ℕ). IsEarlier x j (numbers (listed rows (length P) ++ tail))) r.2 (subst (λ (y : ℕ). IsEarlier r.0.number y (numbers (listed rows (length P) ++ tail))) q.2 (earlier_rows r.0 q.0 (listed rows (length P) ++ tail) (go r.0 q.0 (subst (λ (x : ℕ). IsBefore M x q.0.number) (sym r.2) (subst (λ (y : ℕ). IsBefore M i y) (sym q.2) before)) (has_append r.0 (listed rows (length P)) tail r.1) (has_append q.0 (listed rows (length P)) tail q.1))))
     where
       go : (r q : Row) → IsBefore M r.number q.number → HasRow r (listed rows (length P)) ⊎ HasRow r tail → HasRow q (listed rows (length P)) ⊎ HasRow q tail → Stands r q (listed rows (length P) ++ tail)
-      go r q before (inr last) _ =
-          let told = was_answered r.number q.number M before in
-          absurd (none-some told.0 (sym (each_has (λ r. r.answer ≡ None) r tail ledger.tail_open last) ∙ (each_has (IsRowIn M) r (rows ++ tail) ledger.calls (has_right r rows tail last)).answers told.0 told.1))
+      go r q before (inr last) _ = grind (arith, nat_tests, was_answered, none-some, each_has, has_right)
       go r q before (inl first) (inr last) = stands_across r q (listed rows (length P)) tail first last
-      go r q before (inl first) (inl second) =
-          let at_r = has_listed (length P) r rows first in
-          let at_q = has_listed (length P) q rows second in
-          let o = ledger.order r q at_r at_q before in
-          stands_left r q (listed rows (length P)) tail (listed_order rows (length P) r q o.0 o.1 o.2 (within q at_q))
+      go r q before (inl first) (inl second) = grind (arith, nat_tests, has_listed, stands_left, listed_order, within)
 
   pub listed_fits : (buckets slots : ℕ) (drop T : Keys) → Lawful buckets slots P → MayDrop n P drop → ((j : ℕ) → n ≤ j → j < length P → RowsFit P drop j (publishing j P) (change_at j rows)) → Leads (kept_keys n P drop (length P)) tail T → Fits (kept_keys n P drop 0) M (numbers (listed rows (length P) ++ tail)) T
   listed_fits buckets slots drop T law may fit tail_leads = record {

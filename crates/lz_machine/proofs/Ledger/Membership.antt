@@ -35,9 +35,7 @@ last_change_past k (e ∷ P) = grind (arith, last_change_past k P)
 
 -- after k's last change nothing moves
 keeps_key : (k : ℕ) (e : Publishing) (P : Trace) → changes_key k e ≡ false → (member k (e ∷ P) ≡ member k P) × (linking k (e ∷ P) ≡ linking k P)
-keeps_key k (linked j s p) P none = (rw none, rw none)
-keeps_key k (marked j s p) P none = (rw none, refl)
-keeps_key k _ P none = (refl, refl)
+keeps_key k e P none = grind (arith, nat_tests)
 
 unchanged : (k : ℕ) (R P : Trace) → Begins R P → last_change k P ≤ length R → (member k P ≡ member k R) × (linking k P ≡ linking k R)
 unchanged k R [] to late = (ap (member k) (sym to), ap (linking k) (sym to))
@@ -111,14 +109,8 @@ module _ (n : ℕ) (P : Trace) (drop : Keys) (may : MayDrop n P drop) where
   module _ (L : List Row) (j : ℕ) (early : n ≤ j) (late : j < length P) where
     -- a change of k to v, by a command that does it too
     move_by : (e : Publishing) (k : ℕ) (c : Command) (v : Bool) → publishing j P ≡ e → ((q : ℕ) → k ≢ q → changes_key q e ≡ false) → changes_key k e ≡ true → member k (e ∷ upto j P) ≡ v → member k (upto j P) ≡ not v → ((q : ℕ) (b : Bool) → k ≢ q → moved q c b ≡ b) → ((b : Bool) → moved k c b ≡ v) → (gone : Bool) → (drop k && (last_change k P == suc j)) ≡ gone → IsChange gone c L → Moves (kept_keys n P drop j) (kept_keys n P drop (suc j)) L
-    move_by e k c v is others does becomes_v was_not moves_other moves_k true d fit = subst (Moves (kept_keys n P drop j) (kept_keys n P drop (suc j))) (sym fit) (λ q. elim (cases_eq k q) [
-      | inl same ↦ subst (λ (i : ℕ). kept_keys n P drop (suc j) i ≡ kept_keys n P drop j i) same (dropped j early late e is k (grind (arith, d)) (grind (arith, nat_tests, d)) (grind (arith, becomes_v, was_not)))
-      | inr other ↦ stays j early late e is q (others q other)
-    ])
-    move_by e k c v is others does becomes_v was_not moves_other moves_k false d fit = subst (Moves (kept_keys n P drop j) (kept_keys n P drop (suc j))) (sym fit.1) (λ q. sym (after_at fit.0.command (kept_keys n P drop j) q ∙ ap (λ (b : Command). moved q b (kept_keys n P drop j q)) fit.2 ∙ elim (cases_eq k q) [
-      | inl same ↦ subst (λ (i : ℕ). moved i c (kept_keys n P drop j i) ≡ kept_keys n P drop (suc j) i) same (moves_k (kept_keys n P drop j k) ∙ sym (becomes j early late e is k does d ∙ becomes_v))
-      | inr other ↦ moves_other q (kept_keys n P drop j q) other ∙ sym (stays j early late e is q (others q other))
-    ]))
+    move_by e k c v is others does becomes_v was_not moves_other moves_k true d fit = grind (arith, nat_tests, cases_eq, dropped, stays)
+    move_by e k c v is others does becomes_v was_not moves_other moves_k false d fit = grind (arith, nat_tests, after_at, cases_eq, becomes, stays)
 
     pub rows_move : (buckets slots : ℕ) → Lawful buckets slots P → (e : Publishing) → publishing j P ≡ e → RowsFit P drop j e L → Moves (kept_keys n P drop j) (kept_keys n P drop (suc j)) L
     rows_move buckets slots law (linked k s p) is fit =

@@ -3,7 +3,7 @@ use Rattle.std.proofs.Common.{◌≡◌, ◌≢◌, ◌⊎◌, ⊎_elim, inl, in
 use Rattle.std.proofs.{Common.{None, refl, sym, ap, ◌∙◌, arith, append_assoc}, lemmas.Bool.{cases_Bool, cases_eq, Decides.{nat_tests, eqb_tells}}}
 use Rattle.std.proofs.lemmas.List.{append-nil}
 use Rattle.lz_slot.{specs.Counted.{set_of_pass}, proofs.Counted.{of_pass_same, of_pass_other}}
-use Rattle.lz_list.specs.declared.publishing.Publishing.{Publishing, TheVariants.{Linked as linked, Marked as marked}}
+use Rattle.lz_list.specs.declared.publishing.Publishing.{Publishing}
 use Rattle.lz_machine.specs.{Runs.{Caller, caller_at}, Ledgers.{Row, HasRow, Stands, Each, change_at, times}, Entries.{IsChangeOf}}
 use Rattle.lz_machine.{specs.Notes.{Notes, pending_row, pending}, proofs.Ledger.Fit.{each_has, has_append}}
 use Rattle.lz_machine.proofs.{Ledger.Order.{has_left, has_right, stands_left, stands_across, times_append}, Frames.OneActor.{caller_range}}
@@ -171,6 +171,4 @@ is_nil [] e = refl
 is_nil (l ∷ L) e = absurd (omega (arith, e))
 
 pub short : (f : Publishing) (L : List Row) → IsChangeOf f L → length L ≤ 1
-short (linked k s p) L h = omega (arith, ap length h.1)
-short (marked k s p) L h = omega (arith, ap length h.1)
-short _ L h = omega (arith, ap length h)
+short f L h = grind (arith, nat_tests)

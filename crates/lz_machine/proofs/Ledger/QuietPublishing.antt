@@ -22,9 +22,7 @@ IsNoChange (marked k s p) = ⊥
 IsNoChange _ = Unit {0}
 
 pub no_change : (e : Publishing) (L : List Row) → IsNoChange e → L ≡ [] → IsChangeOf e L
-no_change (linked k s p) L none is = absurd none
-no_change (marked k s p) L none is = absurd none
-no_change _ _ none is = is
+no_change e L none is = grind (arith, nat_tests)
 
 -- what is said of settled rows
 pub entry_stays : (n : ℕ) (e : Publishing) (P : Trace) (r : Row) → IsRowOf n P r → IsSettledEntry P r → IsSettledEntry (e ∷ P) r

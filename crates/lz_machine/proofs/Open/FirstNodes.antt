@@ -40,7 +40,6 @@ module _ (buckets : ℕ) where
 -- the slots of a text
 module _ (t : List ℕ) where
   slot_of_read : (n s : ℕ) → n ≢ s → (r : SlotRead) → has_slot s (held t n) ≡ false → (has_slot s (held t n) || has_slot s (held_key r n)) ≡ false
-  slot_of_read n s other (Member k) none = grind (arith, nat_tests)
   slot_of_read n s other _ none = grind (arith, nat_tests)
 
   slot_later : (n s : ℕ) → n ≤ s → has_slot s (held t n) ≡ false
@@ -49,8 +48,7 @@ module _ (t : List ℕ) where
 
   -- a closed slot isn't held
   none_of_shut : (n s : ℕ) (r : SlotRead) → IsReadShut r → has_slot s (held_key r n) ≡ false
-  none_of_shut n s r (inl shut) = rw shut refl
-  none_of_shut n s r (inr torn) = rw torn refl
+  none_of_shut n s r h = grind (arith, nat_tests)
 
   pub slot_closed : (n s : ℕ) → IsReadShut (slot_at t s) → has_slot s (held t n) ≡ false
   slot_closed zero s shut = refl

@@ -196,13 +196,7 @@ module _ (shape : Shape) (t : List ℕ) (found : Keys) (some : 1 ≤ shape.bucke
   all_wait = grind (arith, nat_tests, length-replicate, not_inside, waits)
 
   reuse : ReuseSound shape pins uses actors P notes.begun
-  reuse = record {
-    worn = λ a. omega (arith, outside a);
-    sights = λ s seen is. absurd (no_limbo_read (slots_read t N) s seen is);
-    seen = λ a s seen is. absurd (no_limbo_read (slots_read t N) s seen is);
-    free = λ a s is inside. absurd (not_inside a inside);
-    reserved = λ a b s is inside. absurd (not_inside a inside);
-  }
+  reuse = grind (arith, nat_tests, outside, no_limbo_read, not_inside)
 
   none_pending : (m : ℕ) → pending callers notes.changed m ≡ []
   none_pending zero = refl
@@ -231,10 +225,7 @@ module _ (shape : Shape) (t : List ℕ) (found : Keys) (some : 1 ≤ shape.bucke
       ]
 
   tails : (rows : List Row) → TailsSound shape cells actors P callers rows []
-  tails rows = record {
-    adding = λ a s is. absurd (no_slot a s is);
-    removing = λ s there unmarked written. absurd (not_written s (node_open s there) written);
-  }
+  tails rows = grind (arith, nat_tests, no_slot, not_written, node_open)
 
   -- the trace shows the keys that were found
   has_found : (k : ℕ) → has_key k all_found ≡ found k

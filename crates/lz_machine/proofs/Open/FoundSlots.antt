@@ -1,7 +1,7 @@
 -- What an open reads of a slot, and the cell that it makes of it.
 use Rattle.lz_slot.specs.declared.slot.SlotRead.TheVariants as read
 use Rattle.std.proofs.Common.{◌≡◌, ◌≢◌, ◌⊎◌, inl, inr, ⊎_elim, ℕ, zero, suc, ◌+◌, ◌*◌, ◌-◌, ◌≤◌, List, [], ◌∷◌, length, map, get_or, drop, replicate, None}
-use Rattle.std.proofs.{Common.{refl, sym, ap, subst, arith}, lemmas.Bool.{cases_lt, Decides.{nat_tests}}}
+use Rattle.std.proofs.{Common.{refl, ap, arith}, lemmas.Bool.{cases_lt, Decides.{nat_tests}}}
 use Rattle.std.proofs.lemmas.List.{length-replicate, get_or-replicate, get_or-drop, get_or_past}
 use Rattle.lz_slot.specs.{Rooms.{largest_of}, declared.{format.Format.{Format, TheVariants.{Four}}, slot.SlotRead.{SlotRead}}, Counted.{of_pass}}
 use Rattle.lz_slot.specs.Bytes.{slot_bytes, gated_read, slot_read}
@@ -19,8 +19,7 @@ replicate_at : {X : Type 0} (n i : ℕ) (x : X) → get_or (replicate n x) i x �
 replicate_at n i x = ⊎_elim (λ lt. get_or-replicate n i x x lt) (λ le. get_or_past (replicate n x) i x (omega (arith, le, length-replicate n x))) (cases_lt i n)
 
 pub pass_of : {X : Type 0} (n a : ℕ) (x : X) → of_pass (replicate n x) a x ≡ x
-pass_of n zero x = refl
-pass_of n (suc i) x = replicate_at n i x
+pass_of n h x = grind (arith, nat_tests, replicate_at)
 
 pub read_cases : (r : SlotRead) → r ≢ read.BadKey → ((k : ℕ) × (r ≡ read.Member k)) ⊎ IsReadShut r
 read_cases (read.Member k) fine = inl (k, refl)
@@ -30,12 +29,10 @@ read_cases read.BadKey fine = absurd (fine refl)
 
 -- a slot that holds no member is free
 pub shut_use : (r : SlotRead) → IsReadShut r → use_read r ≡ Free
-shut_use r (inl shut) = ap use_read shut
-shut_use r (inr torn) = ap use_read torn
+shut_use r h = grind (arith, nat_tests)
 
 pub shut_free : (r : SlotRead) → IsReadShut r → IsFree (cell_read r).stage
-shut_free r (inl shut) = subst (λ (q : SlotRead). IsFree (cell_read q).stage) (sym shut) tt
-shut_free r (inr torn) = subst (λ (q : SlotRead). IsFree (cell_read q).stage) (sym torn) tt
+shut_free r h = grind (arith, nat_tests)
 
 -- where a gate opens a slot, none is torn
 never_torn : (F : Format) (bytes : List ℕ) → gated_read F bytes ≡ read.Torn → ⊥

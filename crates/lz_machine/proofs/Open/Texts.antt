@@ -1,11 +1,11 @@
 -- A text of these slots: what a device that keeps to nothing may have told, where an open found them.
-use Rattle.std.{specs.{Int.{byte_at, bytes_high_first}, Prelude.{Some, replicate, slice_get}}, proofs.Common.{◌≡◌, ℕ, zero, suc, ◌+◌, ◌*◌, ◌-◌, ◌<◌, ◌≤◌, List}}
-use Rattle.std.proofs.Common.{[], ◌∷◌, ◌++◌, length, take, get_or, refl, sym, ap, ◌∙◌, subst, arith, length-append}
+use Rattle.std.proofs.lemmas.Bool.{cases_lt, Decides.{nat_tests}}
 use Rattle.std.proofs.lemmas.List.{get_or_append_left, get_or-append_right, get_or-replicate, get_or_past, length-replicate}
-use Rattle.std.proofs.lemmas.{List.Edits.{length-between, get_or-between}, Bool.{cases_lt}, Option.{slice_get_within, get_or_from_slice_get}}
-use Rattle.std.proofs.lemmas.Grind.{same_number_lists}
+use Rattle.std.proofs.lemmas.{List.Edits.{length-between, get_or-between}, Option.{slice_get_within, get_or_from_slice_get}, Grind.{same_number_lists}}
+use Rattle.std.proofs.Common.{◌≡◌, ℕ, zero, suc, ◌+◌, ◌*◌, ◌-◌, ◌<◌, ◌≤◌, List, [], ◌∷◌, ◌++◌, length, take, get_or, refl, sym, ap, ◌∙◌, subst, arith}
+use Rattle.std.{proofs.Common.{length-append}, specs.{Int.{byte_at, bytes_high_first}, Prelude.{Some, replicate, slice_get}}}
 use Rattle.lz_disk.specs.Images.{AreBytes}
-use Rattle.lz_slot.specs.{Limits.{largest_key}, Rooms.{largest_of, number_of}, declared.format.Format.{Format, TheVariants.{One, Four}}}
+use Rattle.lz_slot.specs.{Limits.{largest_key}, Rooms.{largest_of, number_of}, declared.format.Format.{Format, TheVariants.{Four}}}
 use Rattle.lz_slot.specs.Bytes.{open_byte, magic, format_byte, format_of, header_body, member_bytes, slot_body, slot_bytes, slot_read, slot_at}
 use Rattle.lz_slot.{specs.Whole.{spelled}, proofs.Files.ExactBytes.{key_of_format, slot_reads_back}}
 use Rattle.lz_vault.specs.{declared.vault.Stage.{Stage, TheVariants.{Closed, Torn, Open}}, Stages.{Cell, IsSteady, AreSteady}, Opens.{IsCellOf, AreTornIn}}
@@ -23,9 +23,7 @@ abbrev pub text_of : Format → List Cell → List ℕ
 text_of F cells = (open_byte ∷ header_body F (length cells)) ++ body_text F cells
 
 slot_size : (F : Format) (stage : Stage) (k : ℕ) → length (slot_text F (record { stage = stage; key = k })) ≡ 16
-slot_size Four Open k = refl
-slot_size F Open k = refl
-slot_size F _ k = refl
+slot_size F stage k = grind (arith, nat_tests)
 
 body_size : (F : Format) (cells : List Cell) → length (body_text F cells) ≡ 16 * length cells
 body_size F [] = refl
@@ -67,8 +65,7 @@ slot_says F _ k fits steady torn = absurd steady
 
 -- the text names its format
 pub text_format : (F : Format) (cells : List Cell) → format_of (text_of F cells) ≡ F
-text_format One cells = refl
-text_format _ cells = refl
+text_format F cells = grind (arith, nat_tests)
 
 -- the text says of each slot what its cell does
 pub text_says : (F : Format) (cells : List Cell) → ((i : ℕ) (cell : Cell) → slice_get cells i ≡ Some cell → cell.key ≤ largest_of F) → AreSteady cells → AreTornIn F cells
@@ -88,8 +85,7 @@ zeros_small n i = grind (arith, get_or-replicate, get_or_past, length-replicate,
 
 -- each byte of a number is below 256
 byte_small : (k x : ℕ) → byte_at k x < 256
-byte_small zero x = omega arith
-byte_small (suc k) x = omega arith
+byte_small k x = grind (arith, nat_tests)
 
 -- so the bytes of a number are bytes
 pub high_small : (n x i : ℕ) → get_or (bytes_high_first n x) i 0 < 256
@@ -98,16 +94,13 @@ high_small (suc n) x zero = byte_small n x
 high_small (suc n) x (suc i) = high_small n x i
 
 letter_small : (F : Format) → format_byte F < 256
-letter_small One = omega arith
-letter_small _ = omega arith
+letter_small F = grind (arith, nat_tests)
 
 magic_small : (F : Format) → AreBytes (magic F)
-magic_small F (suc (suc (suc (suc (suc (suc zero)))))) = letter_small F
-magic_small F _ = omega arith
+magic_small F h = grind (arith, nat_tests, letter_small)
 
 first_small : (b : ℕ) (xs : List ℕ) → b < 256 → AreBytes xs → AreBytes (b ∷ xs)
-first_small b xs low all zero = low
-first_small b xs low all (suc i) = all i
+first_small b xs low all h = grind (arith, nat_tests)
 
 -- and those of a key's body, since its room is one
 key_small : (k : ℕ) → k ≤ largest_key → AreBytes (slot_body k)

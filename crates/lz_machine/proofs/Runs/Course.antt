@@ -1,5 +1,6 @@
 -- What becomes of an event, by whether the vault is dead and what the event needs.
-use Rattle.std.{proofs.Common.{◌≡◌, ◌≢◌, ◌⊎◌, ℕ, Bool, true, false, not, ◌&&◌, refl, sym, ap, ◌∙◌, arith}, specs.Prelude.{if◌then◌else◌}}
+use Rattle.std.proofs.{lemmas.Bool.Decides.{nat_tests}, Common.{◌≡◌, ◌≢◌, ◌⊎◌, ℕ, Bool, true, false, not, ◌&&◌, ap, ◌∙◌, arith}}
+use Rattle.std.specs.Prelude.{if◌then◌else◌}
 use mathlib.Core.Bool.{false≢true}
 use Rattle.lz_slot.specs.declared.command.Command.{Command}
 use Rattle.lz_machine.specs.declared.event.{Event.{Event, TheVariants.{Invoke, Pin, Sync, Answer}}, Outcome.{Outcome, TheVariants.{Dead, NotNow, Worn}}}
@@ -25,13 +26,7 @@ invoke_plays y a c = grind arith
 -- Each course of an event, with what is known where it is taken: what holds of each holds of the one that it takes.
 pub course_by : (A : Course → Type 0) (y : Yard) (a : ℕ) (e : Event) → (y.vault.dead ≡ true → is_played_dead e ≡ false → A (Refused Dead)) → (needs y a e ≡ false → A (Refused NotNow))
     → (needs y a e ≡ true → (is_played_dead e ≡ false → y.vault.dead ≡ false) → A (course_alive y a (pin_of y a) e)) → A (course y a e)
-course_by A y a e dead not_yet alive = go y.vault.dead (is_played_dead e) (needs y a e) refl refl refl
-  where
-    go : (d too may : Bool) → y.vault.dead ≡ d → is_played_dead e ≡ too → needs y a e ≡ may → A (if d && not too then Refused Dead else if may then course_alive y a (pin_of y a) e else Refused NotNow)
-    go true false may is stops has = dead is stops
-    go true true true is stops has = alive has (λ other. absurd (false≢true (sym other ∙ stops)))
-    go false too true is stops has = alive has (λ other. is)
-    go _ _ false is stops has = not_yet has
+course_by A y a e dead not_yet alive = grind (arith, nat_tests, false≢true)
 
 pub alive_by : (A : Course → Type 0) (y : Yard) (a : ℕ) (e : Event) → (e ≡ Pin → pin_of y a ≡ last_pin → A (Refused Worn)) → ((s : ℕ) → e ≡ Sync s → A Dies) → ((e ≡ Pin → pin_of y a ≢ last_pin) → A Plays) → A (course_alive y a (pin_of y a) e)
 alive_by A y a e worn dies plays = grind arith

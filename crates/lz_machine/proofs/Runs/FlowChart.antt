@@ -3,9 +3,8 @@ use Rattle.std.proofs.Common.{arith, ℕ, ◌+◌, ◌-◌, nat_lt, if◌then◌
 use Rattle.std.proofs.lemmas.Bool.Decides.{nat_tests, eqb_tells}
 use Rattle.lz_slot.specs.{declared.command.Command.{Command, TheVariants.{Add, Remove, Has}}, Sets.{key_of}}
 use Rattle.lz_allot.specs.declared.counts.Counts.{Counts}
-use Rattle.lz_list.specs.declared.{place.Place.{Place}, walk.{Look.{Look, TheVariants.{AtHead}}, Met.{Met, TheVariants.{Absent, Unmarked, Marked}}}}
-use Rattle.lz_list.specs.Walks.{Hopped, More, End, hopped}
-use Rattle.lz_flush.specs.{declared.need.Need.{Need, TheVariants.{Now, Sync as needs_sync}}, Settling.{may_answer}}
+use Rattle.lz_list.specs.{declared.{place.Place.{Place}, walk.{Look.{Look, TheVariants.{AtHead}}, Met.{Met}}}, Walks.{Hopped, hopped}}
+use Rattle.lz_flush.specs.declared.need.Need.{Need, TheVariants.{Now, Sync as needs_sync}}
 use Rattle.lz_machine.specs.declared.event.Outcome.{Outcome, TheVariants.{Value, Slot, NoSlot, Taken, True, False, Early, Worn, OldFile, Fault, Dead}}
 use Rattle.lz_machine.specs.declared.event.Reply.TheVariants.{Yes, No, Full, Worn as SaysWorn, OldFile as SaysOldFile, Halted, Device}
 use Rattle.lz_machine.specs.declared.caller.{Sequence.{Sequence, TheVariants.{Resting, Writing, Adding, Removing, Releasing, Halting}}, Progress.{Progress}}
@@ -60,23 +59,13 @@ module _ (shape : Shape) where
   met_edge k aim look value s needs_sync = rests_yes k aim look value s
 
   walked_edge : (c : Command) (aim : Option ℕ) (look : Look) (value : ℕ) (pred : Place) (curr : Option ℕ) (met : Met) → Edge shape c (Walking aim look) (Value value) (walked c aim pred curr met)
-  walked_edge (Has k) aim look value pred curr (Unmarked s flags) = met_edge k aim look value s (may_answer flags)
-  walked_edge (Has k) aim look value pred curr (Marked s flags) = rests_edge (Has k) aim look value s (may_answer flags)
-  walked_edge (Add k) aim look value pred curr (Unmarked s flags) = rests_edge (Add k) aim look value s (may_answer flags)
-  walked_edge (Add k) None look value pred curr _ = asks k look value
-  walked_edge (Add k) (Some slot) look value pred curr _ = claims_place k slot look value pred curr
-  walked_edge (Remove k) aim look value pred curr (Marked s flags) = rests_edge (Remove k) aim look value s (may_answer flags)
-  walked_edge (Remove k) aim look value pred curr (Unmarked s flags) = claims_node k aim look value pred curr
-  walked_edge c aim look value pred curr Absent = tells_no c aim look value
+  walked_edge c aim look value pred curr met = grind (arith, nat_tests, met_edge, rests_edge, asks, claims_place, claims_node, tells_no)
 
   hops_edge : (c : Command) (aim : Option ℕ) (look : Look) (value : ℕ) (x : Hopped) → Edge shape c (Walking aim look) (Value value) (hops_on c aim x)
-  hops_edge c aim look value (More next) = hops c aim look next value
-  hops_edge c aim look value (End pred curr met) = walked_edge c aim look value pred curr met
+  hops_edge c aim look value x = grind (arith, nat_tests, hops, walked_edge)
 
   changes_edge : (c : Command) (aim curr : Option ℕ) → Edge shape c (Checking aim curr) True (changes c aim curr)
-  changes_edge (Add k) (Some s) curr = adds k s curr
-  changes_edge (Remove k) aim (Some s) = removes k aim s
-  changes_edge c aim curr = releases c aim curr True
+  changes_edge c aim curr = grind (arith, nat_tests, adds, removes, releases)
 
   follows_edge : (c : Command) (at : Progress) (o : Outcome) → Edge shape c at o (follows shape c at o)
   follows_edge c (Playing q i) Early = back c q i

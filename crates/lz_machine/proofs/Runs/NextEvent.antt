@@ -1,18 +1,18 @@
 -- What becomes of a caller's next event, and how the service after it is sound where its yard, its callers and the disk are.
-use Rattle.std.proofs.Common.{◌≡◌, ◌≢◌, inl, inr, ℕ, ◌≤◌, length, not, ◌&&◌, true, false, List, [], ◌++◌, Option, Some, None, refl, sym, ap, ◌∙◌, subst}
-use Rattle.std.proofs.lemmas.Bool.{cases_Bool}
-use Rattle.lz_slot.specs.{declared.command.Command.{Command}, Sets.{Keys}, Counted.{set_of_pass}, Histories.{History}}
+use Rattle.std.proofs.Common.{arith, ◌≡◌, ◌≢◌, inl, inr, ℕ, ◌≤◌, length, not, ◌&&◌, true, false, List, [], ◌++◌, Option, Some, None, refl, sym, ap, ◌∙◌, subst}
+use Rattle.std.proofs.lemmas.Bool.{cases_Bool, Decides.{nat_tests}}
+use Rattle.lz_slot.specs.{declared.command.Command.{Command}, Sets.{Keys}, Histories.{History}}
 use Rattle.lz_disk.specs.Images.{Medium}
 use Rattle.lz_vault.specs.Vaults.{died, medium_after}
 use Rattle.lz_list.specs.Traces.{Trace}
-use Rattle.lz_machine.specs.declared.event.{Event.{Event, TheVariants.{Sync}}, Outcome.{Outcome, TheVariants.{NotNow, Dead}}, Reply.{Reply}}
-use Rattle.lz_machine.specs.declared.{caller.Progress.{Progress}, course.Course.{Course, TheVariants.{Refused, Dies, Plays}}}
-use Rattle.lz_machine.specs.{Yards.{Yard, actor_at, IsInside, pin_in}, Table.{is_played_dead, is_sure, is_spent, call_of, words_after, publishes, outcome_of}}
-use Rattle.lz_machine.specs.{Table.{with_vault, yard_done, course_alive, course, line_on, line, call_on, published_on, pin_of}, Calls.{progress_after}}
-use Rattle.lz_machine.specs.{Runs.{Caller, caller_at, reply_at, moved_on, played}, Notes.{Notes, entries}, CallersSound.{is_before_pin}}
-use Rattle.lz_machine.{specs.Sound.{Sound, IsAfter, UpSound}, proofs.Frames.{OneActor.{moving, same_entries}, PinNotes.{IsNoted, noted_same}}}
-use Rattle.lz_machine.proofs.Frames.{ChangeNotes.{IsTold, is_change, told_same, told_quiet}, PinOrder.{turn_after, adds_none, begun_grown}}
-use Rattle.lz_machine.proofs.{Steps.{Hop.{call_at, dead_keeps}, Death.{dies_keeps}}, Runs.Course.{course_by}}
+use Rattle.lz_machine.specs.declared.{event.{Event.{Event, TheVariants.{Sync}}, Outcome.{Outcome, TheVariants.{NotNow, Dead}}}, caller.Progress.{Progress}}
+use Rattle.lz_machine.specs.{declared.course.Course.{Course, TheVariants.{Refused, Dies, Plays}}, Yards.{Yard, actor_at, IsInside, pin_in}}
+use Rattle.lz_machine.specs.Table.{is_played_dead, is_sure, is_spent, call_of, words_after, publishes, outcome_of, with_vault, yard_done, course_alive, course}
+use Rattle.lz_machine.specs.{Table.{line_on, line, call_on, published_on, pin_of}, Calls.{progress_after}, Runs.{Caller, caller_at, reply_at, played}}
+use Rattle.lz_machine.specs.{Notes.{Notes, entries}, CallersSound.{is_before_pin}, Sound.{Sound, IsAfter, UpSound}}
+use Rattle.lz_machine.proofs.Frames.{OneActor.{moving, same_entries}, PinNotes.{IsNoted, noted_same}, ChangeNotes.{IsTold, is_change, told_same, told_quiet}}
+use Rattle.lz_machine.proofs.{Frames.PinOrder.{turn_after, adds_none, begun_grown}, Steps.{Hop.{call_at, dead_keeps}, Death.{dies_keeps}}}
+use Rattle.lz_machine.proofs.Runs.Course.{course_by}
 use mathlib.Core.Bool.{false≢true}
 
 -- the service after an event that took this course is sound, with some notes, by which a pass that went in has the trace of then,
@@ -36,9 +36,7 @@ module _ (n calls : ℕ) (y : Yard) (callers : List (Option Caller)) (disk : Med
       → IsAfter y'.words.pins (moving callers a (call_at i c at) (progress_after y'.shape c at outcome)) (entries y'.shape.passes (moving callers a (call_at i c at) (progress_after y'.shape c at outcome)) notes') M notes'.begun
       → ((b : ℕ) → IsInside (pin_in y'.words.pins b) → n ≤ length (notes'.begun b))
       → UpSound n calls (played (record { yard = y; callers = callers }) a (call_at i c at) (y', outcome)) disk' (record { start = start; history = M }) (Q ++ P) notes'
-  turned notes' y' outcome disk' Q sound after since =
-      subst (λ (q : Option Reply). UpSound n calls (record { yard = y'; callers = set_of_pass callers a (moved_on q (call_at i c at) (progress_after y'.shape c at outcome)) }) disk' (record { start = start; history = M }) (Q ++ P) notes') (sym goes_on)
-      (record { began = begun_grown n start Q P up.sound.ledger.opened up.began; sound = sound; since = since; after = after })
+  turned notes' y' outcome disk' Q sound after since = grind (arith, nat_tests, call_at, begun_grown)
 
   -- where the pins and the notes are as before
   pub turned_same : (y' : Yard) (outcome : Outcome) (disk' : Medium) (Q : Trace) → y'.words.pins ≡ y.words.pins → y'.shape.passes ≡ y.shape.passes

@@ -92,8 +92,7 @@ module _ (a : ℕ) where
           }
 
       left_inside : (t : List ℕ) (q : Option Caller) → LeftInside (serving y one) disk b q t → LeftInside (serving y other) disk b q t
-      left_inside t None h = h
-      left_inside t (Some caller) h = h
+      left_inside t _ h = h
 
     module _ (n : ℕ) (P : Trace) where
       follows_apart : (step : Transition) → is_of a step ≡ false → MayStep (Up (serving y one) disk) step → Follows n (apart y disk one other count rest) P step

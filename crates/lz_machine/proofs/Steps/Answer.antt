@@ -8,9 +8,8 @@ use Rattle.lz_disk.specs.Images.{Medium}
 use Rattle.lz_vault.specs.Vaults.{medium_after}
 use Rattle.lz_allot.specs.Uses.{Use, see_pin, give_back, is_outside}
 use Rattle.lz_list.specs.{Words.{Words}, Traces.{Trace, halt_word}}
-use Rattle.lz_machine.specs.declared.event.{Event.TheVariants.{Answer}, Outcome.TheVariants.{Done, NotNow}, Reply.{Reply}}
-use Rattle.lz_machine.specs.declared.{event.Reply.TheVariants.{Worn as SaysWorn, OldFile as SaysOldFile}, actor.{Actor.{Actor}, Hold.TheVariants.{Nothing}}}
-use Rattle.lz_machine.specs.declared.{course.Course.{Course}, caller.Progress.TheVariants.{Answering}}
+use Rattle.lz_machine.specs.declared.{event.{Event.TheVariants.{Answer}, Outcome.TheVariants.{Done, NotNow}, Reply.{Reply}}, actor.Actor.{Actor}}
+use Rattle.lz_machine.specs.declared.{actor.Hold.TheVariants.{Nothing}, course.Course.{Course}, caller.Progress.TheVariants.{Answering}}
 use Rattle.lz_machine.specs.Yards.{Yard, actor_at, idle_actor, IsInside, actor_in, pin_in, stage_in}
 use Rattle.lz_machine.specs.Table.{last_pin, stays_out, pin_of, needs, course, line, line_on, call_on, yard_done, with_slot, kept_slot, given_back, is_unused}
 use Rattle.lz_machine.specs.{Runs.{Caller, caller_at, mark_of, played}, LocksSound.{HasLock, RestsOn, LocksSound}, Notes.{Notes, entries}}
@@ -160,9 +159,7 @@ module _ (n calls : ℕ) (y : Yard) (callers : List (Option Caller)) (disk : Med
 
 -- what the call relies on, inside
 rests_of : (c : Command) (says : Reply) (a : ℕ) (y : Yard) (P0 P : Trace) (changed : Option ℕ) → is_before_pin (Answering says) ≡ false → Relies (view_of y.shape y.vault y.actors a) c (Answering says) P0 P changed → MayAnswer c says P0 P changed × (((actor_in y.actors a).hold ≡ Nothing) ⊎ (halt_word P ≡ 1))
-rests_of c SaysWorn a y P0 P changed inside h = absurd (false≢true (sym inside))
-rests_of c SaysOldFile a y P0 P changed inside h = absurd (false≢true (sym inside))
-rests_of c _ a y _ _ changed inside h = h
+rests_of c says a y P0 P changed inside h = grind (arith, nat_tests, false≢true)
 
 -- and outside, where it was refused
 out_rests : (c : Command) (says : Reply) (a : ℕ) (y : Yard) (P0 P : Trace) (changed : Option ℕ) → is_before_pin (Answering says) ≡ true → Relies (view_of y.shape y.vault y.actors a) c (Answering says) P0 P changed → IsEmptyHanded (actor_in y.actors a) P × MayAnswer c says P0 P changed
@@ -170,12 +167,10 @@ out_rests c says a y P0 P changed outside h = grind arith
 
 -- a call's side tells whether it was refused outside
 out_of : (b : Bool) → side_of b ≡ 0 → b ≡ true
-out_of true side = refl
-out_of false side = absurd (omega (arith, side))
+out_of b side = grind (arith, nat_tests)
 
 in_of : (b : Bool) → side_of b ≡ 1 → b ≡ false
-in_of true side = absurd (omega (arith, side))
-in_of false side = refl
+in_of b side = grind (arith, nat_tests)
 
 module _ (n calls : ℕ) (y : Yard) (callers : List (Option Caller)) (disk : Medium) (M : History) (P : Trace) (start : Keys) (notes : Notes) (a i : ℕ) (c : Command) (says : Reply) (is : caller_at callers a ≡ Some (call_at i c (Answering says)))
     (up : UpSound n calls (record { yard = y; callers = callers }) disk (record { start = start; history = M }) P notes) where

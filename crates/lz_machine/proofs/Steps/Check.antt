@@ -1,12 +1,12 @@
 -- Check keeps the invariant: its three tests tell of the trace.
-use Rattle.std.proofs.Common.{◌≡◌, inl, inr, ℕ, suc, ◌≤◌, ◌&&◌, not, Bool, true, false, List, Option, Some, None, refl, sym, ap, ◌∙◌, subst, arith}
+use Rattle.std.proofs.Common.{◌≡◌, ℕ, suc, ◌≤◌, ◌&&◌, not, Bool, true, false, List, Option, Some, None, refl, sym, ap, ◌∙◌, subst, arith}
 use Rattle.std.proofs.lemmas.{Bool.Decides.{nat_tests}, Option.{same_Some}}
 use mathlib.Core.Bool.{false≢true}
 use Rattle.lz_slot.specs.{Limits.{most_slots}, declared.command.Command.{Command, TheVariants.{Add, Remove}}, Sets.{key_of}, Counted.{set_of_pass}}
 use Rattle.lz_slot.specs.Histories.{History}
 use Rattle.lz_disk.specs.Images.{Medium}
-use Rattle.lz_list.specs.{declared.place.Place.{Place, TheVariants.{Bucket, Node}}, Words.{Words, place_number, link_to, next_at, is_marked_at}}
-use Rattle.lz_list.specs.{Traces.{Trace, on, chain, bucket_of, key_word, is_marked}, Pinned.{Stood, IsQuiet}, Laws.{IsHigh}, Locks.{check, is_marked_node}}
+use Rattle.lz_list.specs.{declared.place.Place.{Place}, Words.{Words, place_number, link_to, next_at, is_marked_at}}
+use Rattle.lz_list.specs.{Traces.{Trace, bucket_of, key_word, is_marked}, Pinned.{Stood, IsQuiet}, Laws.{IsHigh}, Locks.{check, is_marked_node}}
 use Rattle.lz_list.proofs.{Chains.PlaceRank.{on_start}, Traces.{Hindsight.{stood_bucket}, WalkEnd.{left_surely}}}
 use Rattle.lz_machine.specs.declared.{event.Event.TheVariants.{Check}, actor.{Actor.{Actor}, Hold.{Hold, TheVariants.{Locks, Checked}}}}
 use Rattle.lz_machine.specs.declared.caller.{Sequence.TheVariants.{Releasing}, Progress.{Progress, TheVariants.{Playing, Checking}}}
@@ -24,8 +24,7 @@ pub faces_bucket : (buckets k j x n : ℕ) (P : Trace) → bucket_of buckets j �
 faces_bucket buckets k j x n P same h = grind arith
 
 pub in_bucket : (buckets k j : ℕ) (pred : Place) → bucket_of buckets j ≡ bucket_of buckets k → InBucket buckets k pred → InBucket buckets j pred
-in_bucket buckets k j (Bucket b) same h = h ∙ sym same
-in_bucket buckets k j (Node s) same h = tt
+in_bucket buckets k j pred same h = grind (arith, nat_tests)
 
 module _ (shape : Shape) (words : Words) (P : Trace) (trace : TraceSound shape words P) (few : shape.slots ≤ most_slots) (P0 : Trace) (quiet : IsQuiet shape.buckets P0 P) (k : ℕ) where
   abbrev buckets : ℕ
@@ -33,22 +32,10 @@ module _ (shape : Shape) (words : Words) (P : Trace) (trace : TraceSound shape w
 
   -- a place that stood and isn't marked is still there, and its next link is the chain's
   faces_now : (pred : Place) (n : ℕ) → InBucket buckets k pred → Stood buckets (bucket_of buckets k) P0 P (place_number pred) → is_marked_at words pred ≡ false → next_at words pred ≡ n → Faces buckets k (place_number pred) n P
-  faces_now (Bucket b) n bucket stood unmarked next = grind (arith, on_start, head_next, bucket_range)
-  faces_now (Node s) n bucket stood unmarked next =
-      let lt = stood_range buckets shape.slots P0 P (bucket_of buckets k) s trace.lawful stood in
-      let same : bucket_of buckets (key_word s P) ≡ bucket_of buckets k = stood_bucket buckets shape.slots P0 (bucket_of buckets k) s P trace.lawful quiet stood in
-      let clear : is_marked s P ≡ false = sym (link_mark shape words P trace few s lt) ∙ unmarked in
-      record {
-        there = elim (left_surely buckets shape.slots P0 (key_word s P) s P trace.lawful quiet (subst (λ (b : ℕ). Stood buckets b P0 P (suc s)) (sym same) stood) refl) [
-          | inl there ↦ subst (λ (b : ℕ). on 0 (chain buckets b P) (suc s) ≡ true) same there
-          | inr gone ↦ absurd (false≢true (sym clear ∙ gone.1))
-        ];
-        next = sym (link_next shape words P trace few s lt) ∙ next;
-      }
+  faces_now pred n bucket stood unmarked next = grind (arith, nat_tests, on_start, head_next, bucket_range, stood_range, stood_bucket, quiet, link_mark, left_surely, false≢true, link_next)
 
   curr_clear : (curr : Option ℕ) (t : ℕ) → curr ≡ Some t → Stood buckets (bucket_of buckets k) P0 P (suc t) → is_marked_node words curr ≡ false → is_marked t P ≡ false
-  curr_clear None t is stood clear = absurd cc
-  curr_clear (Some q) t is stood clear = grind (arith, same_Some, link_mark, stood_range)
+  curr_clear curr t is stood clear = grind (arith, nat_tests, same_Some, link_mark, stood_range)
 
   module _ (pred : Place) (curr : Option ℕ) (between : WasBetween buckets k pred (link_to curr) P0 P) (clear : is_marked_at words pred ≡ false) (clear_node : is_marked_node words curr ≡ false) (next : next_at words pred ≡ link_to curr) where
     faces : Faces buckets k (place_number pred) (link_to curr) P
@@ -56,8 +43,7 @@ module _ (shape : Shape) (words : Words) (P : Trace) (trace : TraceSound shape w
 
     -- an adder's pair is round its key's place
     pub beside_now : IsBeyond k P curr → IsBeside buckets k pred curr P
-    beside_now (inl high) = record { bucket = between.bucket; round = record { faces = faces; low = between.low; high = high } }
-    beside_now (inr (t, is, key, mark)) = absurd (false≢true (sym (curr_clear curr t is (node_was buckets shape.slots k P0 P pred curr t is between) clear_node) ∙ mark))
+    beside_now h = grind (arith, nat_tests, faces, false≢true, curr_clear, node_was)
 
     -- a node after the place is a node of its bucket, and not marked
     pub before_now : (t : ℕ) → curr ≡ Some t → k ≤ key_word t P → IsRightBefore buckets pred t P × (is_marked t P ≡ false)
@@ -134,18 +120,7 @@ module _ (n calls : ℕ) (y : Yard) (callers : List (Option Caller)) (disk : Med
         above t node high = grind arith
 
     true_removes : (k : ℕ) → notes.changed a ≡ None → actor.slot ≡ None → HasEnded (Remove k) None y.shape.buckets (notes.begun a) P actor.pred actor.curr → then (Remove k) None actor.curr
-    true_removes k none slot h =
-        let s = h.1.0 in
-        let checked : IsChecked y.shape.buckets (with_hold actor Checked) P = record {
-          beside = λ t hand. absurd (no_slot (sym slot ∙ hand));
-          before = λ t node. before_now y.shape y.words P sound.trace (few_slots sound.images) (notes.begun a) quiet k actor.pred actor.curr h.0 clear clear_node leads t node (omega (arith, h.1.2, ap (λ (q : ℕ). key_word q P) (same_Some _ _ (sym h.1.1 ∙ node))));
-        } in (
-          subst (λ (q : Option ℕ). GoesOn (v Checked) (Remove k) (changes (Remove k) None q) (notes.begun a) P (notes.changed a)) (sym h.1.1) (record { relies = (h.1.1, slot, (refl, h.1.2, none)); inside = refl }),
-          checked,
-        )
-      where
-        no_slot : {r : ℕ} → None ≡ Some r → ⊥
-        no_slot e = absurd cc
+    true_removes k none slot h = grind (arith, nat_tests, before_now, few_slots, quiet, same_Some)
 
     true_then : (d : Command) (to : Option ℕ) → notes.changed a ≡ None → IsAimed (v Locks) (key_of d) P to → HasEnded d to y.shape.buckets (notes.begun a) P actor.pred actor.curr → then d to actor.curr
     true_then (Add k) (Some s) none aimed h = true_adds k s none aimed h

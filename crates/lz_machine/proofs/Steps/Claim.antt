@@ -1,12 +1,10 @@
 -- A claim keeps the invariant.
-use Rattle.std.proofs.Common.{◌≡◌, ℕ, suc, Bool, true, false, List, Option, Some, None, refl, sym, ap, ◌∙◌, subst, arith}
-use Rattle.lz_slot.specs.{declared.{format.Format.{Format}, command.Command.{Command, TheVariants.{Add, Remove}}}, Sets.{key_of}, Counted.{set_of_pass}}
-use Rattle.lz_slot.specs.Histories.{History}
+use Rattle.std.proofs.{lemmas.Bool.Decides.{nat_tests}, Common.{◌≡◌, ℕ, suc, Bool, true, false, List, Option, Some, refl, sym, ap, subst, arith}}
+use Rattle.lz_slot.specs.{declared.{format.Format.{Format}, command.Command.{Command}}, Sets.{key_of}, Counted.{set_of_pass}, Histories.{History}}
 use Rattle.lz_disk.specs.Images.{Medium}
 use Rattle.lz_vault.specs.Stages.{Cell}
-use Rattle.lz_list.specs.{declared.place.Place.{Place, TheVariants.{Bucket, Node}}, Words.{place_number, link_to}}
-use Rattle.lz_list.specs.{Traces.{Trace, Adjacent, on, chain_of, bucket_of}, Pinned.{Stood}, Locks.{is_pair_free, pair_owned}}
-use Rattle.lz_list.proofs.{Chains.PlaceRank.{adjacent_on}, Traces.Hindsight.{once_weaker, next_stood}}
+use Rattle.lz_list.specs.{declared.place.Place.{Place}, Words.{place_number, link_to}, Traces.{Trace, Adjacent, on, chain_of, bucket_of}, Pinned.{Stood}}
+use Rattle.lz_list.{specs.Locks.{is_pair_free, pair_owned}, proofs.{Chains.PlaceRank.{adjacent_on}, Traces.Hindsight.{once_weaker, next_stood}}}
 use Rattle.lz_machine.specs.declared.{event.Event.TheVariants.{Claim}, actor.{Actor.{Actor}, Hold.TheVariants.{Locks}}, caller.Progress.{Progress}}
 use Rattle.lz_machine.specs.{declared.caller.Progress.TheVariants.{Claiming, Checking}, Yards.{Yard, actor_at}, Table.{yard_done, outcome_of}}
 use Rattle.lz_machine.specs.{Calls.{progress_after}, Runs.{Caller, caller_at}, Stands.{WasBetween, InBucket}, Notes.{Notes}}
@@ -17,9 +15,7 @@ use mathlib.Core.Bool.{false≢true}
 
 -- where a walk has ended, the two places stood next to each other
 pub ended_between : (c : Command) (aim : Option ℕ) (buckets : ℕ) (P0 P : Trace) (pred : Place) (curr : Option ℕ) → HasEnded c aim buckets P0 P pred curr → WasBetween buckets (key_of c) pred (link_to curr) P0 P
-ended_between (Add k) (Some s) buckets P0 P pred curr h = h.0
-ended_between (Remove k) None buckets P0 P pred curr h = h.0
-ended_between _ _ buckets _ _ pred curr h = absurd h
+ended_between c aim buckets P0 P pred curr h = grind (arith, nat_tests)
 
 -- so both stood
 pub pred_was : (buckets k : ℕ) (P0 P : Trace) (pred : Place) (n : ℕ) → WasBetween buckets k pred n P0 P → Stood buckets (bucket_of buckets k) P0 P (place_number pred)
@@ -30,8 +26,7 @@ node_was buckets slots k P0 P pred curr s is h = next_stood buckets slots P0 (bu
 
 pub aimed_same : (buckets passes : ℕ) (format : Format) (cells : List Cell) (dead : Bool) (old new : Actor) (k : ℕ) (P : Trace) (aim : Option ℕ) → new.slot ≡ old.slot
     → IsAimed (record { buckets = buckets; passes = passes; format = format; cells = cells; dead = dead; actor = old }) k P aim → IsAimed (record { buckets = buckets; passes = passes; format = format; cells = cells; dead = dead; actor = new }) k P aim
-aimed_same buckets passes format cells dead old new k P None same h = same ∙ h
-aimed_same buckets passes format cells dead old new k P (Some s) same h = record { slot = same ∙ h.slot; stage = h.stage; key = h.key; word = h.word }
+aimed_same buckets passes format cells dead old new k P aim same h = grind (arith, nat_tests)
 
 module _ (n calls : ℕ) (y : Yard) (callers : List (Option Caller)) (disk : Medium) (M : History) (P : Trace) (notes : Notes) (a i : ℕ) (c : Command) (sound : Sound n calls y callers disk M P notes) (aim : Option ℕ) (pred : Place) (curr : Option ℕ) (is : caller_at callers a ≡ Some (call_at i c (Claiming aim pred curr))) where
   abbrev at : Progress
@@ -41,11 +36,7 @@ module _ (n calls : ℕ) (y : Yard) (callers : List (Option Caller)) (disk : Med
   x = record (actor_at y a) { hold = Locks; pred = pred; curr = curr }
 
   pred_in : InBucket y.shape.buckets (key_of c) pred → Stood y.shape.buckets (bucket_of y.shape.buckets (key_of c)) (notes.begun a) P (place_number pred) → IsPlaceIn y.locks pred
-  pred_in = go pred
-    where
-      go : (q : Place) → InBucket y.shape.buckets (key_of c) q → Stood y.shape.buckets (bucket_of y.shape.buckets (key_of c)) (notes.begun a) P (place_number q) → IsPlaceIn y.locks q
-      go (Bucket b) bucket stood = omega (arith, bucket, bucket_range y.shape y.words P sound.trace (few_slots sound.images) (key_of c), sound.locks.heads)
-      go (Node s) bucket stood = omega (arith, sound.locks.nodes, stood_range y.shape.buckets y.shape.slots (notes.begun a) P (bucket_of y.shape.buckets (key_of c)) s sound.trace.lawful stood)
+  pred_in = grind (arith, nat_tests, bucket_range, few_slots, stood_range)
 
   -- both locks were free
   taken_keeps : is_pair_free y.locks pred curr ≡ true → Sound n calls (in_hands y (pair_owned y.locks pred curr a) a x) (moving callers a (call_at i c at) (Checking aim curr)) disk M P notes

@@ -1,6 +1,6 @@
 -- A turn whose device call fails keeps the invariant of an open service.
-use Rattle.std.proofs.Common.{◌≡◌, inl, inr, ℕ, zero, suc, if◌then◌else◌, Bool, true, false, List, [], Option, Some, None, refl, sym, ap, subst}
-use Rattle.std.{proofs.lemmas.Bool.{cases_Bool}, specs.Prelude.{unwrap_or, slice_set}}
+use Rattle.std.proofs.Common.{arith, ◌≡◌, inl, inr, ℕ, zero, suc, if◌then◌else◌, Bool, true, false, List, [], Option, Some, None, refl, sym, ap, subst}
+use Rattle.std.{proofs.lemmas.Bool.{cases_Bool, Decides.{nat_tests}}, specs.Prelude.{unwrap_or, slice_set}}
 use Rattle.lz_slot.specs.{declared.command.Command.{Command, TheVariants.{Add, Remove, Has}}, Sets.{Keys, key_of}, Histories.{History}}
 use Rattle.lz_disk.specs.Images.{Medium}
 use Rattle.lz_vault.specs.{declared.vault.Stage.TheVariants.{Opening, Closing}, Stages.{Cell, stage_put}}
@@ -22,8 +22,7 @@ played_call : (y : Yard) (a : ℕ) (e : Event) (disk new : Medium) → MayFail (
 played_call y a e disk new may = go (course y a e) refl may
   where
     go : (taken : Course) → course y a e ≡ taken → MayFail (call_on taken y (actor_at y a) e) disk new → (course y a e ≡ Plays) × MayFail (call_of y (actor_at y a) e) disk new
-    go Plays same h = (same, h)
-    go _ same h = absurd h
+    go taken same h = grind (arith, nat_tests)
 
 -- an event without a device call can't fail
 no_fault : (y : Yard) (a : ℕ) (e : Event) (disk new : Medium) → call_of y (actor_at y a) e ≡ NoCall → MayFail (line_call y a e) disk new → ⊥

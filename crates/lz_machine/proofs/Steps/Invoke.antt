@@ -31,8 +31,7 @@ calling callers a i c first = set_of_pass callers a (Some (started i c first))
 
 -- a caller that has changed nothing has no pending row
 pub pending_none : (caller : Option Caller) → pending_row caller None ≡ []
-pending_none None = refl
-pending_none (Some caller) = refl
+pending_none caller = grind (arith, nat_tests)
 
 -- no row of the list has this number
 none_above : (i calls : ℕ) (L : List Row) → ((r : Row) → HasRow r L → r.number ≤ calls) → i ≡ suc calls → times i L ≡ 0
@@ -203,12 +202,7 @@ module _ (n calls a : ℕ) (c : Command) (y : Yard) (callers : List (Option Call
 
   pub calling_up : (start : Keys) → UpSound n calls (record { yard = y; callers = callers }) disk (record { start = start; history = M }) P notes
       → UpSound n (suc calls) (record { yard = y; callers = calling callers a (suc calls) c first }) disk (record { start = start; history = Call (suc calls) a c ∷ M }) P notes
-  calling_up start h = record {
-    began = h.began;
-    sound = calling_sound h.sound;
-    since = h.since;
-    after = calling_after h.sound.callers h.sound.ledger h.after;
-  }
+  calling_up start h = grind (arith, nat_tests, calling_sound, calling_after)
 
 -- a call that may begin keeps the invariant of an open service
 module _ (n calls : ℕ) (service : Service) (disk : Medium) (life : Life) (P : Trace) (notes : Notes) (a : ℕ) (c : Command) (may : MayStep (Up service disk) (Calls a c)) (up : UpSound n calls service disk life P notes) where

@@ -13,7 +13,7 @@ use Rattle.lz_list.{specs.Locks.{claimed_places}, proofs.{Traces.{NodeBits.{on_i
 use Rattle.lz_machine.specs.declared.{event.Event.TheVariants.{Link}, actor.{Actor.{Actor}, Hold.{Hold, TheVariants.{Linked}}}}
 use Rattle.lz_machine.specs.declared.caller.{Sequence.TheVariants.{Adding}, Progress.{Progress, TheVariants.{Playing}}}
 use Rattle.lz_machine.specs.{Yards.{Yard, actor_at, actor_in, pin_in, cell_in, stage_in}, Table.{slot_of, yard_done, publishes}, Runs.{Caller, caller_at}}
-use Rattle.lz_machine.specs.{Kept.{upto}, Stands.{IsLinkable, InBucket}, Notes.{Notes, entries}}
+use Rattle.lz_machine.specs.{Stands.{IsLinkable, InBucket}, Notes.{Notes, entries}}
 use Rattle.lz_machine.specs.SlotsSound.{closes, unlocks, has_removed_node, IsHandStage, IsGateOpened, IsGateWritten, SlotStands, is_node, SlotsSound}
 use Rattle.lz_machine.specs.LocksSound.{has_locks, HasPlace, HasLock, IsBeside, HasOpened, RestsOn, LocksSound}
 use Rattle.lz_machine.specs.{CallersSound.{Relies, HasAdded, view_of, CallerSound, CallersSound}, LedgerSound.{TailsSound}, Sound.{ReuseSound, Sound}}
@@ -180,19 +180,7 @@ module _ (n calls : ℕ) (y : Yard) (callers : List (Option Caller)) (disk : Med
   me = own n calls y callers disk M P notes a i (Add k) at is sound
 
   my_node : HasAdded y.shape.buckets k s (notes.begun a) P' (Some (length P))
-  my_node =
-      let all : upto (suc (length P)) P' ≡ P' = upto_all (suc (length P)) P' (omega arith) in
-      let same_key : (k == k) ≡ true = grind (arith, nat_tests) in
-      let same_slot : (s == s) ≡ true = grind (arith, nat_tests) in
-      record {
-        at = length P;
-        is = refl;
-        within = omega arith;
-        in_slot = rw same_slot refl;
-        is_member = ap (member k) all ∙ rw same_key refl;
-        named = ap (linking k) all ∙ new_linking;
-        stood = inl (inr (me.begins me.stands.0), there);
-      }
+  my_node = grind (arith, nat_tests, upto_all, new_linking, me, there)
 
   linked_callers : CallersSound y.shape y.vault y.words.pins actors' callers' P' notes'
   linked_callers =

@@ -1,12 +1,12 @@
 -- Mark keeps the invariant: the node whose gate its remover has closed is no member any more.
-use Rattle.std.proofs.Common.{◌≡◌, ◌≢◌, inl, inr, ℕ, zero, suc, ◌<◌, ◌≤◌, ◌==◌, not, true, false, List, ◌∷◌, ◌++◌, length, Option, Some, refl, sym, ap, ◌∙◌}
-use Rattle.std.{proofs.{Common.{subst, arith}, lemmas.{Bool.{cases_eq, Decides.{nat_tests}}, Option.{same_Some}}}, specs.Prelude.{unwrap_or}}
+use Rattle.std.proofs.Common.{◌≡◌, ◌≢◌, inl, inr, ℕ, suc, ◌<◌, ◌≤◌, ◌==◌, not, true, false, List, ◌∷◌, ◌++◌, length, Option, Some, refl, sym, ap, ◌∙◌, subst}
+use Rattle.std.{proofs.{Common.{arith}, lemmas.{Bool.{cases_eq, Decides.{nat_tests}}, Option.{same_Some}}}, specs.Prelude.{unwrap_or}}
 use mathlib.Core.Bool.{false≢true}
 use Rattle.lz_slot.{specs.{declared.command.Command.TheVariants.{Add, Remove}, Counted.{set_of_pass}, Histories.{History}}, proofs.Counted.{length-set_of_pass}}
 use Rattle.lz_disk.specs.Images.{Medium}
 use Rattle.lz_list.specs.declared.{place.Place.{Place, TheVariants.{Node}}, publishing.Publishing.TheVariants.{Marked as marked}}
 use Rattle.lz_list.specs.{declared.word.Word.TheVariants.{Key as key_at}, Words.{get, change_flags, marked_flags, place_number}}
-use Rattle.lz_list.specs.{Traces.{Trace, Lawful, IsLoose, on, chain_of, bucket_of, key_word, IsNode, linking, is_marked, member, next_link}, Laws.{IsLow}}
+use Rattle.lz_list.specs.{Traces.{Trace, Lawful, IsLoose, on, chain_of, bucket_of, key_word, IsNode, is_marked, member, next_link}, Laws.{IsLow}}
 use Rattle.lz_list.{specs.Locks.{claimed_places}, proofs.{Chains.TraceChain.{words_show_chain}, Traces.NodeBits.{node, one_node}}}
 use Rattle.lz_machine.specs.declared.{event.Event.TheVariants.{Mark}, actor.{Actor.{Actor}, Hold.{Hold, TheVariants.{GateClosed, Marked}}}}
 use Rattle.lz_machine.specs.declared.caller.{Sequence.TheVariants.{Removing}, Progress.{Progress, TheVariants.{Playing}}}
@@ -14,10 +14,9 @@ use Rattle.lz_machine.specs.{Yards.{Yard, actor_at, actor_in, cell_in, stage_in}
 use Rattle.lz_machine.specs.{Notes.{Notes, entries}, CallersSound.{HasMarked, Relies, view_of, CallersSound}}
 use Rattle.lz_machine.specs.SlotsSound.{IsGateWritten, opens, shuts, IsCloser, IsOnChain, is_node, SlotsSound}
 use Rattle.lz_machine.specs.{LocksSound.{has_locks, HasPlace, HasLock, IsRightBefore, HasClosed, RestsOn, LocksSound}, LedgerSound.{TailsSound}}
-use Rattle.lz_machine.{specs.{Sound.{ReuseSound, Sound}, Kept.{upto}}, proofs.Frames.ActorTable.{field_stays}}
-use Rattle.lz_machine.proofs.Frames.{OneActor.{caller_range, moving, callers_moved, ledger_turn}, ChainSlots.{chain_stands, reuse_published}}
-use Rattle.lz_machine.proofs.Frames.{NodeLocks.{turned_locks}, OneSlot.{node_grips, slot_turn}, Ranges.{on_range, few_slots}, LoadedWord.{key_load}}
-use Rattle.lz_machine.proofs.Frames.{OtherCallers.{held_node, caller_stays}, Hand.{same_hand, other_hand}}
+use Rattle.lz_machine.{specs.Sound.{ReuseSound, Sound}, proofs.Frames.{ActorTable.{field_stays}, OneActor.{caller_range, moving, callers_moved, ledger_turn}}}
+use Rattle.lz_machine.proofs.Frames.{ChainSlots.{chain_stands, reuse_published}, NodeLocks.{turned_locks}, OneSlot.{node_grips, slot_turn}}
+use Rattle.lz_machine.proofs.Frames.{Ranges.{on_range, few_slots}, LoadedWord.{key_load}, OtherCallers.{held_node, caller_stays}, Hand.{same_hand, other_hand}}
 use Rattle.lz_machine.proofs.Frames.{HeldLocks.{rests_on_pair, pair_published, marked_leaves}, Store.{trace_marked}, SameYard.{tail_turn}}
 use Rattle.lz_machine.proofs.Steps.{Hop.{call_at, own}, Unlink.{resting_locks, node_place}}
 use Rattle.lz_machine.proofs.Ledger.{Change.{row_of, changes_at, changed_same, changed_other, ledger_changed, tail_changed}, Membership.{upto_all}}
@@ -146,12 +145,10 @@ module _ (n calls : ℕ) (y : Yard) (callers : List (Option Caller)) (disk : Med
   }
     where
       next_same : (z : ℕ) → next_link y.shape.buckets (bucket_of y.shape.buckets (key_word s P)) P z ≡ suc s → next_link y.shape.buckets (bucket_of y.shape.buckets (key_word s P)) P' z ≡ suc s
-      next_same zero e = e
-      next_same (suc t) e = e
+      next_same _ e = e
 
       low_same : (z : ℕ) → IsLow (key_word s P) z P → IsLow (key_word s P) z P'
-      low_same zero e = e
-      low_same (suc t) e = e
+      low_same _ e = e
 
   marked_locks : LocksSound y.shape y.locks actors' P'
   marked_locks = turned_locks y.shape y.locks y.actors actors' P a hand_b sound.locks P'
@@ -166,17 +163,7 @@ module _ (n calls : ℕ) (y : Yard) (callers : List (Option Caller)) (disk : Med
   callers' = moving callers a (call_at i (Remove k) at) (Playing (Removing s) 2)
 
   my_mark : HasMarked k s P' (Some (length P))
-  my_mark =
-      let all : upto (suc (length P)) P' ≡ P' = upto_all (suc (length P)) P' (omega arith) in
-      let same_key : (k == k) ≡ true = grind (arith, nat_tests) in
-      record {
-        at = length P;
-        is = refl;
-        within = omega arith;
-        key = h.2.1;
-        gone = ap (member k) all ∙ rw same_key refl;
-        named = ap (linking k) all ∙ sym is_mine.same;
-      }
+  my_mark = grind (arith, nat_tests, upto_all, h, is_mine)
 
   marked_callers : CallersSound y.shape y.vault y.words.pins actors' callers' P' notes'
   marked_callers =

@@ -1,14 +1,14 @@
 -- A pass that goes in keeps the invariant: a pin, and the first half of a look. So does one that only looked and goes out.
-use Rattle.std.proofs.Common.{◌≡◌, ◌≢◌, ℕ, suc, ◌≤◌, ◌+◌, ◌%◌, ◌==◌, if◌then◌else◌, Bool, true, List, [], ◌∷◌, length, Option, Some, None, refl, sym, ◌∙◌}
-use Rattle.std.proofs.Common.{subst, arith}
+use Rattle.std.proofs.{lemmas.Bool.Decides.{nat_tests}, Common.{◌≡◌, ◌≢◌, ℕ, suc, ◌≤◌, ◌+◌, ◌%◌, ◌==◌, if◌then◌else◌, Bool, true, List, [], ◌∷◌, length}}
+use Rattle.std.proofs.Common.{Option, Some, None, refl, sym, ◌∙◌, subst, arith}
 use Rattle.lz_slot.specs.{declared.command.Command.{Command}, Counted.{of_pass, set_of_pass}, Histories.{History}}
 use Rattle.lz_slot.proofs.Counted.{of_pass_same, of_pass_other, length-set_of_pass}
 use Rattle.lz_disk.specs.Images.{Medium}
 use Rattle.lz_vault.specs.Stages.{Cell}
 use Rattle.lz_allot.specs.{declared.sight.Sight.{Sight, TheVariants.{Left}}, Uses.{Use, Free, Limbo, use_of}}
-use Rattle.lz_list.specs.declared.publishing.Publishing.{Publishing, TheVariants.{KeyPrepared as key_prepared, LinkPrepared as link_prepared}}
-use Rattle.lz_list.specs.{declared.word.Word.TheVariants.{Pin as pin_at}, Words.{Words, get, set}, Traces.{Trace, IsLoose, on, chain}}
-use Rattle.lz_list.{specs.Pinned.{Stood, IsKept, IsQuiet}, proofs.Traces.{Absence.{begins_itself}, Hindsight.{once_begins}}}
+use Rattle.lz_list.specs.{declared.{publishing.Publishing.{Publishing}, word.Word.TheVariants.{Pin as pin_at}}, Words.{Words, get, set}}
+use Rattle.lz_list.{specs.{Traces.{Trace, IsLoose, on, chain}, Pinned.{Stood, IsKept, IsQuiet}}, proofs.Traces.Absence.{begins_itself}}
+use Rattle.lz_list.proofs.Traces.Hindsight.{once_begins}
 use Rattle.lz_machine.specs.declared.event.{Event.TheVariants.{Pin}, Outcome.TheVariants.{Done, Worn}, Reply.TheVariants.{Worn as SaysWorn}}
 use Rattle.lz_machine.specs.declared.{actor.Actor.{Actor}, caller.{Sequence.TheVariants.{Pinning}, Progress.TheVariants.{Playing, LoadsHalt, Answering}}}
 use Rattle.lz_machine.specs.{Yards.{Yard, Shape, actor_at, IsInside, actor_in, pin_in}, Table.{last_pin, yard_done}, Calls.{progress_after}}
@@ -28,9 +28,7 @@ quiet_new buckets P0 (e ∷ Q) le = (kept e, quiet_new buckets P0 Q (omega (arit
     none b t stood = omega (arith, le, shorter P0 Q (once_begins P0 Q (λ R. on 0 (chain buckets b R) (suc t) ≡ true) stood))
 
     kept : (f : Publishing) → IsKept buckets P0 f Q
-    kept (key_prepared s v) = λ b stood. none b s stood
-    kept (link_prepared s v) = λ b stood. none b s stood
-    kept _ = tt
+    kept f = grind (arith, nat_tests, none)
 
 -- notes in which a pass has gone in now
 abbrev pub begins_now : Notes → ℕ → Trace → Notes

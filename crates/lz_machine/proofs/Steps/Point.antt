@@ -1,12 +1,12 @@
 -- Each step of an open service keeps the invariant, with notes that go on from those before it.
+use Rattle.std.proofs.lemmas.Bool.{cases_eq, Decides.{nat_tests}}
 use Rattle.std.proofs.Common.{◌≡◌, ◌≢◌, inl, inr, ℕ, ◌≤◌, ◌%◌, List, [], ◌∷◌, ◌++◌, Option, Some, None, refl, sym, ◌∙◌, subst, arith, suc}
-use Rattle.std.proofs.lemmas.Bool.{cases_eq}
 use Rattle.lz_slot.specs.{declared.{command.Command.{Command}, history.Mark.{Mark, TheVariants.{Call}}}, Sets.{Keys}}
 use Rattle.lz_slot.specs.Histories.{History, Life, lives, with_mark}
 use Rattle.lz_disk.specs.Images.{Medium}
 use Rattle.lz_vault.specs.Vaults.{medium_after}
 use Rattle.lz_list.specs.Traces.{Trace}
-use Rattle.lz_machine.specs.declared.{event.{Event.TheVariants.{Answer}, Reply.{Reply, TheVariants.{Yes}}}, caller.Progress.{Progress, TheVariants.{Answering}}}
+use Rattle.lz_machine.specs.declared.{event.{Event.TheVariants.{Answer}, Reply.{Reply}}, caller.Progress.{Progress, TheVariants.{Answering}}}
 use Rattle.lz_machine.specs.{Yards.{Yard, actor_at, pin_in}, Table.{last_pin, course, line, line_call, line_publishes, line_failed}, Runs.{Start, Service}}
 use Rattle.lz_machine.specs.Runs.{Caller, Up, Turn, Fails, Looks, MayStep, HasTurn, HasFault, after_turn, after_fault, turn_publishes, marks_of_turn}
 use Rattle.lz_machine.specs.Runs.{mark_of_turn, mark_of, point_after, caller_at, next_event, reply_at, played, looked, start_keys, State, Down, Transition}
@@ -121,8 +121,7 @@ module _ (n calls : ℕ) (service : Service) (disk : Medium) (life : Life) (P : 
 
 -- the mark of a reply is put onto the newest life
 pub reply_lives : (S : Keys) (i : ℕ) (reply : Reply) (M : History) → lives S (mark_of i reply ∷ M) ≡ with_mark (mark_of i reply) (lives S M)
-reply_lives S i Yes M = refl
-reply_lives _ i _ _ = refl
+reply_lives S i reply M = grind (arith, nat_tests)
 
 -- the newest life with the marks of a step
 abbrev with_marks : List Mark → List Life → List Life
@@ -130,16 +129,13 @@ with_marks marks [] = []
 with_marks marks (life ∷ earlier) = marked life marks ∷ earlier
 
 none_marked : (L : List Life) → L ≡ with_marks [] L
-none_marked [] = refl
-none_marked (life ∷ earlier) = refl
+none_marked L = grind (arith, nat_tests)
 
 one_marked : (m : Mark) (L : List Life) → with_mark m L ≡ with_marks (m ∷ []) L
-one_marked m [] = refl
-one_marked m (life ∷ earlier) = refl
+one_marked m _ = refl
 
 turn_lives : (S : Keys) (i : ℕ) (reply : Option Reply) (M : History) → lives S (mark_of_turn i reply ++ M) ≡ with_marks (mark_of_turn i reply) (lives S M)
-turn_lives S i None M = none_marked (lives S M)
-turn_lives S i (Some reply) M = reply_lives S i reply M ∙ one_marked (mark_of i reply) (lives S M)
+turn_lives S i reply M = grind (arith, nat_tests, none_marked, reply_lives, one_marked)
 
 module _ (start : Start) (service : Service) (disk : Medium) (M : History) (P : Trace) (calls : ℕ) (sound : IsSound start (point (Up service disk) M P calls)) where
   -- the point after a step that leaves the service open

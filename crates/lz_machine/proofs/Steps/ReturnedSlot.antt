@@ -1,9 +1,9 @@
 -- A slot that an actor has reserved and not used is given back: what is said of slots, locks and reuse stays.
-use Rattle.std.proofs.Common.{◌≡◌, ◌≢◌, inl, inr, ℕ, ◌≤◌, Bool, true, List, length, Some, None, refl, sym, ap, ◌∙◌, subst, arith, get_or-set_other}
-use Rattle.std.proofs.{Common.{get_or-set_same, length-set}, lemmas.{Bool.{cases_eq}, Option.{same_Some, none-some}}}
+use Rattle.std.proofs.{lemmas.{Bool.{cases_eq, Decides.{nat_tests}}, Option.{same_Some, none-some}}, Common.{◌≡◌, ◌≢◌, inl, inr, ℕ, ◌≤◌, Bool, true, List}}
+use Rattle.std.proofs.Common.{length, Some, None, refl, sym, ap, ◌∙◌, subst, arith, get_or-set_other, get_or-set_same, length-set}
 use mathlib.Core.Bool.{false≢true}
 use Rattle.lz_slot.{specs.Counted.{set_of_pass}, proofs.Counted.{of_pass_same, of_pass_other}}
-use Rattle.lz_vault.specs.{declared.vault.Stage.{Stage, TheVariants.{Opening, Open, Closing}}, Stages.{Cell, IsFree}}
+use Rattle.lz_vault.specs.{declared.vault.Stage.{Stage}, Stages.{Cell, IsFree}}
 use Rattle.lz_allot.specs.Uses.{Use, Free, Taken, use_of, give_back}
 use Rattle.lz_list.specs.{Locks.{NodeLocks}, Traces.{Trace}}
 use Rattle.lz_machine.specs.{declared.actor.{Actor.{Actor}, Hold.{Hold}}, Yards.{Shape, idle_actor, actor_in, stage_in}, Table.{with_slot, is_unused}}
@@ -12,17 +12,11 @@ use Rattle.lz_machine.proofs.Frames.{NodeLocks.{held_locks}, Uses.{free_limbo}, 
 
 -- a stage that wasn't used has a closed gate
 pub unused_closed : (stage : Stage) → is_unused stage ≡ true → IsFree stage
-unused_closed Opening is = absurd (false≢true is)
-unused_closed Open is = absurd (false≢true is)
-unused_closed Closing is = absurd (false≢true is)
-unused_closed _ is = tt
+unused_closed stage is = grind (arith, nat_tests, false≢true)
 
 -- and one with a closed gate wasn't used
 pub closed_unused : (stage : Stage) → IsFree stage → is_unused stage ≡ true
-closed_unused Opening free = absurd free
-closed_unused Open free = absurd free
-closed_unused Closing free = absurd free
-closed_unused _ free = refl
+closed_unused stage free = grind (arith, nat_tests)
 
 module _ (shape : Shape) (cells : List Cell) (dead : Bool) (uses : List Use) (actors : List Actor) (P : Trace) (slots : SlotsSound shape cells dead uses actors P) (a s : ℕ) (low : 1 ≤ a) (high : a ≤ length actors) (has : (actor_in actors a).slot ≡ Some s) (unused : is_unused (stage_in cells s) ≡ true) where
   abbrev x : Actor

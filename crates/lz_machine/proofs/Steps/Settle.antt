@@ -21,12 +21,10 @@ use Rattle.lz_machine.proofs.{Ledger.Growth.{upto_more}, Steps.{Walk.{GoesOn, on
 
 -- the change that a durable stage of a node settles
 opened_sure : (stage : Stage) → IsGateOpened stage → is_covered stage ≡ true → stage ≡ Open
-opened_sure stage (inl e) sure = absurd (false≢true (ap is_covered (sym e) ∙ sure))
-opened_sure stage (inr e) sure = e
+opened_sure stage h sure = grind (arith, nat_tests, false≢true)
 
 written_sure : (stage : Stage) → IsGateWritten stage → is_covered stage ≡ true → stage ≡ Closed
-written_sure stage (inl e) sure = absurd (false≢true (ap is_covered (sym e) ∙ sure))
-written_sure stage (inr e) sure = e
+written_sure stage h sure = grind (arith, nat_tests, false≢true)
 
 -- the new flag tells of the slot's last linking
 flag_settled : (s n : ℕ) (c : Change) (P : Trace) → linking_in s P ≡ n → is_settled n (settled s c ∷ P) ≡ true
@@ -55,9 +53,7 @@ module _ (n calls : ℕ) (y : Yard) (callers : List (Option Caller)) (disk : Med
 
   -- which change it settles, for a slot on which the pass may stand
   change_of : is_sure y s ≡ true → (IsOnChain y.shape y.vault.cells y.uses P s × IsNodeStage y.vault.cells y.vault.dead y.actors P s) ⊎ (stage_in y.vault.cells s ≡ Closed) → (c : Change) × Allows c (stage_in y.vault.cells s)
-  change_of sure (inr closed) = (Removed, closed)
-  change_of sure (inl (chain, inl stage)) = (Added, opened_sure (stage_in y.vault.cells s) stage.1 sure)
-  change_of sure (inl (chain, inr stage)) = (Removed, written_sure (stage_in y.vault.cells s) stage.2 sure)
+  change_of sure h = grind (arith, nat_tests, opened_sure, written_sure)
 
   -- a marked one is settled as removed
   marked_change : is_sure y s ≡ true → is_marked s P ≡ true → (IsOnChain y.shape y.vault.cells y.uses P s × IsNodeStage y.vault.cells y.vault.dead y.actors P s) ⊎ (stage_in y.vault.cells s ≡ Closed) → stage_in y.vault.cells s ≡ Closed

@@ -1,12 +1,11 @@
 -- A sync, and the death of the vault, keep the invariant.
-use Rattle.std.proofs.Common.{◌≡◌, ◌≢◌, inl, inr, ℕ, suc, Bool, true, false, List, ◌∷◌, map, Option, Some, refl, sym, ap, ◌∙◌, subst, arith}
-use Rattle.std.proofs.lemmas.List.{length-map}
+use Rattle.std.proofs.lemmas.{Bool.Decides.{nat_tests}, List.{length-map}}
+use Rattle.std.proofs.Common.{◌≡◌, ◌≢◌, ℕ, suc, Bool, true, false, List, ◌∷◌, map, Option, Some, refl, sym, ap, ◌∙◌, subst, arith}
 use mathlib.Core.Bool.{false≢true}
 use Rattle.lz_slot.specs.{declared.command.Command.{Command, TheVariants.{Add, Remove}}, Histories.{History}}
 use Rattle.lz_disk.specs.Images.{Medium, synced}
-use Rattle.lz_vault.specs.declared.vault.Stage.{Stage, TheVariants.{Closed, Keyed, Opening, Open, Closing}}
-use Rattle.lz_vault.specs.{Stages.{Cell, Keeps, stage_synced, cell_synced, is_covered, IsFree}, Vaults.{SyncAll, medium_after, syncs_after, died}}
-use Rattle.lz_vault.proofs.Changes.{from_map, sync_keeps}
+use Rattle.lz_vault.specs.{declared.vault.Stage.{Stage, TheVariants.{Closed, Keyed, Opening}}, Stages.{Cell, Keeps, stage_synced, cell_synced, IsFree}}
+use Rattle.lz_vault.{specs.Vaults.{SyncAll, medium_after, syncs_after, died}, proofs.Changes.{from_map, sync_keeps}}
 use Rattle.lz_list.specs.{declared.walk.Look.TheVariants.{AtHead}, Traces.{Trace}}
 use Rattle.lz_machine.specs.declared.{event.{Event.TheVariants.{Sync}, Outcome.TheVariants.{Done}, Reply.{Reply}}, actor.Actor.{Actor}}
 use Rattle.lz_machine.specs.declared.caller.{Sequence.TheVariants.{Writing, Adding, Removing, Resting}, Progress.TheVariants.{Playing, Walking}}
@@ -22,18 +21,13 @@ cell_map _ _ = refl
 
 -- What a sync does to a stage.
 pub closed_synced : (stage : Stage) → IsFree stage → IsFree (stage_synced stage)
-closed_synced Opening free = absurd free
-closed_synced Open free = absurd free
-closed_synced Closing free = absurd free
-closed_synced _ free = tt
+closed_synced stage free = grind (arith, nat_tests)
 
 pub opened_synced : (stage : Stage) → IsGateOpened stage → IsGateOpened (stage_synced stage)
-opened_synced stage (inl e) = rw e (inr refl)
-opened_synced stage (inr e) = rw e (inr refl)
+opened_synced stage h = grind (arith, nat_tests)
 
 pub written_synced : (stage : Stage) → IsGateWritten stage → IsGateWritten (stage_synced stage)
-written_synced stage (inl e) = rw e (inr refl)
-written_synced stage (inr e) = rw e (inr refl)
+written_synced stage h = grind (arith, nat_tests)
 
 opened_before : (stage : Stage) → IsGateOpened (stage_synced stage) → IsGateOpened stage
 opened_before stage h = grind arith
@@ -43,8 +37,7 @@ written_before stage h = grind arith
 
 -- after a sync nothing is being opened
 pub not_opening : (stage : Stage) → stage_synced stage ≢ Opening
-not_opening Closed e = absurd cc
-not_opening _ e = absurd cc
+not_opening stage e = grind (arith, nat_tests)
 
 module _ (cells : List Cell) where
   abbrev cells' : List Cell
@@ -67,8 +60,7 @@ module _ (cells : List Cell) where
   }
     where
       keyed : (stage : Stage) → IsKeyed stage → IsKeyed (stage_synced stage)
-      keyed stage (inl e) = rw e (inr refl)
-      keyed stage (inr e) = rw e (inr refl)
+      keyed stage h = grind (arith, nat_tests)
 
   gate_keeps : (s : ℕ) → KeepsGate (cell_in cells s) (cell_in cells' s)
   gate_keeps s = record {
@@ -119,19 +111,7 @@ module _ (n calls : ℕ) (y : Yard) (callers : List (Option Caller)) (disk : Med
 
   -- the slot's last write is durable then
   sure_then : (a s : ℕ) → IsKeyed (stage_in y.vault.cells s) → stage_in (yard_done y (actor_at y a) a (Sync s)).vault.cells s ≡ Keyed
-  sure_then a s keyed = go (is_sure y s) refl
-    where
-      covered : (stage : Stage) → IsKeyed stage → is_covered stage ≡ true → stage ≡ Keyed
-      covered stage (inl e) sure = absurd (false≢true (ap is_covered (sym e) ∙ sure))
-      covered stage (inr e) sure = e
-
-      synced_keyed : (stage : Stage) → IsKeyed stage → stage_synced stage ≡ Keyed
-      synced_keyed stage (inl e) = ap stage_synced e
-      synced_keyed stage (inr e) = ap stage_synced e
-
-      go : (b : Bool) → is_sure y s ≡ b → stage_in (yard_done y (actor_at y a) a (Sync s)).vault.cells s ≡ Keyed
-      go true sure = rw sure (covered (stage_in y.vault.cells s) keyed sure)
-      go false loose = rw loose (stage_map y.vault.cells s ∙ synced_keyed (stage_in y.vault.cells s) keyed)
+  sure_then a s keyed = grind (arith, nat_tests, false≢true, stage_map)
 
   same_key : (a s t : ℕ) → (cell_in (yard_done y (actor_at y a) a (Sync s)).vault.cells t).key ≡ (cell_in y.vault.cells t).key
   same_key a s t = go (is_sure y s) refl

@@ -1,15 +1,15 @@
 -- Unlink keeps the invariant: the node that its remover has marked and settled is taken out.
 use Rattle.lz_machine.proofs.Frames.OtherUnlink as unlinks
-use Rattle.std.proofs.Common.{◌≡◌, ◌≢◌, inl, inr, ℕ, suc, ◌<◌, not, true, List, ◌∷◌, ◌++◌, Option, Some, None, refl, sym, ap, ◌∙◌, subst, arith}
-use Rattle.std.{proofs.lemmas.{Bool.{cases_eq, Decides.{nat_tests}}, Option.{same_Some}}, specs.Prelude.{unwrap_or}}
+use Rattle.std.proofs.{Common.{◌≡◌, ◌≢◌, inr, ℕ, suc, ◌<◌, not, true, List, ◌∷◌, ◌++◌, Option, Some, refl, sym, ap, ◌∙◌, subst, arith}, lemmas.Bool.{cases_eq}}
+use Rattle.std.{proofs.lemmas.{Bool.Decides.{nat_tests}, Option.{same_Some}}, specs.Prelude.{unwrap_or}}
 use mathlib.Core.Bool.{false≢true}
 use Rattle.lz_slot.{specs.{declared.command.Command.TheVariants.{Add, Remove}, Counted.{set_of_pass}, Histories.{History}}, proofs.Counted.{length-set_of_pass}}
 use Rattle.lz_disk.specs.Images.{Medium}
-use Rattle.lz_list.specs.declared.{place.Place.{Place, TheVariants.{Bucket, Node}}, publishing.Publishing.TheVariants.{Unlinked as unlinked}}
+use Rattle.lz_list.specs.declared.{place.Place.{Place, TheVariants.{Node}}, publishing.Publishing.TheVariants.{Unlinked as unlinked}}
 use Rattle.lz_list.specs.{declared.word.Word.TheVariants.{Key as key_at}, Words.{Words, get, redirect, next_at, place_number}}
-use Rattle.lz_list.specs.{Traces.{Trace, Lawful, IsLoose, on, chain, chain_of, bucket_of, key_word, is_marked, next_link, node_next}, Locks.{claimed_places}}
+use Rattle.lz_list.specs.{Traces.{Trace, Lawful, IsLoose, on, chain_of, bucket_of, key_word, is_marked, node_next}, Locks.{claimed_places}}
 use Rattle.lz_list.proofs.{Chains.TraceChain.{words_show_chain}, Traces.{NodeBits.{node, one_node, on_without}, WalkEnd.{on_without_other}}}
-use Rattle.lz_machine.specs.declared.{event.Event.TheVariants.{Unlink}, actor.{Actor.{Actor}, Hold.{Hold, TheVariants.{Nothing, Marked, Unlinked, Released}}}}
+use Rattle.lz_machine.specs.declared.{event.Event.TheVariants.{Unlink}, actor.{Actor.{Actor}, Hold.{Hold, TheVariants.{Marked, Unlinked}}}}
 use Rattle.lz_machine.specs.declared.caller.{Sequence.TheVariants.{Removing}, Progress.{Progress, TheVariants.{Playing}}}
 use Rattle.lz_machine.specs.{Yards.{Yard, actor_at, actor_in, cell_in}, Table.{with_hold, node_of, yard_done, publishes}, Runs.{Caller, caller_at}}
 use Rattle.lz_machine.specs.{Stands.{FacesNode, IsLeaving, InBucket}, Notes.{Notes}, SlotsSound.{opens, IsOut, is_out, IsGone, SlotsSound}}
@@ -23,22 +23,17 @@ use Rattle.lz_machine.proofs.{Frames.SameYard.{in_passes, tail_turn}, Ledger.Qui
 
 -- an actor that rests on its pair has its locks
 pub resting_locks : (hold : Hold) → rests_on_pair hold ≡ true → has_locks hold ≡ true
-resting_locks Nothing is = absurd (false≢true is)
-resting_locks Released is = absurd (false≢true is)
-resting_locks _ is = refl
+resting_locks hold is = grind (arith, nat_tests, false≢true)
 
 pub first_place : (pred : Place) (curr : Option ℕ) → HasPlace pred (claimed_places pred curr)
-first_place pred None = inl refl
-first_place pred (Some s) = inl refl
+first_place pred curr = grind (arith, nat_tests)
 
 pub node_place : (pred : Place) (curr : Option ℕ) (s : ℕ) → curr ≡ Some s → HasPlace (Node s) (claimed_places pred curr)
-node_place pred None s is = absurd cc
-node_place pred (Some t) s is = inr (inl (ap Node (same_Some _ _ is)))
+node_place pred curr s is = grind (arith, nat_tests, same_Some)
 
 -- a redirection leaves the pins
 pub redirect_pins : (words : Words) (pred : Place) (next : ℕ) → (redirect words pred next).pins ≡ words.pins
-redirect_pins words (Bucket b) next = refl
-redirect_pins words (Node s) next = refl
+redirect_pins words pred next = grind (arith, nat_tests)
 
 module _ (n calls : ℕ) (y : Yard) (callers : List (Option Caller)) (disk : Medium) (M : History) (P : Trace) (notes : Notes) (sound : Sound n calls y callers disk M P notes) (a i k s : ℕ) (is : caller_at callers a ≡ Some (call_at i (Remove k) (Playing (Removing s) 4))) where
   abbrev at : Progress
@@ -101,14 +96,7 @@ module _ (n calls : ℕ) (y : Yard) (callers : List (Option Caller)) (disk : Med
 
   -- another node stays on its chain
   chain_then : (t : ℕ) → t ≢ s → on 0 (chain_of y.shape.buckets (key_word t P) P) (suc t) ≡ true → on 0 (chain_of y.shape.buckets (key_word t P) P') (suc t) ≡ true
-  chain_then t apart on_it = elim (cases_eq (bucket_of y.shape.buckets k) (bucket_of y.shape.buckets (key_word t P))) [
-    | inl same ↦
-        let shown = words_show_chain y.shape.buckets y.shape.slots P sound.trace.lawful (bucket_of y.shape.buckets (key_word t P)) in
-        let theirs : on 0 (chain_of y.shape.buckets (key_word t P) P) (suc s) ≡ true = subst (λ (b : ℕ). on 0 (chain y.shape.buckets b P) (suc s) ≡ true) same there in
-        let still = on_without_other (next_link y.shape.buckets (bucket_of y.shape.buckets (key_word t P)) P) (λ t. key_word t P) k t 0 (chain_of y.shape.buckets (key_word t P) P) shown.shows (λ key. apart (omega (arith, one_node (next_link y.shape.buckets (bucket_of y.shape.buckets (key_word t P)) P) (λ t. key_word t P) 0 (chain_of y.shape.buckets (key_word t P) P) shown.shows (suc t) (suc s) on_it theirs (omega (arith, key, h.2.1))))) on_it in
-        grind (arith, nat_tests, same, still)
-    | inr other ↦ grind (arith, nat_tests, other, on_it)
-  ]
+  chain_then t apart on_it = grind (arith, nat_tests, cases_eq, words_show_chain, there, on_without_other, one_node, h)
 
   chain_before : (j t : ℕ) → on 0 (chain_of y.shape.buckets j P') (suc t) ≡ true → on 0 (chain_of y.shape.buckets j P) (suc t) ≡ true
   chain_before j t on_it = grind (arith, nat_tests, on_it, on_without k 0 (suc t) (chain_of y.shape.buckets j P))

@@ -103,29 +103,7 @@ module _ (shape : Shape) (words : Words) (P : Trace) (trace : TraceSound shape w
     -- it has met the key's node, unmarked or marked
     met_after : (c : Command) (aim : Option ℕ) (pred : Place) (s : ℕ) (flags : Flags) → HasLetGo v changed → IsAimed v (key_of c) P aim → MayAim c aim → WasBetween buckets (key_of c) pred (suc s) P0 P → key_word s P ≡ key_of c
         → flags ≡ flags_after s P → (mark : Bool) → flags.mark ≡ mark → GoesOn v c (walked c aim pred (Some s) (if mark then Marked s flags else Unmarked s flags)) P0 P changed
-    met_after c aim pred s flags fresh aimed may between key shown mark is = go c aim aimed may between key mark is
-      where
-        marks : (mark : Bool) → flags.mark ≡ mark → is_marked s P ≡ mark
-        marks mark is = sym (ap (λ (f : Flags). f.mark) shown) ∙ is
-
-        go : (c : Command) (aim : Option ℕ) → IsAimed v (key_of c) P aim → MayAim c aim → WasBetween buckets (key_of c) pred (suc s) P0 P → key_word s P ≡ key_of c
-            → (mark : Bool) → flags.mark ≡ mark → GoesOn v c (walked c aim pred (Some s) (if mark then Marked s flags else Unmarked s flags)) P0 P changed
-        go (Has k) aim aimed may between key false is =
-            let stood = since k pred s between in
-            rests_on k s stood key flags fresh (Has k) Yes (met_now k s false stood key (marks false is)) (may_answer flags) (λ now. (answers_yes k fresh (unmarked_now k s stood key flags fresh shown is now)).0)
-        go (Add k) aim aimed may between key false is =
-            let stood = since k pred s between in
-            rests_on k s stood key flags fresh (Add k) No (met_now k s false stood key (marks false is)) (may_answer flags) (λ now. (answers_yes k fresh (unmarked_now k s stood key flags fresh shown is now)).1)
-        go (Remove k) None aimed may between key false is = record { relies = (fresh, aimed, (between, (s, refl, key))); inside = refl }
-        go (Remove k) (Some t) aimed may between key false is = absurd may
-        go (Has k) aim aimed may between key true is =
-            let stood = since k pred s between in
-            rests_on k s stood key flags fresh (Has k) No (met_now k s true stood key (marks true is)) (may_answer flags) (λ now. (answers_no k fresh (marked_now k s stood key flags fresh shown is now)).0)
-        go (Remove k) aim aimed may between key true is =
-            let stood = since k pred s between in
-            rests_on k s stood key flags fresh (Remove k) No (met_now k s true stood key (marks true is)) (may_answer flags) (λ now. (answers_no k fresh (marked_now k s stood key flags fresh shown is now)).1)
-        go (Add k) None aimed may between key true is = record { relies = (fresh, aimed, tt, marked_gone k s (since k pred s between) key (marks true is)); inside = refl }
-        go (Add k) (Some t) aimed may between key true is = record { relies = (fresh, aimed, (between, inr (s, refl, key, marks true is))); inside = refl }
+    met_after c aim pred s flags fresh aimed may between key shown mark is = grind (arith, nat_tests, since, rests_on, met_now, answers_yes, unmarked_now, answers_no, marked_now, marked_gone)
 
     -- what follows a load
     pub hop_after : (c : Command) (aim : Option ℕ) (look : Look) → HasLetGo v changed → IsAimed v (key_of c) P aim → MayAim c aim → IsLooking buckets (key_of c) P0 P look → GoesOn v c (hops_on c aim (hopped buckets (key_of c) look (get words (wants buckets (key_of c) look)))) P0 P changed

@@ -1,6 +1,6 @@
 -- WriteKey keeps the invariant: the adder's key is put into the slot that it has reserved.
 use Rattle.std.proofs.Common.{◌≡◌, ◌≢◌, inl, inr, ℕ, suc, ◌<◌, ◌≤◌, ◌==◌, Bool, true, false, List, ◌∷◌, ◌++◌, Option, Some, refl, sym, ap, ◌∙◌, subst, arith}
-use Rattle.std.{proofs.lemmas.Bool.Decides.{nat_tests}, specs.Prelude.{slice_set, unwrap_or}}
+use Rattle.std.{proofs.lemmas.Bool.Decides.{nat_tests}, specs.Prelude.{slice_set}}
 use mathlib.Core.Bool.{false≢true}
 use Rattle.lz_slot.specs.{Rooms.{largest_of}, declared.command.Command.{Command, TheVariants.{Add, Remove}}, Sets.{key_of}, Histories.{History}}
 use Rattle.lz_disk.specs.Images.{Medium}
@@ -10,13 +10,13 @@ use Rattle.lz_list.specs.{declared.{publishing.Publishing.TheVariants.{KeyPrepar
 use Rattle.lz_list.specs.Traces.{Trace, Lawful, IsLoose, on, chain_of, bucket_of, key_word}
 use Rattle.lz_machine.specs.declared.{event.{Event.TheVariants.{WriteKey}, Reply.TheVariants.{Device}}, actor.Hold.{Hold}}
 use Rattle.lz_machine.specs.declared.caller.{Sequence.TheVariants.{Writing}, Progress.{Progress, TheVariants.{Playing}}}
-use Rattle.lz_machine.specs.Yards.{Yard, actor_at, actor_in, pin_in, cell_in, stage_in}
-use Rattle.lz_machine.specs.{Table.{with_vault, call_of, cells_after, slot_of, yard_done, publishes}, Calls.{halts}, Runs.{Caller, caller_at}}
-use Rattle.lz_machine.specs.{Notes.{Notes, entries}, SlotsSound.{opens, shuts, unlocks, IsGateOpened, IsGateWritten, IsHandStage, SlotsSound}}
-use Rattle.lz_machine.specs.{LocksSound.{RestsOn, LocksSound}, CallersSound.{IsKeyed, Relies, view_of, CallerSound, CallersSound}, LedgerSound.{HasTail}}
-use Rattle.lz_machine.{specs.Sound.{DiskSound, ReuseSound, Sound}, proofs.Frames.{ActorTable.{by_actor}, OneActor.{moving}, ChainSlots.{reuse_published}}}
-use Rattle.lz_machine.proofs.Frames.{OneSlot.{same_nodes, prepared_slots}, Publishing.{shut_relies}, Store.{trace_key}, OtherCallers.{held_node, caller_stays}}
-use Rattle.lz_machine.proofs.Frames.{HeldLocks.{key_leaves}, FittingKeys.{adds_fitting}, Cells.{caller_vaulted, cell_same, cell_other, stage_other, cell_stays}}
+use Rattle.lz_machine.specs.{Yards.{Yard, actor_at, actor_in, pin_in, cell_in, stage_in}, Table.{with_vault, call_of, yard_done, publishes}, Calls.{halts}}
+use Rattle.lz_machine.specs.{Runs.{Caller, caller_at}, Notes.{Notes, entries}}
+use Rattle.lz_machine.specs.{SlotsSound.{opens, shuts, unlocks, IsGateOpened, IsGateWritten, IsHandStage, SlotsSound}, LocksSound.{RestsOn, LocksSound}}
+use Rattle.lz_machine.specs.{CallersSound.{IsKeyed, Relies, view_of, CallerSound, CallersSound}, LedgerSound.{HasTail}, Sound.{DiskSound, ReuseSound, Sound}}
+use Rattle.lz_machine.proofs.Frames.{ActorTable.{by_actor}, OneActor.{moving}, ChainSlots.{reuse_published}, OneSlot.{same_nodes, prepared_slots}}
+use Rattle.lz_machine.proofs.Frames.{Publishing.{shut_relies}, Store.{trace_key}, OtherCallers.{held_node, caller_stays}, HeldLocks.{key_leaves}}
+use Rattle.lz_machine.proofs.Frames.{FittingKeys.{adds_fitting}, Cells.{caller_vaulted, cell_same, cell_other, stage_other, cell_stays}}
 use Rattle.lz_machine.proofs.Frames.{PreparedSlot.{rests_prepared}, SlotWrite.{key_done, key_failed, key_syncs, put_free, put_keyed}, BesideKey.{opened_shut}}
 use Rattle.lz_machine.proofs.{Frames.Ranges.{few_slots}, Ledger.QuietPublishing.{ledger_published}, Steps.Hop.{call_at, own, goes_on_keeps}}
 
@@ -240,13 +240,7 @@ module _ (n calls : ℕ) (y : Yard) (callers : List (Option Caller)) (disk : Med
   -- the turn in which the key is written
   pub write_key_keeps : Sound n calls (yard_done y (actor_at y a) a (WriteKey (key_of c))) (moving callers a (call_at i c (Playing (Writing s) 0)) (Playing (Writing s) 1))
       (medium_after (call_of y (actor_at y a) (WriteKey (key_of c))) disk) M (publishes y (actor_at y a) a (WriteKey (key_of c)) ++ P) notes
-  write_key_keeps =
-      let mine : s ≡ slot_of (actor_at y a) = sym (ap (λ (q : Option ℕ). unwrap_or q 0) (h n calls y callers disk M P notes sound a i c s is).1) in
-      subst (λ (syncs : ℕ). Sound n calls (record { shape = y.shape; words = set y.words (key_at (slot_of (actor_at y a))) (key_of c); locks = y.locks; vault = record y.vault { cells = cells_after y (actor_at y a) (WriteKey (key_of c)); syncs = syncs }; uses = y.uses; actors = y.actors })
-      (moving callers a (call_at i c (Playing (Writing s) 0)) (Playing (Writing s) 1)) (medium_after (call_of y (actor_at y a) (WriteKey (key_of c))) disk) M (key_prepared (slot_of (actor_at y a)) (key_of c) ∷ P) notes)
-      (sym (key_syncs y.vault.format (stage_in y.vault.cells (slot_of (actor_at y a))) (slot_of (actor_at y a)) (key_of c) y.vault.syncs))
-      (subst (λ (q : ℕ). Sound n calls (record { shape = y.shape; words = set y.words (key_at q) (key_of c); locks = y.locks; vault = record y.vault { cells = slice_set y.vault.cells q (record { stage = stage_put y.vault.format (stage_in y.vault.cells q); key = key_of c }) }; uses = y.uses; actors = y.actors })
-      (moving callers a (call_at i c (Playing (Writing s) 0)) (Playing (Writing s) 1)) (medium_after (key_call y.vault.format (stage_in y.vault.cells q) q (key_of c)) disk) M (key_prepared q (key_of c) ∷ P) notes) mine keyed_sound)
+  write_key_keeps = grind (arith, nat_tests, h, moving, call_at, key_syncs, keyed_sound)
 
   -- the turn in which the write fails: the vault dies, and no word is changed
   pub write_key_fails_keeps : (medium : Medium) → MayFail (key_call y.vault.format (stage_in y.vault.cells s) s (key_of c)) disk medium

@@ -1,5 +1,6 @@
 -- WriteOpen keeps the invariant: the gate of the slot that the adder will link is opened.
-use Rattle.std.{proofs.Common.{◌≡◌, ◌≢◌, ℕ, Bool, false, List, ◌∷◌, ◌++◌, Option, Some, refl, sym, ap, subst}, specs.Prelude.{slice_set, unwrap_or}}
+use Rattle.std.proofs.{Common.{arith, ◌≡◌, ◌≢◌, ℕ, Bool, false, List, ◌∷◌, ◌++◌, Option, Some, refl, sym, ap, subst}, lemmas.Bool.Decides.{nat_tests}}
+use Rattle.std.specs.Prelude.{slice_set}
 use Rattle.lz_slot.{specs.{declared.command.Command.TheVariants.{Add}, Counted.{set_of_pass}, Histories.{History}}, proofs.Counted.{length-set_of_pass}}
 use Rattle.lz_disk.specs.Images.{Medium}
 use Rattle.lz_vault.specs.{declared.vault.Stage.TheVariants.{Opening}, Stages.{Cell}, Vaults.{Vaulted, medium_after, opening_call}}
@@ -7,7 +8,7 @@ use Rattle.lz_list.specs.declared.{publishing.Publishing.TheVariants.{LinkPrepar
 use Rattle.lz_list.specs.{Words.{set, link_to}, Traces.{Trace}}
 use Rattle.lz_machine.specs.declared.{event.Event.TheVariants.{WriteOpen}, actor.{Actor.{Actor}, Hold.TheVariants.{GateOpened}}}
 use Rattle.lz_machine.specs.{declared.caller.{Sequence.TheVariants.{Adding}, Progress.TheVariants.{Playing}}, Yards.{Yard, actor_at, actor_in, pin_in, cell_in}}
-use Rattle.lz_machine.specs.{Table.{with_hold, call_of, slot_of, yard_done, publishes}, Runs.{Caller, caller_at}, Notes.{Notes}}
+use Rattle.lz_machine.specs.{Table.{with_hold, call_of, yard_done, publishes}, Runs.{Caller, caller_at}, Notes.{Notes}}
 use Rattle.lz_machine.specs.{LocksSound.{has_locks, HasLock, RestsOn, LocksSound}, CallersSound.{Relies, view_of, CallerSound}, Sound.{DiskSound, Sound}}
 use Rattle.lz_machine.proofs.Frames.{SlotWrite.{opening_done}, OneActor.{moving}, Hand.{same_hand, other_hand}, NodeLocks.{held_locks}}
 use Rattle.lz_machine.proofs.{Frames.OpenedGate.{beside_published, h, lt, open_sound, published_sound, ready_published}, Steps.Hop.{call_at, own}}
@@ -67,13 +68,7 @@ module _ (n calls : ℕ) (y : Yard) (callers : List (Option Caller)) (disk : Med
 
   -- the adder goes on to its linking
   opened_mine : CallerSound (record { buckets = y.shape.buckets; passes = y.shape.passes; format = y.vault.format; cells = cells_open; dead = y.vault.dead; actor = x }) (pin_in y.words.pins a) (Some (call_at i (Add k) (Playing (Adding s) 1))) (notes.begun a) P'' (notes.changed a)
-  opened_mine =
-      let before = own n calls (record { shape = y.shape; words = set y.words (link_at s) link; locks = y.locks; vault = y.vault; uses = y.uses; actors = y.actors }) callers disk M P'' notes a i (Add k) (Playing (Adding s) 0) is linked_yard in
-      record {
-        quiet = before.quiet;
-        begins = before.begins;
-        stands = (before.stands.0, before.stands.1, (refl, known.1.slot, known.1.word, known.2));
-      }
+  opened_mine = grind (arith, nat_tests, own, linked_yard, known)
 
   -- all of it
   opened_sound : Sound n calls (record { shape = y.shape; words = set y.words (link_at s) link; locks = y.locks; vault = vault_open y.vault.dead; uses = y.uses; actors = actors' }) (moving callers a (call_at i (Add k) (Playing (Adding s) 0)) (Playing (Adding s) 1)) medium_open M P'' notes
@@ -85,7 +80,4 @@ module _ (n calls : ℕ) (y : Yard) (callers : List (Option Caller)) (disk : Med
   -- The turn in which the gate is opened.
   pub write_open_keeps : Sound n calls (yard_done y (actor_at y a) a WriteOpen) (moving callers a (call_at i (Add k) (Playing (Adding s) 0)) (Playing (Adding s) 1))
       (medium_after (call_of y (actor_at y a) WriteOpen) disk) M (publishes y (actor_at y a) a WriteOpen ++ P) notes
-  write_open_keeps =
-      let claimed : s ≡ slot_of (actor_at y a) = sym (ap (λ (q : Option ℕ). unwrap_or q 0) known.1.slot) in
-      subst (λ (q : ℕ). Sound n calls (record { shape = y.shape; words = set y.words (link_at q) link; locks = y.locks; vault = record y.vault { cells = slice_set y.vault.cells q (record { stage = Opening; key = (cell_in y.vault.cells q).key }) }; uses = y.uses; actors = actors' })
-      (moving callers a (call_at i (Add k) (Playing (Adding s) 0)) (Playing (Adding s) 1)) (medium_after (opening_call y.vault.format q (cell_in y.vault.cells q).key) disk) M (link_prepared q link ∷ P) notes) claimed opened_sound
+  write_open_keeps = grind (arith, nat_tests, known, moving, call_at, opened_sound)

@@ -1,18 +1,19 @@
 -- Between its calls an actor's pin word is even, where no look is half done; a step that is no look leaves it so.
-use Rattle.std.proofs.Common.{◌≡◌, ◌≢◌, IsTrue, IsNone, ℕ, ◌≤◌, ◌%◌, Bool, true, false, List, length, Option, Some, None, refl, sym, ap, subst, arith}
+use Rattle.std.proofs.lemmas.Bool.Decides.{nat_tests}
+use Rattle.std.proofs.Common.{◌≡◌, ◌≢◌, IsTrue, IsNone, ℕ, ◌≤◌, ◌%◌, Bool, true, false, List, length, Option, Some, None, refl, sym, subst, arith}
 use mathlib.Core.Bool.{false≢true}
 use Rattle.lz_slot.{specs.{declared.command.Command.{Command}, Counted.{set_of_pass}, Histories.{History}}, proofs.Counted.{of_pass_same, of_pass_other}}
 use Rattle.lz_disk.specs.Images.{Medium}
 use Rattle.lz_allot.specs.Uses.{is_outside}
 use Rattle.lz_list.specs.Traces.{Trace}
-use Rattle.lz_machine.specs.declared.{course.Course.{Course, TheVariants.{Plays}}, event.{Event.{Event, TheVariants.{Answer}}, Outcome.{Outcome}}}
-use Rattle.lz_machine.specs.declared.{event.{Outcome.TheVariants.{NotNow, Fault}, Reply.{Reply}}, caller.Progress.{Progress, TheVariants.{Answering}}}
-use Rattle.lz_machine.specs.{Yards.{Shape, Yard, actor_at}, Table.{pin_of, course, line_on, line}, Calls.{progress_after}, Points.{IsBetweenLooks, IsReached}}
-use Rattle.lz_machine.specs.Runs.{Start, State, Up, Down, Point, Transition, Calls, Turn, Fails, Looks, Trips, Stops, Crashes, Opens, OpenFails, Service}
-use Rattle.lz_machine.specs.Runs.{Caller, caller_at, next_event, reply_at, moved_on, state_after, after_turn, after_fault, HasTurn, HasFault, MayStep, invoked}
-use Rattle.lz_machine.{specs.{Notes.{Notes}, Sound.{Sound, IsSound}}, proofs.{Steps.Hop.{call_at}, Frames.{ActorTable.{by_actor}, OneActor.{caller_range}}}}
-use Rattle.lz_machine.proofs.{Frames.Outside.{answered_pin, answered_even, outside_even}, Open.FoundSlots.{pass_of}, Runs.CallerTable.{fault_no_reply}}
-use Rattle.lz_machine.proofs.{Runs.Course.{answer_plays}, Alone.Frame.{pins_other}, Theorem.Reached.{reached_sound, up_at}}
+use Rattle.lz_machine.specs.declared.{course.Course.{Course}, event.{Event.{Event, TheVariants.{Answer}}, Outcome.{Outcome, TheVariants.{NotNow, Fault}}}}
+use Rattle.lz_machine.specs.{declared.{event.Reply.{Reply}, caller.Progress.{Progress, TheVariants.{Answering}}}, Yards.{Shape, Yard, actor_at}}
+use Rattle.lz_machine.specs.{Table.{pin_of, course, line_on, line}, Calls.{progress_after}, Points.{IsBetweenLooks, IsReached}, Runs.{Start, State, Up, Down}}
+use Rattle.lz_machine.specs.Runs.{Point, Transition, Calls, Turn, Fails, Looks, Trips, Opens, OpenFails, Service, Caller, caller_at, next_event, reply_at}
+use Rattle.lz_machine.specs.{Runs.{moved_on, state_after, after_turn, after_fault, HasTurn, HasFault, MayStep, invoked}, Notes.{Notes}, Sound.{Sound, IsSound}}
+use Rattle.lz_machine.proofs.{Steps.Hop.{call_at}, Frames.{ActorTable.{by_actor}, OneActor.{caller_range}, Outside.{answered_pin, answered_even, outside_even}}}
+use Rattle.lz_machine.proofs.{Open.FoundSlots.{pass_of}, Runs.{CallerTable.{fault_no_reply}, Course.{answer_plays}}, Alone.Frame.{pins_other}}
+use Rattle.lz_machine.proofs.Theorem.Reached.{reached_sound, up_at}
 
 abbrev pub is_look : Transition → Bool
 is_look (Looks a) = true
@@ -29,8 +30,7 @@ module _ (y : Yard) (a : ℕ) (low : 1 ≤ a) (high : a ≤ length y.words.pins)
 -- An event changes no other actor's pin word.
 module _ (y : Yard) (a b : ℕ) (other : b ≢ a) where
   on_other : (e : Event) (taken : Course) → pin_of (line_on taken y (actor_at y a) a e).0 b ≡ pin_of y b
-  on_other e Plays = pins_other y (actor_at y a) a b e other
-  on_other e _ = refl
+  on_other e taken = grind (arith, nat_tests, pins_other)
 
   pin_other : (e : Event) → pin_of (line y a e).0 b ≡ pin_of y b
   pin_other e = on_other e (course y a e)
@@ -82,13 +82,7 @@ module _ (n calls : ℕ) (y : Yard) (callers : List (Option Caller)) (disk : Med
   up_quiet i _ may other = tt
 
 down_quiet : (i : ℕ) (shape : Shape) (disk : Medium) (step : Transition) → MayStep (Down shape disk) step → IsBetweenLooks (state_after i (Down shape disk) step)
-down_quiet i shape disk Opens may = λ a none. ap is_outside (pass_of shape.passes a 0)
-down_quiet i shape disk Trips may = tt
-down_quiet i shape disk Stops may = tt
-down_quiet i shape disk (Crashes t) may = tt
-down_quiet i shape disk (OpenFails why true) may = tt
-down_quiet i shape disk (OpenFails why false) may = tt
-down_quiet i shape disk _ may = absurd may
+down_quiet i shape disk step may = grind (arith, nat_tests, pass_of)
 
 -- where no look was half done, none is after a step that isn't a look
 pub quiet_step : (start : Start) (p : Point) → IsReached start p → (i : ℕ) (step : Transition) → MayStep p.state step → is_look step ≡ false → IsBetweenLooks p.state → IsBetweenLooks (state_after i p.state step)

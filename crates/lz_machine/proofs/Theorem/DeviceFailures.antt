@@ -6,9 +6,8 @@ use mathlib.Core.Bool.{false≢true}
 use Rattle.lz_slot.specs.{declared.command.Command.{Command}, Counted.{set_of_pass}, Histories.{History}}
 use Rattle.lz_disk.specs.Images.{Medium}
 use Rattle.lz_vault.specs.Vaults.{MayFail, NoCall}
-use Rattle.lz_machine.specs.declared.{course.Course.{Course, TheVariants.{Dies}}, event.{Event.{Event}, Outcome.{Outcome, TheVariants.{Fault}}, Reply.{Reply}}}
-use Rattle.lz_machine.specs.declared.{event.Reply.TheVariants.{Yes, Device}, caller.{Sequence.{Sequence, TheVariants.{Resting, Halting}}, Progress.{Progress}}}
-use Rattle.lz_machine.specs.{declared.caller.Progress.TheVariants.{Playing}, Yards.{Shape, Yard, actor_at}}
+use Rattle.lz_machine.specs.declared.{course.Course.{Course}, event.{Event.{Event}, Outcome.{Outcome, TheVariants.{Fault}}, Reply.{Reply}}}
+use Rattle.lz_machine.specs.{declared.caller.{Sequence.{Sequence}, Progress.{Progress, TheVariants.{Playing}}}, Yards.{Shape, Yard, actor_at}}
 use Rattle.lz_machine.specs.{Table.{course, line, line_call, line_failed, line_on}, Calls.{goes_on, progress_after}, Runs.{Caller, Service, State, Up, Down}}
 use Rattle.lz_machine.specs.Runs.{Start, Point, Transition, Calls, Turn, Fails, Looks, Trips, Stops, Crashes, Opens, OpenFails, caller_at, next_event, reply_at}
 use Rattle.lz_machine.specs.Runs.{moved_on, state_after, HasTurn, HasFault, MayStep, mark_of, mark_of_turn, marks_of_turn, marks_of, after_turn, after_fault}
@@ -27,8 +26,7 @@ fails_alive y a e disk new may = grind (arith, cases_Bool, dead_calls)
 
 -- and a vault that is alive was so before
 was_alive : (y : Yard) (a : ℕ) (e : Event) (k : Course) → (line_on k y (actor_at y a) a e).0.vault.dead ≡ false → y.vault.dead ≡ false
-was_alive y a e Dies alive = absurd (false≢true (sym alive))
-was_alive y a e _ alive = alive
+was_alive y a e k alive = grind (arith, nat_tests, false≢true)
 
 -- a turn is no fault
 no_turn_fault : (y : Yard) (a : ℕ) (e : Event) → (line y a e).1 ≢ Fault
@@ -39,17 +37,13 @@ abbrev NotDue : Progress → Type 0
 NotDue at = device_reply (reply_due at) ≡ 0
 
 same_due : (sequence : Sequence) (i j : ℕ) → reply_due (Playing sequence i) ≡ reply_due (Playing sequence j)
-same_due (Resting s reply) i j = refl
-same_due _ i j = refl
+same_due sequence i j = grind (arith, nat_tests)
 
 if_due : (b : Bool) (one other : Progress) → NotDue one → NotDue other → NotDue (if b then one else other)
-if_due true one other is also = is
-if_due false one other is also = also
+if_due b one other is also = grind (arith, nat_tests)
 
 past_due : (sequence : Sequence) (i : ℕ) → NotDue (Playing sequence i) → NotDue (goes_on sequence)
-past_due (Resting s reply) i is = is
-past_due (Halting reply) i is = is
-past_due _ i is = refl
+past_due sequence i is = grind (arith, nat_tests)
 
 onward_due : {shape : Shape} {c : Command} {at : Progress} {outcome : Outcome} {next : Progress} → Edge shape c at outcome next → outcome ≢ Fault → NotDue at → NotDue next
 onward_due (fails c at) other is = absurd (other refl)
@@ -61,12 +55,10 @@ onward_due _ other is = refl
 
 -- a call counts once at most
 reply_once : (r : Option Reply) → device_reply r ≤ 1
-reply_once (Some Device) = omega arith
-reply_once _ = omega arith
+reply_once r = grind (arith, nat_tests)
 
 no_more : (x y : ℕ) → y ≤ 1 → (x ≡ 0 → y ≡ 0) → y ≤ x
-no_more zero y once none = let is = none refl in omega (arith, is)
-no_more (suc x) y once none = omega (arith, once)
+no_more x y once none = grind (arith, nat_tests)
 
 -- where one of the calls changes
 due_slice : (callers : List (Option Caller)) (i : ℕ) (x : Option Caller) → i < length callers → calls_due (slice_set callers i x) + device_due (slice_index_or callers i None) ≡ calls_due callers + device_due x
@@ -75,8 +67,7 @@ due_slice (q ∷ callers) zero x lt = omega arith
 due_slice (q ∷ callers) (suc i) x lt = let rest = due_slice callers i x (omega (arith, lt)) in omega (arith, rest)
 
 due_set : (callers : List (Option Caller)) (a : ℕ) (x : Option Caller) → 1 ≤ a → a ≤ length callers → calls_due (set_of_pass callers a x) + device_due (caller_at callers a) ≡ calls_due callers + device_due x
-due_set callers zero x low high = absurd (omega (arith, low))
-due_set callers (suc i) x low high = due_slice callers i x (omega (arith, high))
+due_set callers a x low high = grind (arith, nat_tests, due_slice)
 
 due_none : (n : ℕ) → calls_due (replicate n None) ≡ 0
 due_none zero = refl
@@ -84,8 +75,7 @@ due_none (suc n) = let rest = due_none n in omega (arith, rest)
 
 -- a reply ends its call, and shows what it told
 told_reply : (M : History) (i : ℕ) (reply : Reply) → told_device (mark_of i reply ∷ M) ≡ device_reply (Some reply) + told_device M
-told_reply M i Yes = omega arith
-told_reply M i _ = omega arith
+told_reply M i reply = grind (arith, nat_tests)
 
 -- so many device calls have failed in this life: none while the vault is alive
 abbrev IsAlive : State → Type 0
@@ -108,8 +98,7 @@ module _ (n : ℕ) (y : Yard) (callers : List (Option Caller)) (disk : Medium) (
     turn_failures : (y' : Yard) (disk' : Medium) (next : Progress) (reply : Option Reply) → reply_at caller.progress ≡ reply → (y'.vault.dead ≡ false → y.vault.dead ≡ false)
         → (reply ≡ None → device_reply (reply_due next) ≤ device_reply (reply_due caller.progress))
         → Failures n (Up (record { yard = y'; callers = set_of_pass callers a (moved_on reply caller next) }) disk') (mark_of_turn caller.number reply ++ M)
-    turn_failures y' disk' next None is alive onward = grind (arith, nat_tests, due_here)
-    turn_failures y' disk' next (Some reply) is alive onward = grind (arith, nat_tests, due_here, told_reply, replies)
+    turn_failures y' disk' next reply is alive onward = grind (arith, nat_tests, due_here, told_reply, replies)
 
   done_failures : (a : ℕ) (q : Option Caller) → caller_at callers a ≡ q → HasTurn serving a q → Failures n (after_turn serving disk a q) (marks_of_turn q ++ M)
   done_failures a None at may = absurd may

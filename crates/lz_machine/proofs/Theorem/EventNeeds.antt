@@ -1,6 +1,6 @@
 -- What an event of a call needs it has, and its caller may take what it gives.
-use Rattle.std.proofs.Common.{◌≡◌, ◌≢◌, ℕ, zero, suc, ◌<◌, ◌≤◌, ◌%◌, ◌==◌, not, ◌&&◌, ◌||◌, Bool, true, false, List, Option, Some, is_some, refl, sym, ap, ◌∙◌}
-use Rattle.std.{proofs.Common.{subst, arith}, specs.Prelude.{unwrap_or}}
+use Rattle.std.proofs.{lemmas.Bool.Decides.{nat_tests}, Common.{◌≡◌, ◌≢◌, ℕ, zero, suc, ◌<◌, ◌≤◌, ◌%◌, ◌==◌, not, ◌&&◌, ◌||◌, Bool, true, false, List, Option}}
+use Rattle.std.{proofs.Common.{Some, is_some, refl, sym, ap, ◌∙◌, subst, arith}, specs.Prelude.{unwrap_or}}
 use mathlib.Core.Bool.{false≢true}
 use Rattle.lz_slot.specs.{declared.command.Command.{Command, TheVariants.{Add, Remove}}, Limits.{most_slots}, Sets.{key_of}, Histories.{History}}
 use Rattle.lz_disk.specs.Images.{Medium}
@@ -23,9 +23,7 @@ use Rattle.lz_machine.proofs.Runs.{Course.{course_by, each_course}, Outcomes.{no
 
 -- what has what it needs comes in time
 pub timely : (y : Yard) (a : ℕ) (e : Event) → needs y a e ≡ true → (line y a e).1 ≢ NotNow
-timely y a e has =
-    each_course (λ k. (line_on k y (actor_at y a) a e).1 ≢ NotNow) y a e (λ dead stops late. cc) (λ lacks. absurd (false≢true (sym lacks ∙ has))) (λ pin last late. cc) (λ s sync late. cc)
-    (λ has fresh. not_done y (actor_at y a) e NotNow refl)
+timely y a e has = grind (arith, nat_tests, each_course, false≢true, not_done)
 
 inside_odd : (pin : ℕ) → pin % 2 ≡ 1 → not (is_outside pin) ≡ true
 inside_odd pin odd = ap (λ (q : ℕ). not (q == 0)) odd

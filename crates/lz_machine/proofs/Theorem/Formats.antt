@@ -1,5 +1,5 @@
 -- A file keeps its format.
-use Rattle.std.proofs.Common.{◌≡◌, ℕ, List, [], ◌∷◌, sym, ◌∙◌, subst}
+use Rattle.std.proofs.{Common.{arith, ◌≡◌, ℕ, List, [], ◌∷◌, sym, ◌∙◌, subst}, lemmas.Bool.Decides.{nat_tests}}
 use Rattle.lz_slot.specs.{declared.format.Format.{Format}, Bytes.{format_of}, Histories.{History, Life, lives}}
 use Rattle.lz_vault.specs.Stages.{Suits}
 use Rattle.lz_list.specs.Traces.{Trace}
@@ -8,8 +8,7 @@ use Rattle.lz_machine.{specs.{Sound.{PointSound}, Formats.{HasFormat, FormatsSta
 use Rattle.lz_machine.proofs.Theorem.Reached.{reached_sound}
 
 point_format : (start : Start) (p : Point) (L : List Life) → PointSound start p L → HasFormat (format_of start.text) p.state
-point_format start p [] h = absurd h
-point_format start p (life ∷ earlier) h = h.3
+point_format start p L h = grind (arith, nat_tests)
 
 -- the disk suits it
 point_suits : (start : Start) (M : History) (P : Trace) (calls : ℕ) (w : State) (L : List Life) → PointSound start (point w M P calls) L → Suits (format_of start.text) (disk_of w)
@@ -23,9 +22,7 @@ left_format p t F [] left is = absurd left
 left_format p t F (life ∷ earlier) left is = left.3 F is
 
 pub run_format : (start : Start) (steps : List Transition) → IsStart start → IsRun (first_point start) steps → HasFormat (format_of start.text) (run (first_point start) steps).state
-run_format start steps is runs =
-    let p = run (first_point start) steps in
-    point_format start p (lives (start_keys start) p.marks) (reached_sound start steps is runs)
+run_format start steps is runs = grind (arith, nat_tests, point_format, reached_sound)
 
 pub formats_stay : FormatsStay
 formats_stay start w M P reached =

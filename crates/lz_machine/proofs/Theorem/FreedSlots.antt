@@ -51,8 +51,7 @@ module _ (s q : ℕ) where
 
   -- where the pass is outside nothing need be known
   shown_out : (w : State) (ms : List Moment) (P0 P : Trace) → is_out w q ≡ true → PastAt w (pins_of w ++ ms) (begun_after w P0 P) P
-  shown_out (Up service disk) ms P0 P out = rw out (begins_itself P, inl refl)
-  shown_out (Down shape disk) ms P0 P out = tt
+  shown_out w ms P0 P out = grind (arith, nat_tests, begins_itself)
 
   abbrev StepsTo : State → State → Transition → List Moment → Trace → Trace → Type 0
   StepsTo after w step ms P0 P = PastAt after (pins_of after ++ moments_of_step w step ++ ms) (begun_after after P0 (trace_after w P step)) (trace_after w P step)

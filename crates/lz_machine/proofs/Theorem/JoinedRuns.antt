@@ -1,16 +1,14 @@
 -- Runs that follow on one another.
-use Rattle.std.proofs.Common.{◌≡◌, inl, inr, ℕ, List, [], ◌∷◌, ◌++◌, refl, sym, subst, arith}
+use Rattle.std.proofs.{lemmas.Bool.Decides.{nat_tests}, Common.{◌≡◌, ℕ, List, [], ◌∷◌, ◌++◌, refl, sym, subst, arith}}
 use Rattle.lz_slot.specs.{declared.history.Mark.{Mark, TheVariants.{Stop, Crash, Opened, OpenFailed}}, Bytes.{Holds}}
 use Rattle.lz_slot.specs.{Histories.{History, Life, ChainTo, lives, with_mark}, Sets.{Keys, Same, members}}
 use Rattle.lz_disk.specs.Images.{AreBytes}
-use Rattle.lz_machine.specs.{JoinedRuns.{LeftIsStart, RunsJoin, all_lives, first_start}, Runs.{State, Up, Down, MayLeave, caller_at, start_keys}}
+use Rattle.lz_machine.specs.{JoinedRuns.{LeftIsStart, RunsJoin, all_lives, first_start}, Runs.{State, MayLeave, start_keys}}
 use Rattle.lz_machine.proofs.{Crash.Leftovers.{inside_bytes}, Open.{FirstPoint.{one_set, fits_same}, ListedKeys.{listed}}, Theorem.Reached.{every_history}}
 
 -- what a crash may leave are bytes
 left_bytes : (w : State) (t : List ℕ) → MayLeave w t → AreBytes t
-left_bytes (Up service disk) t (inl image) = image.bytes
-left_bytes (Up service disk) t (inr (a, left)) = inside_bytes a service disk (caller_at service.callers a) t left
-left_bytes (Down shape disk) t image = image.bytes
+left_bytes w t image = grind (arith, nat_tests, inside_bytes)
 
 pub left_is_start : LeftIsStart
 left_is_start start w M P t bytewise buckets passes reached leaves some few suits =
@@ -30,12 +28,10 @@ Begins (life ∷ []) A = life.start ≡ A
 Begins (life ∷ next ∷ rest) A = Begins (next ∷ rest) A
 
 newer : (life : Life) (L : List Life) (A : Keys) → Begins L A → Begins (life ∷ L) A
-newer life [] A h = absurd h
-newer life (next ∷ rest) A h = h
+newer life L A h = grind (arith, nat_tests)
 
 marked : (m : Mark) (L : List Life) (A : Keys) → Begins L A → Begins (with_mark m L) A
-marked m [] A h = absurd h
-marked m _ A h = h
+marked m L A h = grind (arith, nat_tests)
 
 lives_begin : (A : Keys) (M : History) → Begins (lives A M) A
 lives_begin A [] = refl
@@ -47,8 +43,7 @@ lives_begin A (m ∷ M) = marked m (lives A M) A (lives_begin A M)
 
 -- a chain to a set is one to the same keys
 chain_same : (L : List Life) (S T : Keys) → Same S T → ChainTo L S → ChainTo L T
-chain_same [] S T same h = tt
-chain_same (life ∷ earlier) S T same h = (h.0, fits_same life.start life.history h.0 S T same h.1, h.2)
+chain_same L S T same h = grind (arith, nat_tests, fits_same)
 
 join : (L earlier : List Life) (A S : Keys) → Begins L A → ChainTo L S → ChainTo earlier A → ChainTo (L ++ earlier) S
 join [] earlier A S begins h old = absurd begins

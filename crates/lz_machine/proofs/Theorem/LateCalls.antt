@@ -1,20 +1,20 @@
 -- A call that is made after another was cut off finds the halt word set, and comes no further than its load.
-use Rattle.std.proofs.Common.{◌≡◌, ◌≢◌, inl, inr, ℕ, zero, suc, ◌≤◌, Bool, true, false, List, [], ◌∷◌, ◌++◌, length, Option, Some, None, refl, sym, ap, ◌∙◌}
-use Rattle.std.{proofs.{Common.{subst, arith}, lemmas.{Bool.{cases_eq}, Option.{same_Some, none-some}}}, specs.Prelude.{if◌then◌else◌}}
+use Rattle.std.proofs.{lemmas.{Bool.{cases_eq, Decides.{nat_tests}}, Option.{same_Some, none-some}}, Common.{◌≡◌, ◌≢◌, inl, inr, ℕ, zero, suc, ◌≤◌, Bool, true}}
+use Rattle.std.{proofs.Common.{false, List, [], ◌∷◌, ◌++◌, length, Option, Some, None, refl, sym, ap, ◌∙◌, subst, arith}, specs.Prelude.{if◌then◌else◌}}
 use mathlib.Core.Bool.{false≢true}
 use Rattle.lz_slot.specs.{declared.{command.Command.{Command}, history.Mark.TheVariants.{Call}}, Counted.{set_of_pass}, Histories.{History, IsCalled}}
 use Rattle.lz_slot.proofs.Counted.{of_pass_same, of_pass_other}
 use Rattle.lz_disk.specs.Images.{Medium, at_rest, synced}
 use Rattle.lz_vault.specs.Vaults.{MayFail}
 use Rattle.lz_list.specs.{declared.word.Word.TheVariants.{Halt as halt_word_at}, Traces.{Trace, halt_word}}
-use Rattle.lz_machine.specs.declared.{course.Course.{Course, TheVariants.{Plays}}, event.Event.{Event, TheVariants.{Pin, Hop}}}
-use Rattle.lz_machine.specs.declared.event.{Outcome.TheVariants.{NotNow, Fault}, Reply.{Reply, TheVariants.{Yes, OldFile as SaysOldFile, Halted, Device}}}
-use Rattle.lz_machine.specs.declared.caller.{Progress.{Progress, TheVariants.{Playing, LoadsHalt, Answering}}, Sequence.TheVariants.{Pinning}}
-use Rattle.lz_machine.specs.{Yards.{Shape, Yard, actor_at, first_trace}, Table.{call_on, course, is_old, line, line_on, line_call, line_failed, pin_of}}
-use Rattle.lz_machine.specs.{Calls.{begun, first_progress, progress_after}, Runs.{Caller, Service, State, Up, Down, Start, IsStart, Point, Transition, Calls}}
-use Rattle.lz_machine.specs.Runs.{Turn, Fails, Looks, Trips, Stops, Crashes, Opens, OpenFails, caller_at, next_event, reply_at, moved_on, opened_service}
-use Rattle.lz_machine.specs.Runs.{state_after, trace_after, HasTurn, HasFault, MayStep, mark_of, mark_of_turn, marks_of_turn, marks_of, after_turn, after_fault}
-use Rattle.lz_machine.specs.{Runs.{turn_publishes, run, IsRun, first_point}, CallersSound.{IsCaller, Relies, View, view_of}}
+use Rattle.lz_machine.specs.declared.{course.Course.{Course}, event.{Event.{Event, TheVariants.{Pin, Hop}}, Outcome.TheVariants.{NotNow, Fault}, Reply.{Reply}}}
+use Rattle.lz_machine.specs.declared.{event.Reply.TheVariants.{OldFile as SaysOldFile}, caller.Progress.{Progress, TheVariants.{Playing, LoadsHalt, Answering}}}
+use Rattle.lz_machine.specs.{declared.caller.Sequence.TheVariants.{Pinning}, Yards.{Shape, Yard, actor_at, first_trace}}
+use Rattle.lz_machine.specs.{Table.{call_on, course, is_old, line, line_on, line_call, line_failed, pin_of}, Calls.{begun, first_progress, progress_after}}
+use Rattle.lz_machine.specs.Runs.{Caller, Service, State, Up, Down, Start, IsStart, Point, Transition, Calls, Turn, Fails, Looks, Trips, Stops, Crashes, Opens}
+use Rattle.lz_machine.specs.Runs.{OpenFails, caller_at, next_event, reply_at, moved_on, opened_service, state_after, trace_after, HasTurn, HasFault, MayStep}
+use Rattle.lz_machine.specs.Runs.{mark_of, mark_of_turn, marks_of_turn, marks_of, after_turn, after_fault, turn_publishes, run, IsRun, first_point}
+use Rattle.lz_machine.specs.CallersSound.{IsCaller, Relies, View, view_of}
 use Rattle.lz_machine.specs.Halts.{HaltLasts, HaltsLast, IsLate, IsLateReply, IsMadeLate, MayTellLate, was_cut}
 use Rattle.lz_machine.proofs.{Alone.Halt.{device_word, halted_word, replies}, Frames.{OneActor.{caller_range, mine}, Publishing.{halt_stays}}}
 use Rattle.lz_machine.proofs.{Open.FoundSlots.{pass_of}, Runs.{CallerTable.{fault_no_reply}, Course.{course_by, each_course}}}
@@ -33,8 +33,7 @@ late_called [] i h = absurd h
 
 -- a reply makes no call
 before_reply : (M : History) (i j : ℕ) (reply : Reply) → IsMadeLate (mark_of i reply ∷ M) j → IsMadeLate M j
-before_reply M i j Yes h = h
-before_reply M i j _ h = h
+before_reply M i j reply h = grind (arith, nat_tests)
 
 -- and is one of the replies to late calls, where its call is late
 may_tell : (M : History) (i : ℕ) (reply : Reply) → (IsMadeLate M i → IsLateReply reply) → MayTellLate (mark_of i reply) M
@@ -43,9 +42,7 @@ may_tell M i reply h = grind arith
 -- where it cuts its call off the halt word is set
 module _ (v : View) (c : Command) (P0 P : Trace) (changed : Option ℕ) (M : History) (i : ℕ) (before : was_cut M ≡ true → halt_word P ≡ 1) where
   cut_word : (reply : Reply) → Relies v c (Answering reply) P0 P changed → was_cut (mark_of i reply ∷ M) ≡ true → halt_word P ≡ 1
-  cut_word Halted relies cut = halted_word v c P0 P changed relies
-  cut_word Device relies cut = device_word v c P0 P changed relies
-  cut_word _ relies cut = before cut
+  cut_word reply relies cut = grind (arith, nat_tests, halted_word, device_word)
 
 late_reply : (at : Progress) (reply : Reply) → reply_at at ≡ Some reply → IsLate at → IsLateReply reply
 late_reply at reply is late = subst IsLate (replies at reply is) late
@@ -63,16 +60,13 @@ module _ (y : Yard) (a : ℕ) (shape : Shape) (c : Command) where
 
   -- neither calls the device
   no_fault_late : (k : Course) (disk new : Medium) → MayFail (call_on k y (actor_at y a) Pin) disk new → ⊥
-  no_fault_late Plays disk new h = h
-  no_fault_late _ disk new h = h
+  no_fault_late k disk new h = grind (arith, nat_tests)
 
   no_fault_load : (k : Course) (disk new : Medium) → MayFail (call_on k y (actor_at y a) (Hop halt_word_at)) disk new → ⊥
-  no_fault_load Plays disk new h = h
-  no_fault_load _ disk new h = h
+  no_fault_load k disk new h = grind (arith, nat_tests)
 
 begins_late : (b : Bool) → IsLate (if b then Answering SaysOldFile else first_progress)
-begins_late true = tt
-begins_late false = tt
+begins_late b = grind (arith, nat_tests)
 
 -- Of an open call that was made late: the halt word is set, and it has come no further.
 abbrev AllLate : State → History → Trace → Type 0

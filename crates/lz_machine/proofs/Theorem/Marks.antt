@@ -1,21 +1,20 @@
 -- The marks of a run: the open calls of the history are those of the callers.
-use Rattle.std.proofs.{lemmas.{Bool.{cases_eq, Decides.{nat_tests}}, List.{length-replicate}, Option.{same_Some, none-some}}, Common.{◌≡◌, ◌≢◌, ⊎_elim, inl}}
-use Rattle.std.proofs.Common.{inr, ℕ, suc, ◌≤◌, true, false, List, [], ◌∷◌, ◌++◌, length, Option, Some, None, refl, sym, ap, ◌∙◌, subst, arith}
+use Rattle.std.proofs.lemmas.{Bool.{cases_eq, Decides.{nat_tests}}, List.{length-replicate}, Option.{same_Some, none-some}}
+use Rattle.std.proofs.Common.{◌≡◌, ◌≢◌, inl, inr, ℕ, suc, ◌≤◌, true, false, List, [], ◌∷◌, ◌++◌, length, Option, Some, None, refl, sym, ap, ◌∙◌, subst, arith}
 use mathlib.Core.Bool.{false≢true}
 use Rattle.lz_slot.specs.declared.{command.Command.{Command}, history.Mark.{Mark, TheVariants.{Call, Answer, Refused, Cut, Stop, Crash, OpenFailed}}}
 use Rattle.lz_slot.{specs.{Counted.{set_of_pass}, Histories.{History, IsCalled}}, proofs.Counted.{of_pass_same, of_pass_other, length-set_of_pass}}
 use Rattle.lz_disk.specs.Images.{Medium}
-use Rattle.lz_machine.specs.{declared.event.{Outcome.{Outcome}, Reply.{Reply, TheVariants.{Yes}}}, Yards.{Yard, Shape, actor_at}}
-use Rattle.lz_machine.specs.{Table.{course, line, line_failed}, Calls.{progress_after}, Runs.{Caller, Service, State, Up, Down, Start, Transition, Calls, Turn}}
-use Rattle.lz_machine.specs.Runs.{Fails, Looks, Trips, Stops, Crashes, CrashesIn, Opens, OpenFails, caller_at, next_event, reply_at, moved_on, after_turn}
-use Rattle.lz_machine.specs.Runs.{after_fault, opened_service, state_after, HasTurn, HasFault, MayStep, IsActor, mark_of, mark_of_turn, marks_of_turn, marks_of}
-use Rattle.lz_machine.specs.{Runs.{calls_made_after, run, IsRun, first_point}, Marks.{IsOpenCall, MayFollow, IsTold, MarksTell}}
-use Rattle.lz_machine.proofs.{Frames.OneActor.{caller_range}, Runs.{Shape.{line_keeps_shape}, CallerTable.{none_of, fault_no_reply}}, Open.FoundSlots.{pass_of}}
+use Rattle.lz_machine.specs.{declared.event.{Outcome.{Outcome}, Reply.{Reply}}, Yards.{Yard, Shape, actor_at}, Table.{course, line, line_failed}}
+use Rattle.lz_machine.specs.{Calls.{progress_after}, Runs.{Caller, Service, State, Up, Down, Start, Transition, Calls, Turn, Fails, Looks, Trips, Stops}}
+use Rattle.lz_machine.specs.Runs.{Crashes, CrashesIn, Opens, OpenFails, caller_at, next_event, reply_at, moved_on, after_turn, after_fault, opened_service}
+use Rattle.lz_machine.specs.Runs.{state_after, HasTurn, HasFault, MayStep, IsActor, mark_of, mark_of_turn, marks_of_turn, marks_of, calls_made_after, run}
+use Rattle.lz_machine.{specs.{Runs.{IsRun, first_point}, Marks.{IsOpenCall, MayFollow, IsTold, MarksTell}}, proofs.Frames.OneActor.{caller_range}}
+use Rattle.lz_machine.proofs.{Runs.{Shape.{line_keeps_shape}, CallerTable.{none_of, fault_no_reply}}, Open.FoundSlots.{pass_of}}
 use Rattle.lz_machine.proofs.Ledger.CallMark.{number_of, is_call}
 
 called_before : (m : Mark) (M : History) (i : ℕ) (c : Command) → is_call m ≡ false → IsCalled (m ∷ M) i c → IsCalled M i c
-called_before m M i c other (a, inl e) = absurd (false≢true (sym other ∙ ap is_call e))
-called_before m M i c other (a, inr there) = (a, there)
+called_before m M i c other h = grind (arith, nat_tests, false≢true, is_call)
 
 -- an open call was made
 pub open_called : (M : History) (i a : ℕ) → IsOpenCall M i a → (c : Command) × IsCalled M i c
@@ -43,20 +42,16 @@ pub record Tells (calls : ℕ) (w : State) (M : History) : Type 0 where
 
 -- a reply ends its call, and leaves the others
 ends_open : (M : History) (i j a : ℕ) (reply : Reply) → IsOpenCall (mark_of i reply ∷ M) j a → (i ≢ j) × IsOpenCall M j a
-ends_open M i j a Yes h = h
-ends_open _ i j a _ h = h
+ends_open M i j a reply h = grind (arith, nat_tests)
 
 stays_open : (M : History) (i j a : ℕ) (reply : Reply) → i ≢ j → IsOpenCall M j a → IsOpenCall (mark_of i reply ∷ M) j a
-stays_open M i j a Yes other h = (other, h)
-stays_open _ i j a _ other h = (other, h)
+stays_open M i j a reply other h = grind (arith, nat_tests)
 
 may_reply : (M : History) (i a : ℕ) (reply : Reply) → IsOpenCall M i a → MayFollow (mark_of i reply) M
-may_reply M i a Yes h = (a, h)
-may_reply _ i a _ h = (a, h)
+may_reply M i a reply h = grind (arith, nat_tests)
 
 no_call : (i : ℕ) (reply : Reply) → is_call (mark_of i reply) ≡ false
-no_call i Yes = refl
-no_call i _ = refl
+no_call i reply = grind (arith, nat_tests)
 
 -- the callers where one of them changes
 module _ (callers : List (Option Caller)) (M : History) (old : AreOpen callers M) (a : ℕ) (low : 1 ≤ a) (high : a ≤ length callers) where
@@ -68,23 +63,7 @@ module _ (callers : List (Option Caller)) (M : History) (old : AreOpen callers M
 
   -- a new call
   call_opens : (i : ℕ) (c : Command) (new : Caller) → new.number ≡ i → ((j b : ℕ) → IsOpenCall M j b → j ≢ i) → caller_at callers a ≡ None → AreOpen (set_of_pass callers a (Some new)) (Call i a c ∷ M)
-  call_opens i c new number fresh none = record {
-    has = λ b caller at. elim (cases_eq b a) [
-      | inl same ↦ inl (sym number ∙ ap (λ (q : Caller). q.number) (same_Some _ _ (sym (here (Some new) b same) ∙ at)), sym same)
-      | inr other ↦ inr (old.has b caller (sym (away (Some new) b other) ∙ at))
-    ];
-    only = λ b j is. ⊎_elim
-        (λ now. (new, here (Some new) b (sym now.1), number ∙ now.0))
-        (λ before. elim (cases_eq b a) [
-          | inl same ↦ let was = old.only b j before in absurd (none-some _ (sym none ∙ ap (caller_at callers) (sym same) ∙ was.1))
-          | inr other ↦ let was = old.only b j before in (was.0, away (Some new) b other ∙ was.1, was.2)
-        ])
-        is;
-    apart = apart_now;
-  }
-    where
-      apart_now : (b d j : ℕ) → IsOpenCall (Call i a c ∷ M) j b → IsOpenCall (Call i a c ∷ M) j d → b ≡ d
-      apart_now b d j h3 h4 = grind arith
+  call_opens i c new number fresh none = grind (arith, nat_tests, cases_eq, same_Some, here, away, none-some)
 
   module _ (caller : Caller) (at : caller_at callers a ≡ Some caller) where
     -- the call goes on

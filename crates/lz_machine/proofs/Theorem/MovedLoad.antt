@@ -16,7 +16,7 @@ use Rattle.lz_machine.specs.Runs.{played, caller_at, next_event, reply_at, moved
 use Rattle.lz_machine.specs.Runs.{marks_of, turn_publishes, trace_after, calls_made_after}
 use Rattle.lz_machine.specs.Laws.{is_of, outcome_at, outcomes, hop_of, hop_of_caller, next_hop, SameBut, call_in, ends_life, WalksMove}
 use Rattle.lz_machine.{specs.{CallersSound.{is_before_pin}, Sound.{PointSound, IsSound}}, proofs.Theorem.MovedCall.{call_stays, ends_same}}
-use Rattle.lz_machine.proofs.Runs.{Twins.{Twin, apart, same, left, right, follows}, Composition.{run_append}}
+use Rattle.lz_machine.proofs.Runs.{Twins.{Twin, apart, left, right, follows}, Composition.{run_append}}
 
 -- a call whose next event is a load: it is inside, and gives no reply yet
 record Loads (words : Words) (e : Event) (at : Progress) : Type 0 where
@@ -153,9 +153,7 @@ module _ (p : Point) (a : ℕ) (before : List Transition) (hops : HopsBeside a (
       }
 
 twins_same : (a : ℕ) (t : Twin a) → SameBut a (left a t) (right a t)
-twins_same a (apart y disk one other count rest) = (refl, refl, rest)
-twins_same a (same (Up service disk)) = (refl, refl, λ b away. refl)
-twins_same a (same (Down shape disk)) = (refl, refl)
+twins_same a t = grind (arith, nat_tests)
 
 beside_same : (a : ℕ) (one other : Point) → Beside a one other → SameBut a one.state other.state
 beside_same a one other h = subst (λ (w : State). SameBut a one.state w) h.right_is (subst (λ (w : State). SameBut a w (right a h.twin)) h.left_is (twins_same a h.twin))

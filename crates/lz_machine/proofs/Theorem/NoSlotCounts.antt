@@ -1,5 +1,5 @@
 -- The counts of a call that finds no slot.
-use Rattle.std.proofs.{Common.{◌≡◌, ℕ, ◌+◌, List, [], ◌∷◌, length, Option, Some, None, refl, sym, ap, ◌∙◌, subst, arith}, lemmas.Bool.Decides.{nat_tests}}
+use Rattle.std.proofs.{Common.{◌≡◌, ℕ, ◌+◌, List, [], ◌∷◌, length, Option, None, refl, sym, ap, ◌∙◌, subst, arith}, lemmas.Bool.Decides.{nat_tests}}
 use Rattle.std.proofs.lemmas.List.{length-map}
 use Rattle.lz_allot.{specs.{declared.counts.Counts.{Counts}, Uses.{Use, Free, collect, collect_at, counts, lowest_free}}, proofs.UseCounts.{counts_sum}}
 use Rattle.lz_machine.specs.{declared.event.{Event.TheVariants.{Reserve}, Outcome.TheVariants.{NoSlot}}, NoSlotCounts.{CountsAreRight}, Runs.{run, first_point}}
@@ -11,8 +11,7 @@ none_counted (Free ∷ uses) none = absurd (grind (arith, nat_tests, none))
 none_counted (u ∷ uses) none = grind (arith, nat_tests, none_counted uses (grind (arith, nat_tests, none)))
 
 found_none : (c : Counts) (o : Option ℕ) (uses : List Use) → slot_found o uses ≡ NoSlot c → (o ≡ None) × (counts uses ≡ c)
-found_none c None uses is = (refl, cc)
-found_none c (Some s) uses is = absurd cc
+found_none c o uses is = grind (arith, nat_tests)
 
 -- no other course of the event tells counts
 told_by : (y : Yard) (a : ℕ) (c : Counts) → (line y a Reserve).1 ≡ NoSlot c → (lowest_free (collect y.uses) ≡ None) × (counts (collect y.uses) ≡ c)

@@ -1,6 +1,6 @@
 -- One adding to a freshly made set of one slot, in any format, is a run; and each state that is reached may leave a text.
-use Rattle.std.proofs.Common.{◌≡◌, ◌≢◌, inl, ℕ, zero, suc, ◌<◌, ◌≤◌, false, List, [], ◌∷◌, slice_get, take, Option, Some, is_some, refl, sym, ap, ◌∙◌, subst}
-use Rattle.std.{proofs.Common.{arith}, specs.Prelude.{unwrap_or}}
+use Rattle.std.proofs.lemmas.Bool.Decides.{nat_tests}
+use Rattle.std.proofs.Common.{◌≡◌, ◌≢◌, ℕ, zero, suc, ◌<◌, ◌≤◌, false, List, [], ◌∷◌, slice_get, take, Some, is_some, refl, sym, ◌∙◌, subst, arith}
 use mathlib.Core.Bool.{false≢true}
 use Rattle.lz_slot.specs.declared.{format.Format.{Format, TheVariants.{One, Two, Three, Four}}, slot.SlotRead.TheVariants.{Closed, Member, BadKey}}
 use Rattle.lz_slot.specs.{Limits.{most_slots_of}, Bytes.{open_byte, header_body, format_of, slot_at}, Rooms.{largest_of}, Histories.{Life, lives}}
@@ -10,25 +10,21 @@ use Rattle.lz_list.specs.Traces.{bucket_of}
 use Rattle.lz_disk.specs.Images.{IsImage, IsSound, at_rest}
 use Rattle.lz_machine.specs.declared.event.Outcome.TheVariants.{Done, Value, Slot, Taken, True, NotNow}
 use Rattle.lz_machine.specs.OneAdd.{is_bytewise, one_slot, one_add, OneAddRuns, LeavesText}
-use Rattle.lz_machine.specs.Runs.{Start, IsStart, State, Up, Down, Transition, Point, IsRun, MayLeave, disk_of, run, first_point, made_text, start_keys}
+use Rattle.lz_machine.specs.Runs.{Start, IsStart, State, Transition, Point, IsRun, MayLeave, disk_of, run, first_point, made_text, start_keys}
 use Rattle.lz_machine.{specs.Sound.{PointSound}, proofs.{Open.Texts.{text_bytes}, Theorem.Reached.{reached_sound}}}
 
 -- what was just made
 closed_slot : (F : Format) → slot_at (made_text F 1) 0 ≡ Closed
-closed_slot One = refl
-closed_slot _ = refl
+closed_slot F = grind (arith, nat_tests)
 
 made_head : (F : Format) → take 16 (made_text F 1) ≡ open_byte ∷ header_body (format_of (made_text F 1)) 1
-made_head One = refl
-made_head _ = refl
+made_head F = grind (arith, nat_tests)
 
 made_room : (F : Format) → 1 ≤ most_slots_of (format_of (made_text F 1))
-made_room One = omega arith
-made_room _ = omega arith
+made_room F = grind (arith, nat_tests)
 
 made_suits : (F : Format) → Suits (format_of (made_text F 1)) (at_rest (is_bytewise F) (made_text F 1))
-made_suits Four is = refl
-made_suits _ is = absurd cc
+made_suits F is = grind (arith, nat_tests)
 
 no_bad : (F : Format) (i : ℕ) → i < 1 → slot_at (made_text F 1) i ≢ BadKey
 no_bad F zero lt bad = absurd (cc (closed_slot F, bad))
@@ -39,13 +35,11 @@ no_member F zero k lt is = absurd (cc (closed_slot F, is))
 no_member F (suc i) k lt is = absurd (omega (arith, lt))
 
 no_key : (F : Format) (k : ℕ) → start_keys (one_slot F) k ≡ false
-no_key One k = refl
-no_key _ k = refl
+no_key F k = grind (arith, nat_tests)
 
 -- the key of a slot that was just made is one of any format
 fresh_keys : (F : Format) (i : ℕ) (cell : Cell) → slice_get (no_cell ∷ []) i ≡ Some cell → cell.key ≤ largest_of F
-fresh_keys F zero cell is = subst (λ (k : ℕ). k ≤ largest_of F) (ap (λ (o : Option Cell). (unwrap_or o no_cell).key) is) (zero_fits F)
-fresh_keys F (suc i) cell is = absurd (false≢true (ap is_some is))
+fresh_keys F i cell is = grind (arith, nat_tests, zero_fits, false≢true, is_some)
 
 starts : (F : Format) → IsStart (one_slot F)
 starts F = record {
@@ -103,8 +97,7 @@ run_sound start steps is runs =
 
 -- a crash may leave each image of the disk
 pub image_left : (w : State) (t : List ℕ) → IsImage (disk_of w) t → MayLeave w t
-image_left (Up service disk) t image = inl image
-image_left (Down shape disk) t image = image
+image_left w t image = grind (arith, nat_tests)
 
 pub leaves_text : LeavesText
 leaves_text start w M P reached =

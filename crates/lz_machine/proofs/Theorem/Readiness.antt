@@ -1,6 +1,6 @@
 -- What an event rests on where it is played follows from the invariant.
-use Rattle.std.proofs.Common.{◌≡◌, inl, inr, ℕ, suc, ◌<◌, ◌≤◌, not, ◌&&◌, Bool, true, false, List, length, Option, Some, None, is_some, refl, sym, ap, ◌∙◌}
-use Rattle.std.proofs.{Common.{subst, arith}, lemmas.{Bool.{cases_Bool, not-true, and_parts}, Option.{slice_get-get_or, same_Some}}}
+use Rattle.std.proofs.{lemmas.{Bool.{cases_Bool, not-true, and_parts, Decides.{nat_tests}}, Option.{slice_get-get_or, same_Some}}, Common.{◌≡◌, inl, inr, ℕ}}
+use Rattle.std.proofs.Common.{suc, ◌<◌, ◌≤◌, not, ◌&&◌, Bool, true, false, List, length, Option, Some, None, is_some, refl, sym, ap, ◌∙◌, subst, arith}
 use Rattle.std.specs.Prelude.{unwrap_or, IsSomeAnd, IfSome}
 use mathlib.Core.Bool.{false≢true}
 use Rattle.lz_slot.specs.{Rooms.{largest_of}, Limits.{largest_key}, declared.command.Command.{Command}, Histories.{History}}
@@ -222,8 +222,7 @@ is_invoke (Invoke c) = true
 is_invoke _ = false
 
 called : (caller : Option Caller) (A : Caller → Type 0) → IsSomeAnd caller A → (x : Caller) × (caller ≡ Some x) × A x
-called None A h = absurd h
-called (Some x) A h = (x, refl, h)
+called caller A h = grind (arith, nat_tests)
 
 -- any other one is the next of a caller
 abbrev pub NextOf : Service → ℕ → Event → Type 0
@@ -270,8 +269,7 @@ module _ (y : Yard) (honest : Bool) (disk : Medium) (a : ℕ) (e : Event) (may :
   ]
     where
       begins_knowing : (e' : Event) → is_invoke e' ≡ true → Knows (view_of may.service.yard.shape may.service.yard.vault may.service.yard.actors a) last.trace e'
-      begins_knowing (Invoke c) is = tt
-      begins_knowing _ is = absurd (false≢true is)
+      begins_knowing e' is = grind (arith, nat_tests, false≢true)
 
   -- an event of an actor of the yard that is played has what its calls ask for
   pub ready_in_range : (1 ≤ a) × (a ≤ length y.actors) → IsEventOf y e → needs y a e ≡ true → course y a e ≡ Plays → IsReady y a e

@@ -1,13 +1,13 @@
 -- The words after a trace show its chains, in the words that the list's contracts speak of. They may be those of another table
 -- with the same heads, links and keys.
-use Rattle.std.proofs.Common.{◌≡◌, ◌⊎◌, inl, inr, ℕ, zero, suc, ◌<◌, ◌≤◌, true, List, length, get_or, Option, Some, None, refl, sym, ap, ◌∙◌, subst, arith}
-use Rattle.std.proofs.lemmas.{Bool.{cases_lt}, List.{get_or_past}}
+use Rattle.std.proofs.lemmas.{Bool.{cases_lt, Decides.{nat_tests}}, List.{get_or_past}}
+use Rattle.std.proofs.Common.{◌≡◌, ◌⊎◌, ℕ, suc, ◌<◌, ◌≤◌, true, List, length, get_or, Option, Some, None, refl, sym, ap, ◌∙◌, subst, arith}
 use mathlib.Core.Bool.{false≢true}
 use Rattle.lz_slot.specs.Limits.{most_slots}
 use Rattle.lz_list.specs.declared.{place.Place.{Place, TheVariants.{Bucket, Node}}, word.Word.TheVariants.{Head, Link, Key}}
 use Rattle.lz_list.specs.Words.{Words, get, next_of, flags_of, next_at, is_marked_at, place_number, link_to}
 use Rattle.lz_list.specs.Lists.{next_in, home, AreSlots, ShowsChain, IsNodeOf, IsOfBucket, IsPlace, IsCurr, IsPredecessor, MayLinkAt, MayUnlinkAt, KeepsList}
-use Rattle.lz_list.specs.{Locks.{NodeLocks, owner}, Traces.{Trace, Adjacent, IsLoose, KeysBelong, on, rank_at, chain, chain_of, bucket_of, key_word, node_next}}
+use Rattle.lz_list.specs.{Locks.{NodeLocks, owner}, Traces.{Trace, IsLoose, KeysBelong, on, rank_at, chain, chain_of, bucket_of, key_word, node_next}}
 use Rattle.lz_list.specs.{Traces.{head_word, next_link, is_marked, word_after}, Laws.{IsLow, IsHigh}}
 use Rattle.lz_list.proofs.Chains.{PlaceRank.{adjacent_next, shows_frame, shows_keys}, TraceChain.{words_show_chain}, SortedChain.{node_on}}
 use Rattle.lz_list.proofs.{Traces.{Hindsight.{stands}, TraceWords.{chain_slots}}, Tables.WordTable.{length-table}}
@@ -48,12 +48,10 @@ module _ (shape : Shape) (words : Words) (P : Trace) (trace : TraceSound shape w
   node_slot b s there = on_range shape.buckets shape.slots P b s trace.lawful there
 
   next_is : (b : ℕ) → b < shape.buckets → (x : ℕ) → on 0 (chain shape.buckets b P) x ≡ true → next_in w b x ≡ next_link shape.buckets b P x
-  next_is b lt zero there = head_is b lt
-  next_is b lt (suc t) there = link_is t (node_slot b t there)
+  next_is b lt x there = grind (arith, nat_tests, head_is, link_is, node_slot)
 
   rank_is : (b x : ℕ) → on 0 (chain shape.buckets b P) x ≡ true → rank_at keys_here x ≡ rank_at keys_then x
-  rank_is b zero there = refl
-  rank_is b (suc t) there = ap suc (key_is t (node_slot b t there))
+  rank_is b x there = grind (arith, nat_tests, key_is, node_slot)
 
   -- the words show the trace's chain of each bucket
   pub shows : (b : ℕ) → b < shape.buckets → ShowsChain w b (chain shape.buckets b P)
@@ -91,12 +89,10 @@ module _ (shape : Shape) (words : Words) (P : Trace) (trace : TraceSound shape w
   }
     where
       of_bucket : (place : Place) → InBucket shape.buckets k place → IsOfBucket (home w k) place
-      of_bucket (Bucket b) is = is ∙ sym (home_is k)
-      of_bucket (Node s) is = tt
+      of_bucket place is = grind (arith, nat_tests, home_is)
 
   pub leads_to : (k : ℕ) (pred : Place) → InBucket shape.buckets k pred → on 0 (chain_of shape.buckets k P) (place_number pred) ≡ true → next_at w pred ≡ next_link shape.buckets (bucket_of shape.buckets k) P (place_number pred)
-  leads_to k (Bucket b) bucket there = grind (arith, head_is, bucket_range)
-  leads_to k (Node s) bucket there = link_is s (node_slot (bucket_of shape.buckets k) s there)
+  leads_to k pred bucket there = grind (arith, nat_tests, head_is, bucket_range, link_is, node_slot)
 
   -- a slot that is ready for the place round which its actor has the locks may be linked there
   pub may_link_at : (pred : Place) (curr : Option ℕ) (s : ℕ) → s < shape.slots → IsBeside shape.buckets (key_word s P) pred curr P → IsLinkable shape.buckets (key_word s P) (link_to curr) s P → MayLinkAt w pred s
@@ -110,11 +106,7 @@ module _ (shape : Shape) (words : Words) (P : Trace) (trace : TraceSound shape w
       }
     where
       above : (n : ℕ) → next_link shape.buckets (bucket_of shape.buckets (key_word s P)) P (place_number pred) ≡ n → IsHigh (key_word s P) n P → (n ≡ 0) ⊎ (suc (get w (Key s)) < rank_at keys_here n)
-      above n is (inl none) = inl none
-      above n is (inr greater) =
-          let adj = subst (Adjacent 0 (chain_of shape.buckets (key_word s P) P) (place_number pred)) is (stands shape.buckets shape.slots P (bucket_of shape.buckets (key_word s P)) (place_number pred) P trace.lawful beside.round.faces.there) in
-          let there = adjacent_next 0 (chain_of shape.buckets (key_word s P) P) (place_number pred) n adj (λ none. absurd (omega (arith, greater, ap (rank_at keys_then) none))) in
-          inr (omega (arith, greater, key_is s lt, rank_is (bucket_of shape.buckets (key_word s P)) n there))
+      above n is h = grind (arith, nat_tests, stands, adjacent_next, key_is, rank_is)
 
   -- a node may be unlinked from the place that leads to it
   pub may_unlink_at : (pred : Place) (s : ℕ) → StandsBefore shape.buckets pred s P → MayUnlinkAt w pred s

@@ -34,12 +34,7 @@ module _ (calls : ℕ) (service : Service) (disk : Medium) (P Q : Trace) (B : �
 
   -- each pass went in at a time up to now
   within : (b : ℕ) → length (B b) ≤ length P
-  within b = elim (cases_eq (pin_in service.yard.words.pins b % 2) 0) [
-    | inl even ↦ omega (arith, ap (λ (q : Trace). length q) (went_in b even))
-    | inr odd ↦
-        let inside : IsInside (pin_in service.yard.words.pins b) = omega (arith, odd) in
-        subst (λ (q : Trace). length q ≤ length P) (h.tied b inside) (shorter (h.notes.begun b) P ((h.up.sound.callers.each b).begins inside))
-  ]
+  within b = grind (arith, nat_tests, cases_eq, went_in, shorter)
 
   -- also that of a pass that is outside, which has changed nothing
   change_told : (b : ℕ) → h.notes.changed b ≡ own_change b (length (B b)) P
@@ -56,9 +51,7 @@ module _ (calls : ℕ) (service : Service) (disk : Medium) (P Q : Trace) (B : �
   tie later life (Up after left) next = record { n = h.n; life = life; notes = next.notes; up = next.up; tied = tied; told = told }
     where
       same : (b : ℕ) → IsInside (pin_in after.yard.words.pins b) → (if is_outside (pin_in after.yard.words.pins b) then Q else B b) ≡ B b
-      same b inside =
-          let inward : is_outside (pin_in after.yard.words.pins b) ≡ false = grind (arith, nat_tests, inside) in
-          ap (λ (q : Bool). if q then Q else B b) inward
+      same b inside = grind (arith, nat_tests)
 
       tied : (b : ℕ) → IsInside (pin_in after.yard.words.pins b) → next.notes.begun b ≡ (if is_outside (pin_in after.yard.words.pins b) then Q else B b)
       tied b inside = elim (cases_eq (pin_in service.yard.words.pins b % 2) 0) [
@@ -136,12 +129,10 @@ module _ (start : Start) (steps : List Transition) (service : Service) (disk : M
       met away = subst (λ (Q : Trace). IsAway service.yard.shape.buckets Q p.trace s) (tied.tied a inside) away b stood
 
       written : (stage : Stage) → is_covered stage ≡ true → (stage ≡ Closing) ⊎ (stage ≡ Closed) → stage ≡ Closed
-      written stage covered (inr closed) = closed
-      written stage covered (inl closing) = absurd (false≢true (ap is_covered (sym closing) ∙ covered))
+      written stage covered h = grind (arith, nat_tests, false≢true)
 
       by_node : IsNodeStage service.yard.vault.cells service.yard.vault.dead service.yard.actors p.trace s → stage_in service.yard.vault.cells s ≡ Closed
-      by_node (inl unmarked) = absurd (false≢true (sym unmarked.0 ∙ marked))
-      by_node (inr closed) = written (stage_in service.yard.vault.cells s) sure closed.2
+      by_node h = grind (arith, nat_tests, false≢true, marked, written)
 
       by_stand : SlotStands service.yard.shape service.yard.vault.cells service.yard.vault.dead service.yard.uses service.yard.actors p.trace s → stage_in service.yard.vault.cells s ≡ Closed
       by_stand (is_node chain stage) = by_node stage
