@@ -8,9 +8,9 @@ use Rattle.lz_disk.specs.Images.{Medium}
 use Rattle.lz_allot.specs.Uses.{collect, lowest_free}
 use Rattle.lz_list.{specs.Traces.{Trace, on, chain_of, key_word, member, is_marked}, proofs.Traces.NodeBits.{node}}
 use Rattle.lz_machine.specs.{declared.{actor.Hold.TheVariants.{Nothing}, caller.Progress.{Progress, TheVariants.{Reserving}}}, Yards.{Yard, actor_in}}
-use Rattle.lz_machine.specs.{Alone.{IsOwn, IsAlone, FullOfOnePass}, Runs.{Start, IsStart, Caller, Service, State, Up, Down, Transition, Calls, Turn, Fails}}
-use Rattle.lz_machine.specs.Runs.{Looks, CrashesIn, MayStep, HasTurn, HasFault, LeftInside, IsRun, run, first_point, caller_at, start_keys, shape_of}
-use Rattle.lz_machine.{specs.{Notes.{Notes}, CallersSound.{IsAdder, view_of, Relies}, Sound.{Sound, PointSound}}, proofs.Frames.ActorTable.{by_actor}}
+use Rattle.lz_machine.specs.{Alone.{IsOwn, IsAlone, FullOfOnePass}, Runs.{Start, IsStart, Caller, Service, State, Up, Transition, MayStep, HasTurn, HasFault}}
+use Rattle.lz_machine.specs.{Runs.{LeftInside, IsRun, run, first_point, caller_at, start_keys, shape_of}, Notes.{Notes}}
+use Rattle.lz_machine.{specs.{CallersSound.{IsAdder, view_of, Relies}, Sound.{Sound, PointSound}}, proofs.Frames.ActorTable.{by_actor}}
 use Rattle.lz_machine.proofs.{Frames.OneActor.{caller_range, mine}, Runs.{PointParts.{point}, Shape.{run_keeps_shape}}}
 use Rattle.lz_machine.proofs.{Crash.ImageSlots.{member_node, one_node_slot}, Theorem.Reached.{reached_sound, up_at}}
 use Rattle.lz_machine.proofs.Alone.{Full.{AloneFull, LeftBelow, WalkStands, all_nodes}, Room.{FullAt, reached_full}, Size.{members_append, none_distinct}}
@@ -33,14 +33,7 @@ own_up : (service : Service) (disk : Medium) (step : Transition) → service.yar
 own_up service disk step one count may = grind (arith, nat_tests, one_turn, one_fault, one_crash)
 
 own_step : (start : Start) (w : State) (M : History) (P : Trace) (calls : ℕ) (step : Transition) → start.shape.passes ≡ 1 → MayStep w step → (L : List Life) → PointSound start (point w M P calls) L → IsOwn 1 step
-own_step start w M P calls step one may [] sound = absurd sound
-own_step start (Up service disk) M P calls step one may (life ∷ earlier) sound = grind (arith, own_up)
-own_step start (Down shape disk) M P calls (Calls b c) one may (life ∷ earlier) sound = absurd may
-own_step start (Down shape disk) M P calls (Turn b) one may (life ∷ earlier) sound = absurd may
-own_step start (Down shape disk) M P calls (Fails b new) one may (life ∷ earlier) sound = absurd may
-own_step start (Down shape disk) M P calls (Looks b) one may (life ∷ earlier) sound = absurd may
-own_step start (Down shape disk) M P calls (CrashesIn b t) one may (life ∷ earlier) sound = absurd may
-own_step start (Down shape disk) M P calls _ one may (life ∷ earlier) sound = tt
+own_step start w M P calls step one may L sound = grind (arith, nat_tests, own_up)
 
 -- so each run of one pass is its only actor's
 alone : (start : Start) (steps : List Transition) → IsStart start → start.shape.passes ≡ 1 → IsRun (first_point start) steps → IsAlone 1 steps

@@ -214,10 +214,7 @@ module _ (n calls : ℕ) (y : Yard) (callers : List (Option Caller)) (disk : Med
       ]
 
       stands : (d : Command) (b : Bool) → nat_lt p y.shape.passes ≡ b → WalkStands y P (SeeingPins p) d → WalkStands (line_on Plays y actor a (SeePin p (pin_in y.words.pins p))).0 P (if b then SeeingPins (p + 1) else Reserving true) d
-      stands (Add k) true is old = (old.0, below (p + 1) old.1 (omega arith))
-      stands (Add k) false is old = (old.0, below (suc y.shape.passes) old.1 (grind (arith, nat_tests, is)))
-      stands _ true is old = tt
-      stands _ false is old = tt
+      stands d b is old = grind (arith, nat_tests, below)
 
       go : (b : Bool) → nat_lt p y.shape.passes ≡ b → After (SeeingPins p) (SeePin p (pin_in y.words.pins p)) Plays
       go b is = subst (λ (q : Bool). AloneFull a (line_on Plays y actor a (SeePin p (pin_in y.words.pins p))).0 (Some (call_at i c (if q then SeeingPins (p + 1) else Reserving true))) P) (sym is) (record {

@@ -1,12 +1,12 @@
 -- The calls that an image puts at the end: an adding whose gate it has open before the linking, and a removing whose gate it has
 -- closed before the marking.
+use Rattle.std.proofs.lemmas.{Bool.{cases_Bool, eq-eqb, Decides.{nat_tests}}, Option.{none-some, same_Some}}
 use Rattle.std.proofs.Common.{◌≡◌, ◌⊎◌, ⊎_elim, inl, inr, ℕ, suc, ◌<◌, Bool, true, false, List, Option, Some, None, refl, sym, ap, ◌∙◌, subst, arith}
-use Rattle.std.proofs.lemmas.{Bool.{cases_Bool, eq-eqb}, Option.{none-some, same_Some}}
 use mathlib.Core.Bool.{false≢true}
 use Rattle.lz_slot.specs.declared.{command.Command.{Command, TheVariants.{Add, Remove}}, slot.SlotRead.{SlotRead, TheVariants.{Closed as Shut, Torn, Member}}}
 use Rattle.lz_slot.specs.{Sets.{key_of, moved}, Bytes.{slot_at}, Histories.{History, IsUnderWay}}
 use Rattle.lz_disk.specs.Images.{Medium, IsImage}
-use Rattle.lz_vault.specs.{declared.vault.Stage.{Stage, TheVariants.{Opening, Open}}, Stages.{MayRead, IsReadShut}}
+use Rattle.lz_vault.specs.{declared.vault.Stage.{Stage, TheVariants.{Opening}}, Stages.{MayRead, IsReadShut}}
 use Rattle.lz_list.specs.Traces.{Trace, on, chain_of, bucket_of, key_word, is_marked}
 use Rattle.lz_machine.specs.{Yards.{Yard, cell_in, stage_in}, Runs.{Caller}, Ledgers.{Row, times}, Notes.{Notes, entries}}
 use Rattle.lz_machine.{specs.{SlotsSound.{IsGateOpened, IsGateWritten, IsNodeStage}, Sound.{Sound}}, proofs.Crash.ImageSlots.{found, found_in, in_found}}
@@ -97,9 +97,7 @@ module _ (n calls : ℕ) (y : Yard) (callers : List (Option Caller)) (disk : Med
       subst (λ (q : ℕ). IsWaiting (Remove q) (entries y.shape.passes callers notes) M) (stands.0.key ∙ word) (record { number = tail.number; under_way = tail.under_way; no_row = tail.no_row })
     where
       not_opened : (stage : Stage) (key : ℕ) → is_opening stage ≡ false → MayRead y.vault.format stage key (slot_at t s) → IsGateOpened stage → ⊥
-      not_opened Opening key closed may opened = false≢true (sym closed)
-      not_opened Open key closed may opened = not_both key (slot_at t s) shut may
-      not_opened _ key closed may opened = grind (arith, opened)
+      not_opened stage key closed may opened = grind (arith, nat_tests, false≢true, not_both, shut)
 
       written : IsNodeStage y.vault.cells y.vault.dead y.actors P s → IsGateWritten (stage_in y.vault.cells s)
       written (inl opened) = absurd (not_opened (stage_in y.vault.cells s) (cell_in y.vault.cells s).key not_opening (reads n calls y callers disk M P notes sound t image s lt) opened.1)

@@ -1,21 +1,20 @@
 -- What a caller relies on stays when another actor publishes.
 use Rattle.std.proofs.lemmas.Bool.{cases_Bool, Decides.{nat_tests, eqb_tells}}
-use Rattle.std.proofs.Common.{List, ◌≡◌, ◌⊎◌, inl, inr, ℕ, zero, suc, Bool, true, false, ◌∷◌, Option, Some, None, refl, ap, ◌∙◌, subst, arith}
+use Rattle.std.proofs.Common.{List, ◌≡◌, ◌⊎◌, inl, inr, ℕ, suc, Bool, true, false, ◌∷◌, Option, Some, None, refl, ap, ◌∙◌, subst, arith}
 use Rattle.lz_vault.specs.Stages.{Cell}
 use mathlib.Core.Bool.{false≢true}
-use Rattle.lz_slot.specs.{declared.{format.Format.{Format}, command.Command.{Command, TheVariants.{Add, Remove, Has}}}, Sets.{key_of}}
+use Rattle.lz_slot.specs.declared.{format.Format.{Format}, command.Command.{Command, TheVariants.{Add, Remove}}}
 use Rattle.lz_list.specs.declared.{place.Place.{Place}, publishing.Publishing.{Publishing, TheVariants.{Halted as halted}}, walk.Look.{Look}}
 use Rattle.lz_list.specs.{declared.walk.Look.TheVariants.{AtHead, AtKey, AtMet, AtBelow}, Words.{place_number, link_to}}
 use Rattle.lz_list.specs.Traces.{Trace, Lawful, Adjacent, on, chain, chain_of, bucket_of, key_word, linking, linking_in, is_removed, halt_word, rank_at}
 use Rattle.lz_list.{specs.{Pinned.{Stood, IsKept, IsQuiet}, Laws.{IsHigh}}, proofs.Chains.{PlaceRank.{adjacent_on, has_on}, TraceChain.{words_show_chain}}}
 use Rattle.lz_list.proofs.Traces.{Absence.{begins_itself}, Hindsight.{key_stays, once_weaker, next_stood}, WalkEnd.{mark_stays, linking_stays, removed_later}}
-use Rattle.lz_machine.specs.declared.event.Reply.{Reply, TheVariants.{Yes, No, Full, Worn as SaysWorn, OldFile as SaysOldFile, Halted, Device}}
-use Rattle.lz_machine.specs.declared.{actor.{Actor.{Actor}, Hold.{Hold, TheVariants.{Nothing, Checked, GateClosed, Marked}}}, caller.Sequence.{Sequence}}
-use Rattle.lz_machine.specs.declared.caller.Progress.{Progress, TheVariants.{Playing, LoadsHalt, Walking, Reserving, SeeingPins, Claiming, Checking, Answering}}
-use Rattle.lz_machine.specs.{Runs.{Caller}, Stands.{IsWalking, WasBetween}, Yards.{IsInside}, CallersSound.{View, IsWritten, IsAimed, IsBeyond, HasEnded}}
-use Rattle.lz_machine.specs.CallersSound.{IsLooking, IsSince, RestsYes, RestsNo, WasAbsent, IsSettledChange, MayAnswer, HasAdded, HasMarked, MayRest}
-use Rattle.lz_machine.specs.CallersSound.{IsEmptyHanded, ReliesWriting, ReliesAdding, ReliesRemoving, ReliesOn, Relies, IsCaller, CallerSound, is_before_pin}
-use Rattle.lz_machine.{specs.SlotsSound.{shuts}, proofs.{Ledger.Growth.{upto_more, yes_stays, no_stays}, Frames.Outside.{side_even}}}
+use Rattle.lz_machine.specs.declared.{event.Reply.{Reply}, actor.{Actor.{Actor}, Hold.{Hold, TheVariants.{Nothing, Checked, GateClosed, Marked}}}}
+use Rattle.lz_machine.specs.{declared.caller.{Sequence.{Sequence}, Progress.{Progress}}, Runs.{Caller}, Stands.{IsWalking, WasBetween}, Yards.{IsInside}}
+use Rattle.lz_machine.specs.CallersSound.{View, IsWritten, IsAimed, IsBeyond, HasEnded, IsLooking, IsSince, RestsYes, RestsNo, WasAbsent, IsSettledChange}
+use Rattle.lz_machine.specs.CallersSound.{MayAnswer, HasAdded, HasMarked, MayRest, IsEmptyHanded, ReliesWriting, ReliesAdding, ReliesRemoving, ReliesOn, Relies}
+use Rattle.lz_machine.{specs.{CallersSound.{IsCaller, CallerSound, is_before_pin}, SlotsSound.{shuts}}, proofs.Ledger.Growth.{upto_more, yes_stays, no_stays}}
+use Rattle.lz_machine.proofs.Frames.Outside.{side_even}
 
 pub halt_stays : (e : Publishing) (P : Trace) → halt_word P ≡ 1 → halt_word (e ∷ P) ≡ 1
 halt_stays halted P is = refl
@@ -107,16 +106,7 @@ module _ (buckets slots : ℕ) (e : Publishing) (P : Trace) (law : Lawful bucket
   change_stays k changed h = grind (arith, upto_more, yes_stays, no_stays)
 
   answer_stays : (c : Command) (reply : Reply) (P0 : Trace) (changed : Option ℕ) → MayAnswer c reply P0 P changed → MayAnswer c reply P0 (e ∷ P) changed
-  answer_stays (Has k) Yes P0 changed h = (h.0, rests_yes_stays k P0 h.1)
-  answer_stays (Has k) No P0 changed h = (h.0, rests_no_stays k P0 h.1)
-  answer_stays (Add k) Yes P0 changed h = change_stays k changed h
-  answer_stays (Add k) No P0 changed h = (h.0, rests_yes_stays k P0 h.1)
-  answer_stays (Remove k) Yes P0 changed h = change_stays k changed h
-  answer_stays (Remove k) No P0 changed h = (h.0, rests_no_stays k P0 h.1)
-  answer_stays _ Halted P0 changed h = halt_stays e P h
-  answer_stays _ Device P0 changed h = halt_stays e P h
-  answer_stays c (Full counts) P0 changed h = (h.0, absent_stays (key_of c) P0 h.1, h.2)
-  answer_stays _ _ _ changed h = h
+  answer_stays c reply P0 changed h = grind (arith, nat_tests, rests_yes_stays, rests_no_stays, change_stays, halt_stays, absent_stays)
 
   idle_stays : (actor : Actor) → IsEmptyHanded actor P → IsEmptyHanded actor (e ∷ P)
   idle_stays actor h = grind (arith, nat_tests, halt_stays)
@@ -157,39 +147,17 @@ module _ (buckets slots : ℕ) (e : Publishing) (P : Trace) (law : Lawful bucket
     removed_stays k t is at key removed = grind (arith, node_there, key_linking, removed_later, begins_itself)
 
     removing_stays : (k s i : ℕ) → actor.curr ≡ Some s → ReliesRemoving v k s i P changed → ReliesRemoving v k s i (e ∷ P) changed
-    removing_stays k s zero is h = (h.0, node_word_stays s k is Checked h.0 refl h.1, h.2)
-    removing_stays k s (suc zero) is h = (h.0, node_word_stays s k is GateClosed h.0 refl h.1, h.2)
-    removing_stays k s (suc (suc (suc (suc zero)))) is h = grind (arith, node_word_stays, removed_stays, change_stays)
-    removing_stays k s (suc (suc (suc (suc (suc zero))))) is h = (h.0, change_stays k changed h.1)
-    removing_stays k s (suc (suc (suc (suc (suc (suc zero)))))) is h = (h.0, change_stays k changed h.1)
-    removing_stays k s (suc (suc (suc (suc (suc (suc (suc i))))))) is h = absurd h
-    removing_stays k s _ is h = (h.0, marked_stays k s is h.0 h.1)
+    removing_stays k s i is h = grind (arith, nat_tests, node_word_stays, removed_stays, change_stays, marked_stays)
 
     module _ (inside : IsInside pin) (quiet : IsQuiet buckets P0 P) where
       adding_stays : (k s i : ℕ) → ReliesAdding v k s i P0 P changed → ReliesAdding v k s i P0 (e ∷ P) changed
-      adding_stays k s zero h = (h.0, written_stays k s h.1, h.2)
-      adding_stays k s (suc zero) h = (h.0, h.1, leaves.word s h.1 ∙ h.2, h.3)
-      adding_stays k s (suc (suc (suc (suc (suc i))))) h = absurd h
-      adding_stays k s _ h = (h.0, added_stays P0 (leaves.kept inside) quiet k s changed h.1)
+      adding_stays k s i h = grind (arith, nat_tests, written_stays, added_stays)
 
       on_stays : (c : Command) (sequence : Sequence) (i : ℕ) → ReliesOn v c sequence i P0 P changed → ReliesOn v c sequence i P0 (e ∷ P) changed
       on_stays c sequence i h = grind (arith, nat_tests, idle_stays, rest_stays, writing_stays, adding_stays, removing_stays, aimed_stays)
 
       relies_stays : (c : Command) (at : Progress) → Relies v c at P0 P changed → Relies v c at P0 (e ∷ P) changed
-      relies_stays c (Playing sequence i) h = on_stays c sequence i h
-      relies_stays c LoadsHalt h = (idle_stays actor h.0, h.1)
-      relies_stays c (Walking aim look) h = (h.0, aimed_stays (key_of c) aim h.1, looking_stays P0 (leaves.kept inside) quiet (key_of c) look h.2, h.3)
-      relies_stays c (Reserving again) h = (h.0, h.1, h.2, absent_stays (key_of c) P0 h.3)
-      relies_stays c (SeeingPins p) h = (h.0, h.1, h.2, h.3, h.4, absent_stays (key_of c) P0 h.5)
-      relies_stays c (Claiming aim pred curr) h = (h.0, aimed_stays (key_of c) aim h.1, ended_stays P0 (leaves.kept inside) quiet c aim pred curr h.2)
-      relies_stays c (Checking aim curr) h = (h.0, h.1, h.2, aimed_stays (key_of c) aim h.3, ended_stays P0 (leaves.kept inside) quiet c aim actor.pred curr h.4)
-      relies_stays c (Answering SaysWorn) h = (idle_stays actor h.0, h.1, h.2)
-      relies_stays c (Answering SaysOldFile) h = (idle_stays actor h.0, h.1, h.2, h.3)
-      relies_stays c (Answering Yes) h = (answer_stays c Yes P0 changed h.0, let_go actor.hold h.1)
-      relies_stays c (Answering No) h = (answer_stays c No P0 changed h.0, let_go actor.hold h.1)
-      relies_stays c (Answering (Full counts)) h = (answer_stays c (Full counts) P0 changed h.0, let_go actor.hold h.1)
-      relies_stays c (Answering Halted) h = (answer_stays c Halted P0 changed h.0, let_go actor.hold h.1)
-      relies_stays c (Answering Device) h = (answer_stays c Device P0 changed h.0, let_go actor.hold h.1)
+      relies_stays c at h = grind (arith, nat_tests, on_stays, idle_stays, aimed_stays, looking_stays, absent_stays, ended_stays, answer_stays, let_go)
 
     -- a call whose pass is outside has nothing but what it keeps while idle
     outside_stays : (c : Command) (at : Progress) → is_before_pin at ≡ true → Relies v c at P0 P changed → Relies v c at P0 (e ∷ P) changed

@@ -2,17 +2,15 @@
 use Rattle.std.proofs.Common.{◌≡◌, ◌⊎◌, ⊎_elim, inl, inr, ℕ, ◌≤◌, Bool, true, false, List, [], ◌∷◌, ◌++◌, length, Option, Some, None, refl, sym, ap, ◌∙◌, subst}
 use Rattle.std.proofs.{Common.{arith}, lemmas.Bool.Decides.{nat_tests}}
 use mathlib.Core.Bool.{false≢true}
-use Rattle.lz_slot.specs.declared.{command.Command.{Command, TheVariants.{Add, Remove, Has}}, history.Mark.{Mark, TheVariants.{Answer, Refused, Cut}}}
-use Rattle.lz_slot.specs.declared.history.Refusal.{Refusal, TheVariants.{Full as refused_full, Worn as refused_worn, OldFile as refused_old_file}}
-use Rattle.lz_slot.specs.{declared.history.Cut.{Cut as CutWhy, TheVariants.{Halted as cut_halted, Device as cut_device}}, Sets.{key_of, reply, moved}}
-use Rattle.lz_slot.specs.Histories.{History}
+use Rattle.lz_slot.specs.declared.{command.Command.{Command, TheVariants.{Add, Remove}}, history.Mark.{Mark, TheVariants.{Answer, Refused, Cut}}}
+use Rattle.lz_slot.specs.{declared.history.{Refusal.{Refusal}, Cut.{Cut as CutWhy}}, Sets.{key_of, reply, moved}, Histories.{History}}
 use Rattle.lz_list.specs.Traces.{Trace, Begins, SettledYes, SettledNo}
-use Rattle.lz_machine.specs.declared.event.Reply.{Reply, TheVariants.{Yes, No, Full, Worn as SaysWorn, OldFile as SaysOldFile, Halted, Device}}
-use Rattle.lz_machine.specs.{declared.caller.Progress.TheVariants.{Answering}, Runs.{Caller, caller_at, mark_of}, Ledgers.{Row, HasRow, times}}
-use Rattle.lz_machine.specs.{Kept.{upto, IsRowOf}, Entries.{IsRowIn, IsSettledEntry}, Notes.{Notes, pending_row, entries}, Yards.{IsInside, pin_in}}
-use Rattle.lz_machine.specs.{CallersSound.{RestsYes, RestsNo, IsSettledChange, MayAnswer, is_before_pin}, LedgerSound.{LedgerSound, may_have_tail}}
-use Rattle.lz_machine.{specs.Sound.{IsAfter}, proofs.Ledger.{Fit.{each_has}, Order.{has_left}, Parts.{ending, ends_now}}}
-use Rattle.lz_machine.proofs.{Ledger.End.{EndsCall, IsLast, ledger_quiet, ledger_moved, pend_listed}, Frames.Limbo.{shorter}, Steps.Hop.{call_at}}
+use Rattle.lz_machine.specs.{declared.{event.Reply.{Reply}, caller.Progress.TheVariants.{Answering}}, Runs.{Caller, caller_at, mark_of}}
+use Rattle.lz_machine.specs.{Ledgers.{Row, HasRow, times}, Kept.{upto, IsRowOf}, Entries.{IsRowIn, IsSettledEntry}, Notes.{Notes, pending_row, entries}}
+use Rattle.lz_machine.specs.{Yards.{IsInside, pin_in}, CallersSound.{RestsYes, RestsNo, IsSettledChange, MayAnswer, is_before_pin}}
+use Rattle.lz_machine.{specs.{LedgerSound.{LedgerSound, may_have_tail}, Sound.{IsAfter}}, proofs.Ledger.{Fit.{each_has}, Order.{has_left}}}
+use Rattle.lz_machine.proofs.{Ledger.{Parts.{ending, ends_now}, End.{EndsCall, IsLast, ledger_quiet, ledger_moved, pend_listed}}, Frames.Limbo.{shorter}}
+use Rattle.lz_machine.proofs.Steps.Hop.{call_at}
 
 -- the beginning of that length
 pub upto_is : (R P : Trace) → Begins R P → upto (length R) P ≡ R
@@ -206,19 +204,4 @@ module _ (n calls passes : ℕ) (callers : List (Option Caller)) (P : Trace) (M 
 
   -- a call whose pass is inside, or that was refused outside
   pub ends : (c : Command) (says : Reply) (at : caller_at callers a ≡ Some (call_at i c (Answering says))) → (is_before_pin (Answering says) ≡ true) ⊎ (IsInside (pin_in pins a) × (n ≤ length (notes.begun a))) → MayAnswer c says (notes.begun a) P (notes.changed a) → EndsSo c says at
-  ends (Has k) Yes at (inr h) may = rests_yes n calls passes callers P M notes a i (Has k) Yes at le sound pins after true refl refl refl h.0 h.1 may.0 may.1
-  ends (Has k) No at (inr h) may = rests_no n calls passes callers P M notes a i (Has k) No at le sound pins after false refl refl refl h.0 h.1 may.0 may.1
-  ends (Add k) Yes at (inr h) may = changed_row n calls passes callers P M notes a i (Add k) Yes at le sound pins after refl may
-  ends (Add k) No at (inr h) may = rests_yes n calls passes callers P M notes a i (Add k) No at le sound pins after false refl (moved_yes k) refl h.0 h.1 may.0 may.1
-  ends (Remove k) Yes at (inr h) may = changed_row n calls passes callers P M notes a i (Remove k) Yes at le sound pins after refl may
-  ends (Remove k) No at (inr h) may = rests_no n calls passes callers P M notes a i (Remove k) No at le sound pins after false refl (moved_no k) refl h.0 h.1 may.0 may.1
-  ends (Has k) SaysWorn at h may = refused_row n calls passes callers P M notes a i (Has k) SaysWorn at le sound pins after refused_worn refl may
-  ends (Has k) SaysOldFile at h may = refused_row n calls passes callers P M notes a i (Has k) SaysOldFile at le sound pins after refused_old_file refl may
-  ends (Add k) SaysWorn at h may = refused_row n calls passes callers P M notes a i (Add k) SaysWorn at le sound pins after refused_worn refl may
-  ends (Add k) SaysOldFile at h may = refused_row n calls passes callers P M notes a i (Add k) SaysOldFile at le sound pins after refused_old_file refl may
-  ends (Remove k) SaysWorn at h may = refused_row n calls passes callers P M notes a i (Remove k) SaysWorn at le sound pins after refused_worn refl may
-  ends (Remove k) SaysOldFile at h may = refused_row n calls passes callers P M notes a i (Remove k) SaysOldFile at le sound pins after refused_old_file refl may
-  ends c Halted at h may = cut_row n calls passes callers P M notes a i c Halted at le sound pins after cut_halted
-  ends c Device at h may = cut_row n calls passes callers P M notes a i c Device at le sound pins after cut_device
-  ends _ _ at (inl e) may = absurd (false≢true e)
-  ends c (Full counts) at h may = refused_row n calls passes callers P M notes a i c (Full counts) at le sound pins after refused_full refl may.0
+  ends c says = grind (arith, nat_tests, rests_yes, rests_no, changed_row, moved_yes, moved_no, refused_row, cut_row, false≢true)

@@ -1,14 +1,14 @@
 -- The next event of a caller is an event of its yard: its slots, words and passes are the yard's.
-use Rattle.std.proofs.Common.{◌≡◌, ℕ, zero, suc, ◌<◌, Bool, true, false, List, length, Option, Some, None, refl, sym, subst, arith}
+use Rattle.std.proofs.{lemmas.Bool.Decides.{nat_tests}, Common.{◌≡◌, ℕ, zero, suc, ◌<◌, Bool, false, List, length, Option, Some, None, refl, sym, subst, arith}}
 use Rattle.lz_slot.specs.{declared.command.Command.{Command, TheVariants.{Add, Remove, Has}}, Sets.{key_of}, Histories.{History}}
 use Rattle.lz_disk.specs.Images.{Medium}
 use Rattle.lz_list.specs.declared.{place.Place.{Place, TheVariants.{Bucket, Node}}, walk.Look.{Look, TheVariants.{AtHead, AtKey, AtMet, AtBelow}}}
 use Rattle.lz_list.specs.{Words.{Words, place_number, link_to}, Walks.{wants}, Lists.{IsWord, IsPlace}, Traces.{Trace, bucket_of}, Pinned.{Stood}}
 use Rattle.lz_list.proofs.Traces.Hindsight.{lawful_begins}
-use Rattle.lz_machine.specs.declared.{actor.Hold.TheVariants.{Marked}, event.{Event.{Event, TheVariants.{Invoke}}, Reply.{Reply, TheVariants.{Yes, No}}}}
-use Rattle.lz_machine.specs.declared.caller.Sequence.{Sequence, TheVariants.{Pinning, Resting, Writing, Adding, Removing, Releasing, Halting}}
-use Rattle.lz_machine.specs.{declared.caller.Progress.{Progress, TheVariants.{Playing, Walking, SeeingPins, Claiming}}, Yards.{Yard, actor_in}}
-use Rattle.lz_machine.specs.{Calls.{event_at, loaded}, Runs.{Caller, with_words, next_event, MayPlay}, Stands.{InBucket, WasBetween}, Notes.{Notes}}
+use Rattle.lz_machine.specs.declared.{actor.Hold.TheVariants.{Marked}, event.{Event.{Event, TheVariants.{Invoke}}, Reply.{Reply}}, caller.Sequence.{Sequence}}
+use Rattle.lz_machine.specs.declared.caller.{Sequence.TheVariants.{Pinning, Resting, Writing, Adding, Removing, Releasing, Halting}, Progress.{Progress}}
+use Rattle.lz_machine.specs.{declared.caller.Progress.TheVariants.{Playing, Claiming}, Yards.{Yard, actor_in}, Calls.{event_at, loaded}}
+use Rattle.lz_machine.specs.{Runs.{Caller, with_words, next_event, MayPlay}, Stands.{InBucket, WasBetween}, Notes.{Notes}}
 use Rattle.lz_machine.specs.{CallersSound.{View, view_of, HasMet, MayRest, IsLooking, Relies}, Sound.{Sound}, Ready.{IsEventOf}}
 use Rattle.lz_machine.proofs.Frames.{OneActor.{mine}, Ranges.{on_range, stood_range, few_slots}, OtherCallers.{held_node}, LoadedWord.{bucket_range}}
 use Rattle.lz_machine.proofs.{Steps.Claim.{ended_between, pred_was, node_was}, Theorem.ShownChains.{heads_are, links_are, keys_are, is_curr}}
@@ -67,11 +67,7 @@ module _ (n calls : ℕ) (y : Yard) (callers : List (Option Caller)) (disk : Med
       met k mark g = stood_range y.shape.buckets y.shape.slots P0 g.then (bucket_of y.shape.buckets k) s (lawful_begins y.shape.buckets y.shape.slots g.then P g.since.upto sound.trace.lawful) g.stood
 
       go : (d : Command) (reply : Reply) → MayRest y.shape.buckets d reply s P0 P → s < y.shape.slots
-      go (Has k) Yes g = met k false g
-      go (Has k) No g = met k true g
-      go (Add k) No g = met k false g
-      go (Remove k) No g = met k true g
-      go _ _ g = absurd g
+      go d reply g = grind (arith, nat_tests, met)
 
   -- the node that a removing has marked
   marked_lt : (s : ℕ) → (actor_in y.actors a).curr ≡ Some s → (actor_in y.actors a).hold ≡ Marked → s < y.shape.slots
@@ -81,12 +77,7 @@ module _ (n calls : ℕ) (y : Yard) (callers : List (Option Caller)) (disk : Med
   AsksIn d sequence i = Relies v d (Playing sequence i) P0 P (notes.changed a) → IsEventOf z (loaded y.words (event_at y.shape d (Playing sequence i)))
 
   adds : (d : Command) (s i : ℕ) → AsksIn d (Adding s) i
-  adds (Add k) s (suc (suc (suc zero))) h = stood_lt k s h.1.stood
-  adds (Add k) s (suc (suc (suc (suc zero)))) h = stood_lt k s h.1.stood
-  adds (Add k) s (suc (suc (suc (suc (suc i))))) h = absurd h
-  adds (Remove k) s i h = absurd h
-  adds (Has k) s i h = absurd h
-  adds _ s _ h = tt
+  adds d s i h = grind (arith, nat_tests, stood_lt)
 
   removes : (d : Command) (s i : ℕ) → AsksIn d (Removing s) i
   removes (Remove k) s (suc (suc zero)) h = marked_lt s h.0 h.2.0
@@ -110,11 +101,7 @@ module _ (n calls : ℕ) (y : Yard) (callers : List (Option Caller)) (disk : Med
 
   -- by how far the call has come
   pub asks : (at : Progress) → Relies v c at P0 P (notes.changed a) → Asks at
-  asks (Playing sequence i) h = asks_in sequence i h
-  asks (Walking aim look) h = looks look h.2
-  asks (SeeingPins p) h = (h.2, h.3)
-  asks (Claiming aim pred curr) h = claims pred curr (ended_between c aim y.shape.buckets P0 P pred curr h.2)
-  asks _ h = tt
+  asks at h = grind (arith, nat_tests, asks_in, looks, claims, ended_between)
 
 module _ (y : Yard) (honest : Bool) (disk : Medium) (a : ℕ) (e : Event) (may : MayPlay y honest disk a e) (other : is_invoke e ≡ false) where
   next_asks : IsEventOf y e

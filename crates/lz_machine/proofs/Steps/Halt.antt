@@ -1,15 +1,14 @@
 -- Halt keeps the invariant.
-use Rattle.std.proofs.Common.{◌≡◌, ℕ, true, List, ◌∷◌, Option, Some, refl, arith}
+use Rattle.std.proofs.{lemmas.Bool.Decides.{nat_tests}, Common.{◌≡◌, ℕ, true, List, ◌∷◌, Option, Some, refl, arith}}
 use Rattle.lz_slot.specs.{declared.command.Command.{Command}, Histories.{History}}
 use Rattle.lz_disk.specs.Images.{Medium}
 use Rattle.lz_list.specs.{declared.publishing.Publishing.TheVariants.{Halted as halted}, Words.{Words}, Traces.{Trace}}
-use Rattle.lz_machine.specs.declared.event.{Event.TheVariants.{Halt}, Outcome.TheVariants.{Done}, Reply.{Reply, TheVariants.{Halted, Device}}}
-use Rattle.lz_machine.specs.declared.caller.{Sequence.TheVariants.{Halting}, Progress.TheVariants.{Playing, Answering}}
-use Rattle.lz_machine.specs.{Yards.{Yard, Shape, actor_at, actor_in}, Table.{yard_done}, Calls.{progress_after}, Runs.{Caller, caller_at}, Notes.{Notes}}
-use Rattle.lz_machine.specs.{CallersSound.{view_of, IsCut}, Sound.{TraceSound, Sound}, SlotsSound.{SlotsSound}, LedgerSound.{may_have_tail}}
-use Rattle.lz_machine.proofs.Frames.{ChainSlots.{reuse_published}, OneActor.{moving}, OtherCallers.{callers_stay}, KeptSlots.{slots_published}}
-use Rattle.lz_machine.proofs.{Frames.HeldLocks.{halted_leaves, locks_published}, Ledger.QuietPublishing.{ledger_published}, Steps.Walk.{GoesOn}}
-use Rattle.lz_machine.proofs.Steps.Hop.{call_at, own, goes_on_keeps}
+use Rattle.lz_machine.specs.declared.{event.{Event.TheVariants.{Halt}, Outcome.TheVariants.{Done}, Reply.{Reply}}, caller.Sequence.TheVariants.{Halting}}
+use Rattle.lz_machine.specs.{declared.caller.Progress.TheVariants.{Playing, Answering}, Yards.{Yard, Shape, actor_at, actor_in}, Table.{yard_done}}
+use Rattle.lz_machine.specs.{Calls.{progress_after}, Runs.{Caller, caller_at}, Notes.{Notes}, CallersSound.{view_of, IsCut}, Sound.{TraceSound, Sound}}
+use Rattle.lz_machine.{specs.{SlotsSound.{SlotsSound}, LedgerSound.{may_have_tail}}, proofs.Frames.{ChainSlots.{reuse_published}, OneActor.{moving}}}
+use Rattle.lz_machine.proofs.Frames.{OtherCallers.{callers_stay}, KeptSlots.{slots_published}, HeldLocks.{halted_leaves, locks_published}}
+use Rattle.lz_machine.proofs.{Ledger.QuietPublishing.{ledger_published}, Steps.{Walk.{GoesOn}, Hop.{call_at, own, goes_on_keeps}}}
 
 pub trace_halted : (shape : Shape) (words : Words) (P : Trace) → TraceSound shape words P → TraceSound shape (record { heads = words.heads; links = words.links; keys = words.keys; pins = words.pins; halt = 1 }) (halted ∷ P)
 trace_halted shape words P h = record { lawful = (tt, h.lawful); some = h.some; small = h.small; heads = h.heads; links = h.links; keys = h.keys; halt = refl; pins = h.pins }
@@ -36,9 +35,7 @@ module _ (n calls : ℕ) (y : Yard) (callers : List (Option Caller)) (disk : Med
   cut_answers c reply a cut = grind arith
 
   cut_tail : (reply : Reply) → IsCut reply → may_have_tail (Answering reply) ≡ true
-  cut_tail Halted cut = refl
-  cut_tail Device cut = refl
-  cut_tail _ cut = absurd cut
+  cut_tail reply cut = grind (arith, nat_tests)
 
   pub halt_keeps : (a i : ℕ) (c : Command) (reply : Reply) → caller_at callers a ≡ Some (call_at i c (Playing (Halting reply) 0))
       → Sound n calls (yard_done y (actor_at y a) a Halt) (moving callers a (call_at i c (Playing (Halting reply) 0)) (progress_after y.shape c (Playing (Halting reply) 0) Done)) disk M (halted ∷ P) notes

@@ -5,8 +5,8 @@ use mathlib.Core.Bool.{false≢true}
 use Rattle.lz_slot.specs.{declared.command.Command.{Command, TheVariants.{Add, Remove, Has}}, Histories.{History}}
 use Rattle.lz_disk.specs.Images.{Medium}
 use Rattle.lz_vault.specs.{declared.vault.Stage.{Stage, TheVariants.{Closed, Open}}, Stages.{is_covered}}
-use Rattle.lz_list.specs.{declared.publishing.{Change.{Change, TheVariants.{Added, Removed}}, Publishing.TheVariants.{Settled as settled}}, Traces.{Trace}}
-use Rattle.lz_list.specs.Traces.{Begins, IsLoose, on, chain_of, bucket_of, key_word, linking, linking_in, is_settled, is_removed, is_marked, member, SettledNo}
+use Rattle.lz_list.specs.declared.publishing.{Change.{Change, TheVariants.{Added, Removed}}, Publishing.TheVariants.{Settled as settled}}
+use Rattle.lz_list.specs.Traces.{Trace, Begins, IsLoose, on, chain_of, bucket_of, key_word, linking, linking_in, is_settled, is_removed, is_marked, SettledNo}
 use Rattle.lz_list.{specs.Pinned.{Stood, IsQuiet}, proofs.Traces.{NodeBits.{node}, Hindsight.{lawful_begins, quiet_begins}}}
 use Rattle.lz_list.proofs.Traces.WalkEnd.{linking_since, marked_rests, unmarked_rests, mark_stays, begins_before}
 use Rattle.lz_machine.specs.declared.event.{Event.TheVariants.{Settle}, Outcome.{Outcome, TheVariants.{Done, Early}}, Reply.{Reply, TheVariants.{Yes, No}}}
@@ -57,9 +57,7 @@ module _ (n calls : ℕ) (y : Yard) (callers : List (Option Caller)) (disk : Med
 
   -- a marked one is settled as removed
   marked_change : is_sure y s ≡ true → is_marked s P ≡ true → (IsOnChain y.shape y.vault.cells y.uses P s × IsNodeStage y.vault.cells y.vault.dead y.actors P s) ⊎ (stage_in y.vault.cells s ≡ Closed) → stage_in y.vault.cells s ≡ Closed
-  marked_change sure mark (inr closed) = closed
-  marked_change sure mark (inl (chain, inl stage)) = absurd (false≢true (sym stage.0 ∙ mark))
-  marked_change sure mark (inl (chain, inr stage)) = written_sure (stage_in y.vault.cells s) stage.2 sure
+  marked_change sure mark h = grind (arith, nat_tests, false≢true, written_sure)
 
   -- a turn that settles this change
   settles : (i : ℕ) (c : Command) (at next : Progress) → caller_at callers a ≡ Some (call_at i c at) → is_before_pin at ≡ false → KeepsTail (notes.changed a) at next
@@ -100,18 +98,7 @@ module _ (n calls : ℕ) (y : Yard) (callers : List (Option Caller)) (disk : Med
   ]
     where
       added_settled : (j : ℕ) (c : Change) → HasAdded y.shape.buckets j s (notes.begun a) P (notes.changed a) → IsSettledChange j (settled s c ∷ P) (notes.changed a)
-      added_settled j c h =
-          let more = upto_more (suc h.at) (settled s c) P (omega (arith, h.within)) in
-          record {
-            at = h.at;
-            is = h.is;
-            within = omega (arith, h.within);
-            settled = inl (record {
-              begins = upto_begins (suc h.at) (settled s c ∷ P);
-              member = ap (λ (R : Trace). member j R) more ∙ h.is_member;
-              settled = ap (λ (R : Trace). is_settled (linking j R) (settled s c ∷ P)) more ∙ ap (λ (m : ℕ). is_settled m (settled s c ∷ P)) h.named ∙ flag_settled s (suc h.at) c P h.in_slot;
-            });
-          }
+      added_settled j c h = grind (arith, nat_tests, upto_more, upto_begins, flag_settled)
 
   -- a remover's node: it is marked, and its locks keep it on the chain
   pub settle_marked_keeps : (i k : ℕ) → caller_at callers a ≡ Some (call_at i (Remove k) (Playing (Removing s) 3)) → then i (Remove k) (Playing (Removing s) 3) (outcome_of y (actor_at y a) (Settle s))

@@ -9,9 +9,9 @@ use Rattle.lz_list.specs.Traces.{Trace}
 use Rattle.lz_machine.specs.declared.{course.Course.{Course}, event.{Event.{Event, TheVariants.{Answer}}, Outcome.{Outcome, TheVariants.{NotNow, Fault}}}}
 use Rattle.lz_machine.specs.{declared.{event.Reply.{Reply}, caller.Progress.{Progress, TheVariants.{Answering}}}, Yards.{Shape, Yard, actor_at}}
 use Rattle.lz_machine.specs.{Table.{pin_of, course, line_on, line}, Calls.{progress_after}, Points.{IsBetweenLooks, IsReached}, Runs.{Start, State, Up, Down}}
-use Rattle.lz_machine.specs.Runs.{Point, Transition, Calls, Turn, Fails, Looks, Trips, Opens, OpenFails, Service, Caller, caller_at, next_event, reply_at}
-use Rattle.lz_machine.specs.{Runs.{moved_on, state_after, after_turn, after_fault, HasTurn, HasFault, MayStep, invoked}, Notes.{Notes}, Sound.{Sound, IsSound}}
-use Rattle.lz_machine.proofs.{Steps.Hop.{call_at}, Frames.{ActorTable.{by_actor}, OneActor.{caller_range}, Outside.{answered_pin, answered_even, outside_even}}}
+use Rattle.lz_machine.specs.Runs.{Point, Transition, Looks, Service, Caller, caller_at, next_event, reply_at, moved_on, state_after, after_turn, after_fault}
+use Rattle.lz_machine.{specs.{Runs.{HasTurn, HasFault, MayStep}, Notes.{Notes}, Sound.{Sound, IsSound}}, proofs.Steps.Hop.{call_at}}
+use Rattle.lz_machine.proofs.Frames.{ActorTable.{by_actor}, OneActor.{caller_range}, Outside.{answered_pin, answered_even, outside_even}}
 use Rattle.lz_machine.proofs.{Open.FoundSlots.{pass_of}, Runs.{CallerTable.{fault_no_reply}, Course.{answer_plays}}, Alone.Frame.{pins_other}}
 use Rattle.lz_machine.proofs.Theorem.Reached.{reached_sound, up_at}
 
@@ -72,14 +72,7 @@ module _ (n calls : ℕ) (y : Yard) (callers : List (Option Caller)) (disk : Med
       (subst (λ (r : Option Reply). IsQuietAt (moved_on r caller next) (pin_of y a)) (sym (fault_no_reply y a caller.command caller.progress disk new may)) (λ none. absurd (false≢true (sym none)))) (λ b other. refl)
 
   up_quiet : (i : ℕ) (step : Transition) → MayStep (Up serving disk) step → is_look step ≡ false → IsBetweenLooks (state_after i (Up serving disk) step)
-  up_quiet i (Calls a c) may other = changes_one a _ (invoked y a c) may.0.0 (omega (arith, may.0.1, sound.callers.count)) (λ none. absurd (false≢true (sym none))) (λ b other. refl)
-  up_quiet i (Turn a) may other = turn_quiet a (caller_at callers a) refl may
-  up_quiet i (Fails a new) may other = fault_quiet new a (caller_at callers a) refl may
-  up_quiet i (Looks a) may other = absurd (false≢true (sym other))
-  up_quiet i Trips may other = quiet
-  up_quiet i Opens may other = absurd may
-  up_quiet i (OpenFails why done) may other = absurd may
-  up_quiet i _ may other = tt
+  up_quiet i step may other = grind (arith, nat_tests, changes_one, false≢true, turn_quiet, fault_quiet)
 
 down_quiet : (i : ℕ) (shape : Shape) (disk : Medium) (step : Transition) → MayStep (Down shape disk) step → IsBetweenLooks (state_after i (Down shape disk) step)
 down_quiet i shape disk step may = grind (arith, nat_tests, pass_of)

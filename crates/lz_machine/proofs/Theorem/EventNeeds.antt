@@ -1,8 +1,8 @@
 -- What an event of a call needs it has, and its caller may take what it gives.
-use Rattle.std.proofs.{lemmas.Bool.Decides.{nat_tests}, Common.{◌≡◌, ◌≢◌, ℕ, zero, suc, ◌<◌, ◌≤◌, ◌%◌, ◌==◌, not, ◌&&◌, ◌||◌, Bool, true, false, List, Option}}
-use Rattle.std.{proofs.Common.{Some, is_some, refl, sym, ap, ◌∙◌, subst, arith}, specs.Prelude.{unwrap_or}}
+use Rattle.std.proofs.{lemmas.Bool.Decides.{nat_tests}, Common.{◌≡◌, ◌≢◌, ℕ, suc, ◌<◌, ◌≤◌, ◌%◌, ◌==◌, not, ◌&&◌, ◌||◌, Bool, true, false, List, Option, Some}}
+use Rattle.std.{proofs.Common.{is_some, refl, sym, ap, ◌∙◌, subst, arith}, specs.Prelude.{unwrap_or}}
 use mathlib.Core.Bool.{false≢true}
-use Rattle.lz_slot.specs.{declared.command.Command.{Command, TheVariants.{Add, Remove}}, Limits.{most_slots}, Sets.{key_of}, Histories.{History}}
+use Rattle.lz_slot.specs.{declared.command.Command.{Command}, Limits.{most_slots}, Sets.{key_of}, Histories.{History}}
 use Rattle.lz_disk.specs.Images.{Medium}
 use Rattle.lz_vault.specs.declared.vault.Stage.TheVariants.{Keyed}
 use Rattle.lz_allot.specs.Uses.{is_outside}
@@ -10,11 +10,9 @@ use Rattle.lz_list.specs.{declared.{place.Place.TheVariants.{Node}, walk.Look.{L
 use Rattle.lz_list.specs.{Hops.{LeadsOn}, Traces.{Trace, bucket_of, key_word, on, chain_of, is_marked, is_removed, linking}}
 use Rattle.lz_machine.specs.declared.{actor.{Actor.{Actor}, Hold.{Hold, TheVariants.{Checked, Marked}}}, event.Event.{Event}}
 use Rattle.lz_machine.specs.declared.event.{Event.TheVariants.{Hop, WriteOpen, WriteClose, Unlink, Answer}, Outcome.TheVariants.{NotNow, Fault}, Reply.{Reply}}
-use Rattle.lz_machine.specs.declared.{event.Reply.TheVariants.{Worn as SaysWorn, OldFile as SaysOldFile}, caller.Sequence.{Sequence}}
-use Rattle.lz_machine.specs.declared.caller.{Sequence.TheVariants.{Pinning, Resting, Writing, Adding, Removing, Releasing, Halting}, Progress.{Progress}}
-use Rattle.lz_machine.specs.declared.caller.Progress.TheVariants.{Playing, Walking, Reserving, SeeingPins, Claiming, Checking, Answering}
-use Rattle.lz_machine.specs.{Yards.{Yard, actor_at, actor_in, stage_in}, Table.{last_pin, pin_of, needs, may_claim, may_check, has_checked, has_opened}}
-use Rattle.lz_machine.specs.{Table.{has_closed, may_release, may_retire, line_on, line, stays_out}, Calls.{event_at, loaded}, Orders.{MayTake}, Runs.{Caller}}
+use Rattle.lz_machine.specs.declared.caller.{Sequence.{Sequence, TheVariants.{Adding, Removing}}, Progress.{Progress}}
+use Rattle.lz_machine.specs.{declared.caller.Progress.TheVariants.{Playing, Walking, Answering}, Yards.{Yard, actor_at, actor_in, stage_in}}
+use Rattle.lz_machine.specs.{Table.{last_pin, pin_of, needs, has_checked, line_on, line, stays_out}, Calls.{event_at, loaded}, Orders.{MayTake}, Runs.{Caller}}
 use Rattle.lz_machine.specs.{Notes.{Notes}, CallersSound.{View, view_of, Relies, IsSide, is_before_pin, side_of, IsLooking}, LocksSound.{RestsOn, IsChecked}}
 use Rattle.lz_machine.{specs.Sound.{Sound}, proofs.Frames.Ranges.{on_range, stood_range, head_range, few_slots}}
 use Rattle.lz_machine.proofs.Frames.{LoadedWord.{bucket_range, head_next, link_next}, OtherCallers.{held_node}}
@@ -64,34 +62,13 @@ module _ (n calls : ℕ) (y : Yard) (callers : List (Option Caller)) (disk : Med
 
   -- each event of each sequence
   add_has : (c : Command) (s i : ℕ) → HasIn c (Adding s) i
-  add_has (Add k) s zero pin h = opens_now s h.0 h.1.slot h.1.stage
-  add_has (Add k) s (suc zero) pin h = ap has_opened h.0
-  add_has (Add k) s (suc (suc zero)) pin h = ap may_release h.0
-  add_has (Add k) s (suc (suc (suc zero))) pin h = refl
-  add_has (Add k) s (suc (suc (suc (suc zero)))) pin h = refl
-  add_has _ s _ pin h = absurd h
+  add_has c s i pin h = grind (arith, nat_tests, opens_now)
 
   remove_has : (c : Command) (s i : ℕ) → HasIn c (Removing s) i
-  remove_has (Remove k) s zero pin h = closes_now s h.2.0 h.0
-  remove_has (Remove k) s (suc zero) pin h = ap has_closed h.2.0
-  remove_has (Remove k) s (suc (suc (suc (suc zero)))) pin h = unlinks_now k s h.2.0 h.0 h.2.1 h.2.2
-  remove_has (Remove k) s (suc (suc (suc (suc (suc zero))))) pin h = ap may_release h.2.0
-  remove_has (Remove k) s (suc (suc (suc (suc (suc (suc zero)))))) pin h = ap may_retire h.2.0
-  remove_has (Remove k) s (suc (suc (suc (suc (suc (suc (suc i))))))) pin h = absurd h.2
-  remove_has (Remove k) s _ pin h = refl
-  remove_has _ s i pin h = absurd h
+  remove_has c s i pin h = grind (arith, nat_tests, closes_now, unlinks_now)
 
   sequence_has : (c : Command) (sequence : Sequence) (i : ℕ) → HasIn c sequence i
-  sequence_has c Pinning zero pin h = outside_even (pin_of y a) pin
-  sequence_has c (Resting s reply) zero pin h = refl
-  sequence_has c (Resting s reply) (suc zero) pin h = refl
-  sequence_has c (Writing s) zero pin h = ap (λ (q : Option ℕ). is_some q && not (has_opened actor.hold)) h.1 ∙ ap (λ (q : Hold). not (has_opened q)) h.0.hold
-  sequence_has c (Writing s) (suc zero) pin h = refl
-  sequence_has c (Adding s) i pin h = add_has c s i pin h
-  sequence_has c (Removing s) i pin h = remove_has c s i pin h
-  sequence_has c (Releasing aim) zero pin h = ap may_release h.0
-  sequence_has c (Halting reply) zero pin h = h.1
-  sequence_has c _ _ pin h = absurd h
+  sequence_has c sequence i pin h = grind (arith, nat_tests, outside_even, is_some, add_has, remove_has)
 
   answers_inside : pin_of y a % 2 ≡ 1 → needs y a Answer ≡ true
   answers_inside odd = ap (λ (q : Bool). q || stays_out actor (pin_of y a)) (inside_odd (pin_of y a) odd)
@@ -100,20 +77,12 @@ module _ (n calls : ℕ) (y : Yard) (callers : List (Option Caller)) (disk : Med
   answers_worn last = out_needs actor (pin_of y a) (worn_out actor (pin_of y a) last)
 
   answer_has : (c : Command) (reply : Reply) → IsSide (pin_of y a) (Answering reply) → Relies v c (Answering reply) (notes.begun a) P (notes.changed a) → needs y a Answer ≡ true
-  answer_has c SaysWorn pin h = answers_worn pin
-  answer_has c SaysOldFile pin h = out_needs actor (pin_of y a) (refused_out actor (pin_of y a) pin h.3)
-  answer_has c _ pin h = answers_inside pin
+  answer_has c reply pin h = grind (arith, nat_tests, answers_worn, out_needs, refused_out, answers_inside)
 
   -- a call's next event has what it needs
   pub has_needs : (c : Command) (at : Progress) → IsSide (pin_of y a) at → Relies v c at (notes.begun a) P (notes.changed a)
       → needs y a (loaded y.words (event_at y.shape c at)) ≡ true
-  has_needs c (Playing sequence i) pin h = sequence_has c sequence i pin h
-  has_needs c (Reserving again) pin h = ap (λ (q : Option ℕ). not (is_some q)) h.1
-  has_needs c (SeeingPins p) pin h = refl
-  has_needs c (Claiming aim pred curr) pin h = ap may_claim h.0.hold
-  has_needs c (Checking aim curr) pin h = ap may_check h.1
-  has_needs c (Answering reply) pin h = answer_has c reply pin h
-  has_needs c _ pin h = inside_odd (pin_of y a) pin
+  has_needs c at pin h = grind (arith, nat_tests, sequence_has, is_some, answer_has, inside_odd)
 
 -- What a caller takes is in range.
 module _ (n calls : ℕ) (y : Yard) (callers : List (Option Caller)) (disk : Medium) (M : History) (P : Trace) (notes : Notes) (sound : Sound n calls y callers disk M P notes) (a : ℕ) (c : Command) where

@@ -1,10 +1,10 @@
 -- A file keeps its format.
-use Rattle.std.proofs.{Common.{arith, ◌≡◌, ℕ, List, [], ◌∷◌, sym, ◌∙◌, subst}, lemmas.Bool.Decides.{nat_tests}}
+use Rattle.std.proofs.{Common.{arith, ◌≡◌, ℕ, List, [], ◌∷◌, sym, subst}, lemmas.Bool.Decides.{nat_tests}}
 use Rattle.lz_slot.specs.{declared.format.Format.{Format}, Bytes.{format_of}, Histories.{History, Life, lives}}
 use Rattle.lz_vault.specs.Stages.{Suits}
 use Rattle.lz_list.specs.Traces.{Trace}
-use Rattle.lz_machine.specs.Runs.{Start, IsStart, State, Up, Down, Transition, MayLeave, Point, IsRun, disk_of, run, first_point, start_keys}
-use Rattle.lz_machine.{specs.{Sound.{PointSound}, Formats.{HasFormat, FormatsStay}}, proofs.{Runs.PointParts.{point}, Crash.Leftovers.{IsLeft, may_leave_has}}}
+use Rattle.lz_machine.specs.{Runs.{Start, IsStart, State, Transition, MayLeave, Point, IsRun, disk_of, run, first_point, start_keys}, Sound.{PointSound}}
+use Rattle.lz_machine.{specs.Formats.{HasFormat, FormatsStay}, proofs.{Runs.PointParts.{point}, Crash.Leftovers.{IsLeft, may_leave_has}}}
 use Rattle.lz_machine.proofs.Theorem.Reached.{reached_sound}
 
 point_format : (start : Start) (p : Point) (L : List Life) → PointSound start p L → HasFormat (format_of start.text) p.state
@@ -12,9 +12,7 @@ point_format start p L h = grind (arith, nat_tests)
 
 -- the disk suits it
 point_suits : (start : Start) (M : History) (P : Trace) (calls : ℕ) (w : State) (L : List Life) → PointSound start (point w M P calls) L → Suits (format_of start.text) (disk_of w)
-point_suits start M P calls w [] h = absurd h
-point_suits start M P calls (Up service disk) (life ∷ earlier) h = λ four. h.2.2.sound.images.keeps.suits (h.3 ∙ four)
-point_suits start M P calls (Down shape disk) (life ∷ earlier) h = λ four. h.2.suits disk.seen h.2.sound.seen (h.3 disk.seen h.2.sound.seen ∙ four)
+point_suits start M P calls w L h = grind (arith, nat_tests)
 
 -- a text that a crash leaves is of the state's format
 left_format : (p : Point) (t : List ℕ) (F : Format) (L : List Life) → IsLeft p t L → HasFormat F p.state → format_of t ≡ F

@@ -107,11 +107,7 @@ module _ (calls : ℕ) (y : Yard) (callers : List (Option Caller)) (disk : Mediu
         (line y a e).1 ≢ NotNow → IsLate (progress_after (line y a e).0.shape caller.command place (line y a e).1)
 
     plays_late : (place : Progress) → KnownAt place → halt_word P ≡ 1 → IsLate place → reply_at place ≡ None → Steps place
-    plays_late (Playing Pinning zero) relies halted late going now = pins_late y a (line y a Pin).0.shape caller.command now
-    plays_late (Playing Pinning (suc i)) relies halted late going now = absurd relies
-    plays_late LoadsHalt relies halted late going now = loads_late y a (line y a (Hop halt_word_at)).0.shape caller.command (there.up.sound.trace.halt ∙ halted) now
-    plays_late (Answering reply) relies halted late going now = absurd (none-some _ (sym going))
-    plays_late _ relies halted late going now = absurd late
+    plays_late place relies halted late going now = grind (arith, nat_tests, pins_late, loads_late, none-some)
 
     fails_never : (place : Progress) → KnownAt place → IsLate place → reply_at place ≡ None → (new : Medium) → MayFail (line_call y a (next_event y (record caller { progress = place }))) disk new → ⊥
     fails_never (Playing Pinning zero) relies late going new may = no_fault_late y a y.shape caller.command (course y a Pin) disk new may

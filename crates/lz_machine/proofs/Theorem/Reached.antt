@@ -1,13 +1,13 @@
 -- Every point that a run reaches is sound, and what that says of an open service.
 use Rattle.lz_machine.proofs.Crash.Leftovers as leaving
 use Rattle.lz_machine.proofs.Theorem.MovedLoad as walks
-use Rattle.std.proofs.Common.{◌≡◌, ℕ, List, [], ◌∷◌, subst}
+use Rattle.std.proofs.{Common.{arith, ◌≡◌, ℕ, List, [], ◌∷◌}, lemmas.Bool.Decides.{nat_tests}}
 use Rattle.lz_slot.specs.Histories.{History, Life, lives}
 use Rattle.lz_disk.specs.Images.{Medium}
 use Rattle.lz_list.specs.Traces.{Trace}
 use Rattle.lz_machine.specs.Runs.{Start, IsStart, Point, Service, start_keys, State, Up, Down, Transition, Calls, Turn, Fails, Looks, Trips, Stops, Crashes}
 use Rattle.lz_machine.specs.{Runs.{CrashesIn, Opens, OpenFails, MayStep, point_after, first_point, run, IsRun}, Laws.{EveryHistory, WhatLasts, WalksMove}}
-use Rattle.lz_machine.{specs.{Notes.{Notes}, Sound.{IsSound, UpSound, StateSound, PointSound}}, proofs.Runs.PointParts.{point}}
+use Rattle.lz_machine.{specs.{Notes.{Notes}, Sound.{IsSound, UpSound, PointSound}}, proofs.Runs.PointParts.{point}}
 use Rattle.lz_machine.proofs.{Steps.Point.{call_keeps, turn_keeps, fails_keeps, looks_keeps}, Crash.Down.{stops_keeps, crashes_keeps, open_fails_keeps}}
 use Rattle.lz_machine.proofs.Open.FirstPoint.{first_sound, opens_keeps, down_seen}
 
@@ -45,9 +45,7 @@ up_at start p service disk sound is = go (lives (start_keys start) p.marks) soun
   where
     go : (L : List Life) → PointSound start p L → IsUpAt p.calls service disk p.trace
     go [] h = absurd h
-    go (life ∷ earlier) h =
-        let there : StateSound p (Up service disk) life = subst (λ (q : State). StateSound p q life) is h.2 in
-        record { n = there.0; life = life; notes = there.1; up = there.2 }
+    go (life ∷ earlier) h = grind (arith, nat_tests)
 
 pub every_history : EveryHistory
 every_history = leaving.every_history reached_sound

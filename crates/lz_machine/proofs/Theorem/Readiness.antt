@@ -211,10 +211,7 @@ module _ (words : Words) (shape : Shape) (v : View) (c : Command) (P0 P : Trace)
   opens_slot _ h is = absurd (false≢true is)
 
   caller_knows : (at : Progress) → (is_before_pin at ≡ false → is_old v.format c ≡ false) → Relies v c at P0 P changed → (e : Event) → loaded words (event_at shape c at) ≡ e → Knows v P e
-  caller_knows at fits h WriteOpen is = opens_slot at h (ap is_write_open is)
-  caller_knows at fits h Retire is = retires_node at h (ap is_retire is)
-  caller_knows at fits h (WriteKey k) is = writes_fitting words shape v c P0 P changed k at fits h (ap key_written is)
-  caller_knows at fits h _ is = tt
+  caller_knows = grind (arith, nat_tests, opens_slot, retires_node, writes_fitting, key_written)
 
 -- an event that begins a call
 abbrev pub is_invoke : Event → Bool
