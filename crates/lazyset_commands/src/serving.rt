@@ -10,6 +10,7 @@ ghost use Rattle.lz_proto.specs.Steps.{SendTells};
 ghost use Rattle.lz_serve.specs.Halts.{IsCalm, SawHalt};
 ghost use Rattle.lazyset_commands.specs.Services.{HadNoPlace, HadPlace, RanService, RefusedService, ServedPasses, TellsPlace, TellsPort, path_text};
 
+use crate::sorting::AllProcessors;
 use lazyset_offline::{Status, refuse, send_line, tell};
 use lz_disk::Disk;
 use lz_proto::{SessionFault, send};
@@ -66,7 +67,15 @@ where
     ensures honest { (D.device result.1).honest ≡ (D.device disk).honest }
     ensures faults { (D.device disk).faults ≤ (D.device result.1).faults }
 {
-    match Set::open(rt.alloc(), disk, NoGate, options.buckets, options.passes) {
+    let sorter = AllProcessors { rt };
+    match Set::open_by(
+        rt.alloc(),
+        disk,
+        NoGate,
+        &sorter,
+        options.buckets,
+        options.passes,
+    ) {
         Ok(blank) => serve_blank::<R, W, O, D, Brand>(rt, writer, observer, blank, options, place),
         Err(refused) => {
             let Refused { disk, fault } = refused;

@@ -27,7 +27,7 @@ use lz_board::{Board, Glance, GlanceFault, ListFault, Page, Pass};
 use lz_disk::Disk;
 use lz_slot::{Command, Key, Slot};
 use lz_tie::{Locked, Named};
-use lz_vault::{OpenFault, Refused};
+use lz_vault::{OneThread, OpenFault, Refused, Sorter};
 use lz_yard::Yard;
 use std::alloc::Global;
 use std::marker::Brand;
@@ -48,7 +48,7 @@ pub struct Set<D: Disk, G: StepGate, N: Named> {
 
 impl<D: Disk, G: StepGate> Set<D, G, Brand> {
     /// Opens a slot file with so many buckets for callers with so many passes. It is refused as the yard's open is, and with
-    /// Memory where there is no room for the board.
+    /// Memory where there is no room for the board. The members are sorted by the thread that opens.
     pub fn open(
         alloc: Global,
         disk: D,
@@ -66,7 +66,29 @@ impl<D: Disk, G: StepGate> Set<D, G, Brand> {
         ensures named { IfOk result (λ blank. MayBeNamed D.device blank.board (D.device blank.disk) blank.yard.vault.format blank) }
         ensures err { IfErr result (λ refused. IsRefusedFor (D.device disk) (D.device refused.disk) refused.fault) }
     {
-        let yard = Yard::open(alloc, disk, buckets, passes)?;
+        Set::open_by(alloc, disk, gate, &OneThread, buckets, passes)
+    }
+
+    /// The same. This sorter sorts the members, which is a third of opening a large file.
+    pub fn open_by<S: Sorter>(
+        alloc: Global,
+        disk: D,
+        gate: G,
+        sorter: &S,
+        buckets: usize,
+        passes: usize,
+    ) -> Result<Blank<D, G>, Refused<D>>
+        requires disk { MayOpen (D.device disk) }
+        requires sorter { S.ready sorter.now }
+        requires buckets { (1 ≤ buckets) × (buckets ≤ most_buckets) }
+        requires passes { (1 ≤ passes) × (passes ≤ most_passes) }
+        ensures ok { IfOk result (λ blank. OpensYard (D.device disk) (D.device blank.disk) buckets passes blank.yard) }
+        ensures board { IfOk result (λ blank. (blank.board.sizes ≡ sizes_of blank.yard.shape) × (blank.board.opened ≡ opened_by blank.yard.words)) }
+        ensures begins { IfOk result (λ blank. IsTrue (D.device disk).honest → Holds (D.device disk).medium.seen blank.board.sizes.slots (members_of blank.board.opened)) }
+        ensures named { IfOk result (λ blank. MayBeNamed D.device blank.board (D.device blank.disk) blank.yard.vault.format blank) }
+        ensures err { IfErr result (λ refused. IsRefusedFor (D.device disk) (D.device refused.disk) refused.fault) }
+    {
+        let yard = Yard::open_by(alloc, disk, sorter, buckets, passes)?;
         match Board::new(alloc, yard.words()) {
             Some((board, pen, passes)) => Ok(Blank {
                 board,

@@ -6,7 +6,7 @@ use Rattle.std.{proofs.lemmas.Bool.{cases_eq, cases_Bool, cases_lt, Decides.{nat
 use Rattle.std.specs.{List.Sorted.{IsPermutation, IsSorted}, Ordering.{nat_cmp, ordering_then}}
 use mathlib.Core.Bool.{false≢true}
 use Rattle.lz_vault.specs.{Stages.{Cell}, Members.{member_at, member_in, no_cell, node_at, Ascends, AreApart, AreDistinct, AreListed, AreMembers}}
-use Rattle.lz_vault.specs.Members.{AreNeighbours, AreTwins, IsLowest, lower_twins}
+use Rattle.lz_vault.specs.Members.{AreInOrder, AreNeighbours, AreTwins, IsLowest, lower_twins}
 use Rattle.lz_slot.specs.Nodes.{Nodes, has_node}
 
 -- a node is one of the first, or of the others
@@ -145,10 +145,6 @@ module _ (ms : Nodes) (a b : ℕ) (lt_a : a < length ms) (lt_b : b < length ms) 
 -- in another order they are the same members
 pub permuted_listed : (cells : List Cell) (n : ℕ) (ms ns : Nodes) → AreListed cells n ms → IsPermutation ms ns → AreListed cells n ns
 permuted_listed cells n ms ns are = IsPermutation-keeps ms (AreListed cells n) are (λ l a b lt_a lt_b is. swapped_listed l a b lt_a lt_b cells n is) ns
-
--- the nodes are in order: neighbours don't descend by key, nor those of one key by slot
-abbrev pub AreInOrder : Nodes → Type 0
-AreInOrder ms = (i : ℕ) → i + 1 < length ms → ((node_at ms i).0 ≤ (node_at ms (i + 1)).0) × ((node_at ms i).0 ≡ (node_at ms (i + 1)).0 → (node_at ms i).1 ≤ (node_at ms (i + 1)).1)
 
 module _ (cells : List Cell) (ms : Nodes) (are : AreListed cells (length cells) ms) (up : AreInOrder ms) where
   further : (i d : ℕ) → i + d < length ms → (node_at ms i).0 ≤ (node_at ms (i + d)).0

@@ -1,6 +1,6 @@
 -- Worked rows: which two slots are told where keys stand twice.
 use Rattle.std.proofs.{Common.{◌≡◌, ℕ, zero, suc, List, [], ◌∷◌, Some, None, refl, sym, ◌∙◌, arith}, lemmas.Option.{same_Some}}
-use Rattle.lz_vault.specs.{Stages.{Cell}, Members.{AreApart, AreTwins, IsLowest, lower_twins}, declared.vault.Stage.TheVariants.{Closed, Open}}
+use Rattle.lz_vault.specs.{Stages.{Cell}, Members.{AreApart, AreInOrder, AreTwins, IsLowest, lower_twins}, declared.vault.Stage.TheVariants.{Closed, Open}}
 
 abbrev member : ℕ → Cell
 member k = record { stage = Open; key = k }
@@ -53,3 +53,15 @@ keys_ascend (suc i) lt same = omega (arith, lt)
 
 not_told_as_none : IsLowest ((7, 0) ∷ (7, 2) ∷ []) 2 None → ⊥
 not_told_as_none none = none 0 (omega arith) refl
+
+-- a sort leaves twins side by side, the lower slot first
+in_order : AreInOrder ((7, 0) ∷ (7, 2) ∷ (8, 1) ∷ [])
+in_order zero lt = (omega arith, λ same. omega arith)
+in_order (suc zero) lt = (omega arith, λ same. absurd (omega (arith, same)))
+in_order (suc (suc i)) lt = absurd (omega (arith, lt))
+
+not_a_later_slot_first : AreInOrder ((7, 2) ∷ (7, 0) ∷ []) → ⊥
+not_a_later_slot_first up = let low = (up 0 (omega arith)).1 refl in absurd (omega (arith, low))
+
+not_a_greater_key_first : AreInOrder ((8, 1) ∷ (7, 0) ∷ []) → ⊥
+not_a_greater_key_first up = let low = (up 0 (omega arith)).0 in absurd (omega (arith, low))

@@ -42,6 +42,10 @@ pub record AreMembers (cells : List Cell) (n : ℕ) (members : Nodes) : Type 0 w
 abbrev pub node_at : Nodes → ℕ → ℕ × ℕ
 node_at members i = slice_index_or members i (0, 0)
 
+-- the nodes are in order: neighbours don't descend by key, nor those of one key by slot
+abbrev pub AreInOrder : Nodes → Type 0
+AreInOrder ms = (i : ℕ) → i + 1 < length ms → ((node_at ms i).0 ≤ (node_at ms (i + 1)).0) × ((node_at ms i).0 ≡ (node_at ms (i + 1)).0 → (node_at ms i).1 ≤ (node_at ms (i + 1)).1)
+
 -- These are the members that the first n slots hold, in any order, each once.
 pub record AreListed (cells : List Cell) (n : ℕ) (members : Nodes) : Type 0 where
   pub each : (i : ℕ) → i < length members → ((node_at members i).1 < n) × (member_at cells (node_at members i).1 ≡ Some (node_at members i).0)

@@ -5,6 +5,7 @@ ghost use Rattle.lz_vault.specs.Scans.{IsFresh, IsIndexed, IsKeyed};
 
 use crate::opening::OpenFault;
 use crate::scan::Scan;
+use crate::sorter::Sorter;
 use lz_slot::{Key, Slot};
 use std::alloc::{AllocError, Global};
 
@@ -45,15 +46,21 @@ impl Scan {
 
     // Brings the members into the order of their keys, once these are listed where they are wanted. Where two slots hold one key, it tells
     // the lowest that holds one again.
-    pub(crate) fn index(&mut self, alloc: Global, keys: bool) -> Result<(), OpenFault>
-        requires { IsFresh self.old.format self.old }
+    pub(crate) fn index<S: Sorter>(
+        &mut self,
+        alloc: Global,
+        sorter: &S,
+        keys: bool,
+    ) -> Result<(), OpenFault>
+        requires fresh { IsFresh self.old.format self.old }
+        requires ready { S.ready sorter.now }
         ensures rest { (self.new.format ≡ self.old.format) × (self.new.cells ≡ self.old.cells) }
         ensures indexed { OnOk result (IsIndexed self.new) }
         ensures keyed { OnOk result (IsKeyed keys self.new) }
         ensures twins { IfErr result (TellsTwins self.old.cells) }
     {
         self.list_keys(alloc, keys)?;
-        self.members.sort_unstable();
+        sorter.sort(self.members.as_mut_slice());
         match lowest_twins(&self.members) {
             Some((first, second)) => Err(OpenFault::Twice(first, second)),
             None => Ok(()),

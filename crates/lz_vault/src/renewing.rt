@@ -13,6 +13,7 @@ ghost use Rattle.lz_vault.specs.Renewals.{AreHeldBy, IsRenewFaultOf, IsToldFirst
 
 use crate::making::{MakeFault, make_with};
 use crate::opening::{OpenFault, scan_file};
+use crate::sorter::OneThread;
 use lz_disk::Disk;
 use lz_slot::{Format, Key};
 use std::alloc::Global;
@@ -103,6 +104,6 @@ pub fn read_members<D: Disk>(alloc: Global, disk: &mut D) -> Result<Vec<Key>, Op
     ensures err { IfErr result (IsRefusedFor (D.device disk.old) (D.device disk.new)) }
     ensures calls { IsTrue (D.device disk.old).honest → OnOk result ((D.device disk.new).calls ≡ (D.device disk.old).calls + calls_of_reading (D.device disk.old).medium.seen) }
 {
-    let scan = scan_file(alloc, disk, true)?;
+    let scan = scan_file(alloc, disk, &OneThread, true)?;
     Ok(scan.keys)
 }

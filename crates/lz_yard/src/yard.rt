@@ -20,7 +20,7 @@ use lz_disk::Disk;
 use lz_list::{Place, Word, Words};
 use lz_machine::{Course, Event, Outcome};
 use lz_slot::{Format, Slot};
-use lz_vault::{OpenFault, Opened, Refused, Vault};
+use lz_vault::{OneThread, OpenFault, Opened, Refused, Sorter, Vault};
 use std::alloc::{AllocError, Global};
 use std::marker::Model;
 
@@ -56,7 +56,25 @@ impl<D: Disk> Yard<D> {
         ensures ok { IfOk result (λ yard. OpensYard (D.device disk) (D.device yard.disk) buckets passes yard.yard) }
         ensures err { IfErr result (λ refused. IsRefusedFor (D.device disk) (D.device refused.disk) refused.fault) }
     {
-        let Opened { vault, members } = Vault::open_with_members(alloc, disk)?;
+        Yard::open_by(alloc, disk, &OneThread, buckets, passes)
+    }
+
+    /// The same. This sorter sorts the members.
+    pub fn open_by<S: Sorter>(
+        alloc: Global,
+        disk: D,
+        sorter: &S,
+        buckets: usize,
+        passes: usize,
+    ) -> Result<Yard<D>, Refused<D>>
+        requires disk { MayOpen (D.device disk) }
+        requires sorter { S.ready sorter.now }
+        requires buckets { (1 ≤ buckets) × (buckets ≤ most_buckets) }
+        requires passes { (1 ≤ passes) × (passes ≤ most_passes) }
+        ensures ok { IfOk result (λ yard. OpensYard (D.device disk) (D.device yard.disk) buckets passes yard.yard) }
+        ensures err { IfErr result (λ refused. IsRefusedFor (D.device disk) (D.device refused.disk) refused.fault) }
+    {
+        let Opened { vault, members } = Vault::open_with_members(alloc, disk, sorter)?;
         match Tables::of(alloc, &vault, members, buckets, passes) {
             Ok(tables) => Ok(Yard {
                 parts: Parts {

@@ -3,7 +3,7 @@ use crate::fault::Fault;
 use crate::file::{disk, is_as_before};
 use lz_disk::MemoryDisk;
 use lz_slot::{Key, Slot};
-use lz_vault::{Opened, Refused, Vault, suit};
+use lz_vault::{OneThread, Opened, Refused, Vault, suit};
 
 pub fn drill<R: Print + AllocGlobal>(rt: &R) -> Result<(), Fault> {
     let opened = open(rt)?;
@@ -11,7 +11,7 @@ pub fn drill<R: Print + AllocGlobal>(rt: &R) -> Result<(), Fault> {
 }
 
 fn open<R: Print + AllocGlobal>(rt: &R) -> Result<Opened<MemoryDisk>, Fault> {
-    match Vault::open_with_members(rt.alloc(), disk(rt.alloc())?) {
+    match Vault::open_with_members(rt.alloc(), disk(rt.alloc())?, &OneThread) {
         Ok(opened) => Ok(opened),
         Err(refused) => open_again(rt, refused),
     }
@@ -50,7 +50,7 @@ fn open_again<R: Print + AllocGlobal>(
     }
     println!(rt; "again Vault::open {number}")?;
     suit(&mut disk);
-    match Vault::open_with_members(rt.alloc(), disk) {
+    match Vault::open_with_members(rt.alloc(), disk, &OneThread) {
         Ok(opened) => Ok(opened),
         Err(_) => Err(Fault::Wrong),
     }

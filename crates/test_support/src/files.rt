@@ -5,7 +5,7 @@ ghost use Rattle.lz_vault.specs.Opens.{MayOpen};
 
 use lz_disk::MemoryDisk;
 use lz_slot::{Format, Key};
-use lz_vault::{Vault, make, suit};
+use lz_vault::{OneThread, Vault, make, suit};
 use std::alloc::Global;
 
 /// A disk in memory with a new file of so many slots.
@@ -28,7 +28,7 @@ pub fn made(alloc: Global, slots: u64) -> Option<MemoryDisk>
 pub fn keys_in(alloc: Global, disk: MemoryDisk) -> Option<Vec<u64>> {
     let mut disk = disk;
     suit(&mut disk);
-    let Ok(opened) = Vault::open_with_members(alloc, disk) else {
+    let Ok(opened) = Vault::open_with_members(alloc, disk, &OneThread) else {
         return None;
     };
     let mut keys = Vec::new(alloc);

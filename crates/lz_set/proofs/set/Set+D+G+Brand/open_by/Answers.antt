@@ -1,4 +1,4 @@
-use Rattle.lz_set.proofs.set.Set+D+G+Brand.open.Goals as goal
+use Rattle.lz_set.proofs.set.Set+D+G+Brand.open_by.Goals as goal
 use Rattle.std.proofs.Common.{[], refl, sym, ap, ◌∙◌, subst}
 use Rattle.lz_list.specs.Addresses.{sizes_in}
 use Rattle.lz_board.specs.{Opened.{AreOpened, opened_by}, Seats.{id_of}}

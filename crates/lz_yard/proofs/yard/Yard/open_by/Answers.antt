@@ -1,4 +1,4 @@
-use Rattle.lz_yard.proofs.yard.Yard.open.Goals as goal
+use Rattle.lz_yard.proofs.yard.Yard.open_by.Goals as goal
 use Rattle.std.proofs.Common.{refl, ap, subst, IsTrue}
 use Rattle.lz_disk.specs.Images.{Medium, AreBytes}
 use Rattle.lz_yard.proofs.Opening.{FilledTables.{opened_fits}, FirstYard.{first_yard}}
