@@ -1,4 +1,4 @@
-//! How full a set is, by what its service has answered.
+//! How full a set is.
 use std::sync::atomic::{AtomicBool, AtomicUsize, Ordering};
 
 // The shares, in percent, that are told once each when they are reached.
@@ -46,9 +46,13 @@ impl Gauge {
         self.slots.load(Ordering::SeqCst)
     }
 
-    /// A key has come in. The share of the slots that it has reached, where that is news.
-    pub fn came(&self) -> Option<usize> {
-        let members = self.members.fetch_add(1, Ordering::SeqCst).wrapping_add(1);
+    /// A key has come in, with which the members are so many; one more, where that isn't known. The share of the slots that it has reached,
+    /// where that is news.
+    pub fn came(&self, members: Option<usize>) -> Option<usize> {
+        let members = match members {
+            Some(members) => self.note(members),
+            None => self.members.fetch_add(1, Ordering::SeqCst).wrapping_add(1),
+        };
         if members < self.next.load(Ordering::SeqCst) {
             return None;
         }
@@ -61,13 +65,24 @@ impl Gauge {
         Some(share)
     }
 
-    /// A key has left.
-    pub fn left(&self) {
-        let before = self.members.fetch_sub(1, Ordering::SeqCst);
-        let free = self.slots().saturating_sub(before.saturating_sub(1));
+    /// A key has left, without which the members are so many; one less, where that isn't known.
+    pub fn left(&self, members: Option<usize>) {
+        let members = match members {
+            Some(members) => self.note(members),
+            None => self
+                .members
+                .fetch_sub(1, Ordering::SeqCst)
+                .saturating_sub(1),
+        };
+        let free = self.slots().saturating_sub(members);
         if free.saturating_mul(100) >= self.slots().saturating_mul(FREE_AGAIN) {
             self.is_full.store(false, Ordering::SeqCst);
         }
+    }
+
+    fn note(&self, members: usize) -> usize {
+        self.members.store(members, Ordering::SeqCst);
+        members
     }
 
     /// It is full now. Whether that is news.

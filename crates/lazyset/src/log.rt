@@ -9,6 +9,7 @@ use crate::seldom::Seldom;
 use crate::tally::Tally;
 use crate::watched::Watched;
 use lazyset_command_line::{MAJOR, MINOR};
+use lazyset_commands::format_number;
 use lz_disk::Cause;
 use lz_proto::Reply;
 use lz_resp::Figures;
@@ -329,11 +330,11 @@ where
         self.guests.fetch_sub(1, Ordering::SeqCst);
     }
 
-    fn answered(&self, verb: Verb, reply: Reply) {
+    fn answered(&self, verb: Verb, reply: Reply, members: Option<usize>) {
         self.tally.count(verb, reply);
         match (verb, reply) {
             (Verb::Add, Reply::Yes) => {
-                if let Some(share) = self.gauge.came() {
+                if let Some(share) = self.gauge.came(members) {
                     let (members, slots) = (self.gauge.members(), self.gauge.slots());
                     self.say(
                         Level::Warning,
@@ -341,7 +342,7 @@ where
                     );
                 }
             }
-            (Verb::Remove, Reply::Yes) => self.gauge.left(),
+            (Verb::Remove, Reply::Yes) => self.gauge.left(members),
             (_, Reply::Full) => {
                 if self.gauge.fills() {
                     self.say(Level::Warning, "full: no slot was free for a new key");
@@ -368,7 +369,7 @@ where
             removes: self.tally.removes(),
             lookups: self.tally.lookups(),
             full: self.tally.full(),
-            format: number_of(self.format),
+            format: format_number(self.format) as usize,
             slots: self.gauge.slots(),
             members: self.gauge.members(),
             buckets,
@@ -390,15 +391,5 @@ where
 
     fn stops(&self) -> bool {
         self.stops.load(Ordering::SeqCst)
-    }
-}
-
-// The number that a format is asked for by.
-fn number_of(format: Format) -> usize {
-    match format {
-        Format::One => 1,
-        Format::Two => 2,
-        Format::Three => 3,
-        Format::Four => 4,
     }
 }

@@ -17,7 +17,7 @@ pub(crate) fn counts_of(
     ensures { IfOk result (λ text. string_bytes text ≡ counts_text header.format header.slots findings.now) }
 {
     let mut text = String::new(alloc);
-    add_count(&mut text, "format", number_of(header.format))?;
+    add_count(&mut text, "format", format_number(header.format))?;
     add_count(&mut text, "slots", header.slots)?;
     add_count(&mut text, "members", members_in(findings))?;
     let free = header.slots.saturating_sub(findings.len() as u64);
@@ -37,8 +37,8 @@ fn members_in(findings: &[Finding]) -> u64
     findings.iter().filter(|finding| finding.is_sound()).count() as u64
 }
 
-// The number that a format is asked for by.
-fn number_of(format: Format) -> u64
+/// The number that a format is asked for by.
+pub fn format_number(format: Format) -> u64
     ensures { result ≡ format_number format }
 {
     match format {

@@ -119,7 +119,7 @@ where
         };
     };
     let verb = Verb::of(&granted.question().request());
-    observer.answered(verb, granted.reply());
+    observer.answered(verb, granted.reply(), kept.opened());
     meet(set, asking, meeting);
     crowd.reply(token, granted, asking.pass(), observer);
     if begin_next(rt, set, kept, crowd, asking, ends) {
@@ -222,7 +222,7 @@ where
     };
     let verb = Verb::of(&question.request());
     let granted = free.answer(rt, set, question);
-    observer.answered(verb, granted.reply());
+    observer.answered(verb, granted.reply(), None);
     crowd.reply(token, granted, free.pass(), observer);
     crowd.tend_back(observer, buffer);
 }

@@ -140,8 +140,8 @@ pub trait Observer: Drop {
     /// A client has been silent for a second, or all places are taken: connections may wait.
     fn crowded(&self);
 
-    /// A command was replied to so.
-    fn answered(&self, verb: Verb, reply: Reply);
+    /// A command was replied to so. Where they are known, so many members were durable then.
+    fn answered(&self, verb: Verb, reply: Reply, members: Option<usize>);
 
     /// What is known of the service now. A client has asked.
     fn figures(&self) -> Figures;

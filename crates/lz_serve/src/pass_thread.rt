@@ -175,7 +175,7 @@ where
             Some(question) => {
                 let verb = Verb::of(&question.request());
                 let granted = free.answer(rt, set, question);
-                observer.answered(verb, granted.reply());
+                observer.answered(verb, granted.reply(), None);
                 client.reply(granted, free.pass(), observer);
                 client.write();
             }

@@ -1,6 +1,7 @@
 //! The lock, from one hold to the next.
-ghost use Rattle.std.specs.Prelude.{◌≡◌, None, Some};
+ghost use Rattle.std.specs.Prelude.{◌≡◌, None, Some, option_map};
 ghost use Rattle.std.specs.Sync.Mutex.{mutex_guard_value};
+ghost use Rattle.lz_vault.specs.Opens.{open_count};
 
 use crate::gate::StepGate;
 use crate::group_commit::Stay;
@@ -41,6 +42,13 @@ impl<'a, D: Disk, N: Named> Kept<'a, D, N> {
         ensures { self.new ≡ None }
     {
         self.guard = None;
+    }
+
+    /// How many members are durable now, where the lock is kept: those are none whose addition or removal is under way.
+    pub fn opened(&self) -> Option<usize>
+        ensures { result ≡ option_map (λ locked. open_count locked.yard.vault.cells) self.now }
+    {
+        self.guard.as_ref().map(|locked| locked.opened())
     }
 
     pub(crate) fn keep(&mut self, locked: Held<'a, N, D>)

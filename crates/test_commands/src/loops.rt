@@ -67,7 +67,7 @@ impl Observer for Counts {
         self.parted.set(self.parted.get().wrapping_add(1));
     }
 
-    fn answered(&self, _verb: Verb, _reply: Reply) {
+    fn answered(&self, _verb: Verb, _reply: Reply, _members: Option<usize>) {
         self.answered.set(self.answered.get().wrapping_add(1));
     }
 

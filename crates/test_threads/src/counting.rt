@@ -24,7 +24,8 @@ struct Counted {
     under_way: [(usize, usize); 3],
 }
 
-// How many members there are once a call has come to its next Sync, and once that Sync was played.
+// How many members there are once a call has come to its next Sync, and once that Sync was played: under the lock that this kept, and by a
+// pass. Once the lock was given back it tells none.
 fn count_around_sync<'a, N: Named, R: Wait>(
     rt: &R,
     set: &'a Shared<N>,
@@ -41,9 +42,11 @@ fn count_around_sync<'a, N: Named, R: Wait>(
     kept.give_back();
     let before = set.count(rt, own);
     let played = syncs(rt, set, kept, play);
+    let told = kept.opened();
     kept.give_back();
     let after = set.count(rt, own);
-    (comes && played).then_some((before, after))
+    let agree = told == Some(after) && kept.opened().is_none();
+    (comes && played && agree).then_some((before, after))
 }
 
 // The addition has two syncs, its key's and its gate's, and the removal one.

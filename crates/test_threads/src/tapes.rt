@@ -157,7 +157,7 @@ impl Observer for Deaf {
 
     fn crowded(&self) {}
 
-    fn answered(&self, _verb: Verb, _reply: Reply) {}
+    fn answered(&self, _verb: Verb, _reply: Reply, _members: Option<usize>) {}
 
     fn figures(&self) -> Figures {
         Figures::default()
