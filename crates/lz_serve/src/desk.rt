@@ -16,6 +16,7 @@ use crate::gathering::Gathering;
 use crate::given::Given;
 use crate::moments::{MOMENT, Moments};
 use crate::observer::Observer;
+use crate::pacing::Pacing;
 use crate::stream::Stream;
 use lz_disk::Disk;
 use lz_set::{Named, Set, StepGate};
@@ -51,6 +52,8 @@ pub(crate) struct Desk<S: Stream, N: Named, B: Given> {
     tries: Moments,
     /// For how long a sync waits for clients that were just answered.
     gathering: Gathering,
+    /// When pages are listed beside commands.
+    pacing: Pacing,
 }
 
 impl<S: Stream, N: Named, B: Given> Model for Desk<S, N, B> {
@@ -86,6 +89,7 @@ impl<S: Stream, N: Named, B: Given> Desk<S, N, B> {
             parted: 0,
             tries: Moments::new(),
             gathering: Gathering::new(),
+            pacing: Pacing::new(),
         })
     }
 
@@ -120,6 +124,7 @@ impl<S: Stream, N: Named, B: Given> Desk<S, N, B> {
             parted: _,
             tries: _,
             gathering: _,
+            pacing: _,
         } = self;
         with_one(free, meeting)
     }
@@ -330,7 +335,12 @@ impl<S: Stream, N: Named, B: Given> Desk<S, N, B> {
 
     // Whether there is something to do, with nothing heard of the connections.
     fn is_busy(&self) -> bool {
-        !self.rests() || self.crowd.scans() > 0 || !self.free.is_empty() && !self.crowd.is_quiet()
+        self.crowd.scans() > 0 || self.has_commands()
+    }
+
+    // Whether a command is under way, or one waits that can begin.
+    fn has_commands(&self) -> bool {
+        !self.rests() || !self.free.is_empty() && !self.crowd.is_quiet()
     }
 
     /// Whether a client was told that the service halted, or so many connections were served; 0 for no end.

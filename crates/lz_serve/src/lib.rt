@@ -31,6 +31,7 @@ mod loops;
 mod moments;
 mod observer;
 mod options;
+mod pacing;
 mod pass_thread;
 mod place;
 mod poller;

@@ -226,7 +226,7 @@ where
         if is_ended(observer, told) {
             break;
         }
-        desk.list_pages(rt.alloc(), set, observer, &mut buffer);
+        desk.list_in_turn(rt, set, observer, &mut buffer);
         desk.begin_all(rt, set);
         desk.play_all(rt, set, observer, &mut buffer);
         if desk.gathers(rt) {

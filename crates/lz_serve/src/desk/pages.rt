@@ -14,8 +14,37 @@ use crate::stream::Stream;
 use lz_disk::Disk;
 use lz_set::{Named, Set, StepGate};
 use std::alloc::Global;
+use std::time::Clock;
 
 impl<S: Stream, N: Named, B: Given> Desk<S, N, B> {
+    /// Lists pages as `list_pages` does, unless commands wait and pages had their share of the time, which is a small part of it.
+    pub(crate) fn list_in_turn<D, G, R, O>(
+        &mut self,
+        rt: &R,
+        set: &Set<D, G, N>,
+        observer: &O,
+        buffer: &mut [u8],
+    )
+    where
+        D: Disk,
+        G: StepGate,
+        R: Clock + AllocGlobal,
+        O: Observer,
+        requires { Promises N.board N.format S.promised S.listed }
+        ensures given { self.new.given ≡ self.old.given }
+        ensures free { self.new.free ≡ self.old.free }
+    {
+        if self.crowd.scans() == 0 {
+            return;
+        }
+        let began = rt.monotonic().ok();
+        if self.has_commands() && self.pacing.holds(began) {
+            return;
+        }
+        self.list_pages(rt.alloc(), set, observer, buffer);
+        self.pacing.note(began, rt.monotonic().ok());
+    }
+
     /// Lists a page for each client that waits for one, and tells it: by the pass that meets the others, or where there is none by the only one,
     /// once that is free.
     pub(crate) fn list_pages<D: Disk, G: StepGate, O: Observer>(
