@@ -6,7 +6,7 @@ import argparse
 import sys
 import time
 from concurrent.futures import ThreadPoolExecutor
-from typing import List, Sequence
+from typing import List, Optional, Sequence
 
 from edits import crate as one
 from edits import gate, kit, record
@@ -22,6 +22,7 @@ def read_words(words: Sequence[str]) -> argparse.Namespace:
     parser.add_argument("--lanes", type=int, default=0, help="checks side by side (a processor less than there are, at most 3)")
     parser.add_argument("--plan", action="store_true", help="say what would be tried, and try nothing")
     parser.add_argument("--gate", action="store_true", help="after rt ci: the wrong bodies of what changed, and others by turns")
+    parser.add_argument("--minutes", type=float, default=None, help="no check begins after so many (no end)")
     parser.add_argument("--turn", type=int, default=None, help="with --gate, whose turn it is (the day's number)")
     parser.add_argument("crates", nargs="*", metavar="CRATE")
     options = parser.parse_args(words)
@@ -38,13 +39,15 @@ def named(crates: List[kit.Crate], names: Sequence[str], folders: Sequence[str])
     return [it for it in crates if files_of(it, folders) and (not names or it.name in names)]
 
 
-def try_all(top: str, crates: Sequence[kit.Crate], folders: Sequence[str], lanes: int, is_after_ci: bool) -> int:
-    """Tries the edits of crates, so many checks side by side, and returns how many failed."""
+def try_all(
+    top: str, crates: Sequence[kit.Crate], folders: Sequence[str], lanes: int, minutes: Optional[float], is_after_ci: bool
+) -> int:
+    """Tries the edits of crates, so many checks side by side and for so many minutes, and returns how many failed."""
     below = list(dict.fromkeys(library for it in crates for library in it.below()))
     unproved = kit.built(below, lanes, is_after_ci)
     if unproved:
         sys.exit(f"the library {unproved.name} isn't proved, so no edit was tried")
-    shared = kit.Lanes(lanes)
+    shared = kit.Lanes(lanes, minutes)
     with ThreadPoolExecutor(max(len(crates), 1)) as pool, shared.opened():
         outcomes = [*pool.map(lambda it: one.try_edits(top, it, folders, shared, is_after_ci), crates)]
     failed = sum(it.failed for it in outcomes)
@@ -68,4 +71,4 @@ def main(top: str, words: Sequence[str]) -> int:
     if options.plan:
         bad = sum(one.plan(it, folders) for it in crates)
         return 1 if bad else 0
-    return 1 if try_all(top, crates, folders, lanes, options.gate) else 0
+    return 1 if try_all(top, crates, folders, lanes, options.minutes, options.gate) else 0

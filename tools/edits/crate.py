@@ -57,12 +57,14 @@ def try_edits(top: str, crate: kit.Crate, folders: Sequence[str], lanes: kit.Lan
             kit.link_kept(kept, room)
         # One group from nothing proves what is left of the crate on its way.
         is_proved = (os.path.isdir(kept) and crate.is_built()) or (is_after_ci and len(trial.groups(edits)) < 2)
-        if is_proved or trial.prove():
+        if is_proved or trial.prove(edits):
             trial.run(edits)
-    refused, failed = len(trial.refused), len(edits) - len(trial.refused)
+    refused, late = len(trial.refused), len(trial.late)
+    failed = len(edits) - refused - late
     outcome = Outcome(refused, failed, sum(trial.checks))
-    kit.say(f"{crate.name}: {refused} refused, {failed} failed, in {len(trial.checks)} checks and {outcome.seconds:.0f} s")
-    if refused and not failed and not is_after_ci and set(folders) == set(FOLDERS):
+    untried = f", {late} not tried, for lack of time" * bool(late)
+    kit.say(f"{crate.name}: {refused} refused, {failed} failed{untried}, in {len(trial.checks)} checks and {outcome.seconds:.0f} s")
+    if refused and not failed and not late and not is_after_ci and set(folders) == set(FOLDERS):
         if record.Hashes().of(crate) == known:
             record.write(top, crate.name, record.Line(known, refused, round(outcome.seconds)))
         else:

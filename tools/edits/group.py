@@ -8,7 +8,7 @@ import re
 import tempfile
 import time
 from concurrent.futures import ThreadPoolExecutor
-from typing import Dict, FrozenSet, Iterator, List, Sequence, Set
+from typing import Dict, FrozenSet, Iterator, List, Optional, Sequence, Set
 
 from edits import kit
 from edits.edit import Edit, Place, Sources, read_source
@@ -43,12 +43,17 @@ class Trial:
         self.lanes, self.length = lanes, length
         self.refused: List[str] = []
         self.failed: List[str] = []
+        # Those for which no time was left.
+        self.late: List[str] = []
         # The seconds of each check.
         self.checks: List[float] = []
 
-    def prove(self) -> bool:
-        """Proves the crate itself, and keeps its work."""
+    def prove(self, edits: Sequence[Edit]) -> bool:
+        """Proves the crate itself, before these edits, and keeps its work."""
         with self.lane(kit.rt().need(self.crate)):
+            if self.lanes.are_over():
+                self.late = [it.name for it in edits]
+                return False
             said = kit.check(self.crate, {}, self.room)
         if not said.is_proved():
             refused = [f"{it}: {why}" for it, why in said.unproved().items()] or said.lines
@@ -99,6 +104,9 @@ class Trial:
         texts = self.sources.applied(group)
         assert texts is not None
         said = self.check(texts)
+        if said is None:
+            self.late += [it.name for it in group]
+            return []
         if len(group) == 1:
             self.judge_one(group[0], said, texts)
             return []
@@ -110,13 +118,16 @@ class Trial:
             return self.halved(group)
         return [it for it in group if not self.judge_in_group(it, said, texts)]
 
-    def check(self, texts: Dict[str, str]) -> kit.Check:
-        """Checks the crate with these texts. What it keeps isn't for the checks after it, but where they have nothing."""
+    def check(self, texts: Dict[str, str]) -> Optional[kit.Check]:
+        """Checks the crate with these texts, unless the lanes' time is over. What it keeps isn't for the checks after it, but where they have
+        nothing."""
         needs = kit.rt().need(self.crate)
         if not os.listdir(self.room):
             with self.lane(needs):
-                return kit.check(self.crate, texts, self.room)
+                return None if self.lanes.are_over() else kit.check(self.crate, texts, self.room)
         with self.lane(kit.OVER_KEPT * needs), tempfile.TemporaryDirectory(prefix="try-edits-") as kept:
+            if self.lanes.are_over():
+                return None
             kit.link_kept(self.room, kept)
             return kit.check(self.crate, texts, kept)
 

@@ -16,6 +16,7 @@ import shutil
 import subprocess
 import sys
 import threading
+import time
 import types
 from typing import Any, Dict, Iterator, List, Optional, Sequence, Tuple
 
@@ -127,9 +128,10 @@ def built(libraries: Sequence[Crate], lanes: int, is_after_ci: bool) -> Optional
 class Lanes:
     """Lanes in which checks go side by side: each takes one, as memory allows, and those of the longest crate come first."""
 
-    def __init__(self, lanes: int) -> None:
-        """So many lanes, or (0) one a processor."""
+    def __init__(self, lanes: int, minutes: Optional[float] = None) -> None:
+        """So many lanes, or (0) one a processor, for so many minutes, if there is an end."""
         self.idle, self.memory = lanes or rt().processors(), OF_FREE * rt().free()
+        self.until = None if minutes is None else time.monotonic() + 60 * minutes
         self.running, self.is_closed = 0, False
         self.changed = threading.Condition()
         self.tickets = itertools.count()
@@ -161,6 +163,10 @@ class Lanes:
         finally:
             with self.changed:
                 self.take(-1, -memory)
+
+    def are_over(self) -> bool:
+        """Whether no further check is to begin."""
+        return self.until is not None and time.monotonic() >= self.until
 
     def has_room(self, memory: float) -> bool:
         return self.idle > 0 and (not self.running or memory <= self.memory)

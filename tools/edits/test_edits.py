@@ -208,12 +208,12 @@ class EditsTest(unittest.TestCase):
         self.addCleanup(folder.cleanup)
         self.repository = Repository(folder.name, BUILT[0])
 
-    def tried(self, crate: str, folders: Tuple[str, ...] = FOLDERS) -> Tuple[Outcome, List[str]]:
+    def tried(self, crate: str, folders: Tuple[str, ...] = FOLDERS, minutes: Optional[float] = None) -> Tuple[Outcome, List[str]]:
         """What came of a crate's edits, and the lines that were printed."""
         found = self.repository.crate(crate)
         self.assertIsNone(kit.built(found.below(), 1, is_after_ci=False))
         with contextlib.redirect_stdout(io.StringIO()) as said:
-            outcome = try_edits(self.repository.top, found, folders, kit.Lanes(2))
+            outcome = try_edits(self.repository.top, found, folders, kit.Lanes(2, minutes))
         return outcome, said.getvalue().split("\n")
 
     def assert_said(self, start: str, lines: List[str]) -> None:
@@ -363,6 +363,14 @@ class RecordTest(EditsTest):
         self.assertEqual(taken(third, third, 1), ["high", "low"])
         self.assertEqual([taken(2 * third, 2 * third, turn) for turn in (0, 1)], [["low"], ["high"]])
         self.assertEqual(taken(4 * third, third, 0), ["low"])
+
+    def test_no_time(self) -> None:
+        """An edit for which no time is left is neither refused nor a failure, and its crate isn't recorded."""
+        self.repository.put_edits("high", {"third_is_second": THIRD_IS_SECOND})
+        outcome, said = self.tried("high", minutes=0)
+        self.assertEqual((outcome.refused, outcome.failed), (0, 0))
+        self.assert_said("high: 0 refused, 0 failed, 1 not tried", said)
+        self.assertEqual(record.read(self.repository.top), {})
 
     def test_hash(self) -> None:
         """It changes with what a refusal rests on, and with nothing else."""
