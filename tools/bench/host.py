@@ -8,7 +8,7 @@ import os
 import platform
 import subprocess
 import sys
-from typing import Iterator, List, Sequence
+from typing import Iterator, List, Sequence, Set
 
 SPIN = "import os; os.sched_setscheduler(0, os.SCHED_IDLE, os.sched_param(0))\nwhile True: pass"
 
@@ -23,6 +23,23 @@ def awake() -> Iterator[None]:
         for it in spinning:
             it.kill()
             it.wait()
+
+
+@contextlib.contextmanager
+def on(processors: Set[int]) -> Iterator[None]:
+    """What is started meanwhile runs on these processors."""
+    before = os.sched_getaffinity(0)
+    os.sched_setaffinity(0, processors)
+    try:
+        yield
+    finally:
+        os.sched_setaffinity(0, before)
+
+
+def move(pid: int, processors: Set[int]) -> None:
+    """A process goes to these processors."""
+    for thread in os.listdir(f"/proc/{pid}/task"):
+        os.sched_setaffinity(int(thread), processors)
 
 
 def times() -> List[int]:
