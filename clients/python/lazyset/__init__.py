@@ -39,7 +39,7 @@ from .errors import (
 from .pool import Pool
 from .texts import key_of
 
-__version__ = "1.15"
+__version__ = "1.16"
 
 __all__ = [
     "CONNECT_TIMEOUT",

@@ -4,12 +4,12 @@ use clap::{Arg, ArgAction, Command, value_parser};
 use std::alloc::{AllocError, Global};
 
 // The program's version, and the kit that proved and built it, as `rt version` names it.
-const VERSION: &str = "1.15, logic dac8208d650f15bf";
+const VERSION: &str = "1.16, logic dac8208d650f15bf";
 
 /// The same version's numbers.
 pub const MAJOR: usize = 1;
 
-pub const MINOR: usize = 15;
+pub const MINOR: usize = 16;
 
 /// Where a service listens.
 #[derive(Clone, Copy)]
