@@ -36,12 +36,6 @@ def on(processors: Set[int]) -> Iterator[None]:
         os.sched_setaffinity(0, before)
 
 
-def move(pid: int, processors: Set[int]) -> None:
-    """A process goes to these processors."""
-    for thread in os.listdir(f"/proc/{pid}/task"):
-        os.sched_setaffinity(int(thread), processors)
-
-
 def times() -> List[int]:
     """For how long the processors did each kind of thing since the start, as the system counts it."""
     with open("/proc/stat", encoding="ascii") as counts:
