@@ -5,8 +5,8 @@ use Rattle.std.proofs.lemmas.List.{get_or_append_left, get_or_default, get_or_pu
 use Rattle.std.{proofs.lemmas.Bool.{cases_eq, cases_Bool, cases_lt, Decides.{nat_tests}}, specs.{Prelude.{nat_lt, ◌&&◌, if◌then◌else◌}, List.{swap}}}
 use Rattle.std.specs.{List.Sorted.{IsPermutation, IsSorted}, Ordering.{nat_cmp, ordering_then}}
 use mathlib.Core.Bool.{false≢true}
-use Rattle.lz_vault.specs.{Stages.{Cell}, Members.{member_at, member_in, no_cell, node_at, Ascends, AreApart, AreDistinct, AreListed, AreMembers}}
-use Rattle.lz_vault.specs.Members.{AreInOrder, AreNeighbours, AreTwins, IsLowest, lower_twins}
+use Rattle.lz_vault.specs.{Stages.{Cell}, Members.{member_at, member_in, no_cell, node_at, Ascends, AreApart, AreDistinct, AreListed, AreMembers, AreInOrder}}
+use Rattle.lz_vault.specs.Members.{AreNeighbours, AreTwins, IsLowest, lower_twins}
 use Rattle.lz_slot.specs.Nodes.{Nodes, has_node}
 
 -- a node is one of the first, or of the others
