@@ -1,4 +1,4 @@
-# Installs the program, its man page, the completion of bash, the units of systemd, pages for operators, and `ask`, the client for the shell:
+# Installs the program, its man page, the completion of bash, the units of systemd, the pages, and `ask`, the client for the shell:
 #
 #     make                                      gets the program (./first-run)
 #     make install                              below /usr/local
@@ -22,7 +22,8 @@ DOC = $(PREFIX)/share/doc/lazyset
 COMPLETIONS = $(PREFIX)/share/bash-completion/completions
 UNITS = $(PREFIX)/lib/systemd/system
 PARTS = lazyset@.service lazyset@.socket
-PAGES = OPERATIONS.md PROTOCOL.md RECIPES.md
+# Those for operators name others, and these further ones.
+PAGES = $(notdir $(wildcard docs/*.md docs/*.svg))
 
 .PHONY: all install uninstall check gate bench
 

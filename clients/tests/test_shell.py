@@ -94,6 +94,42 @@ class OverTheProgram(Asking, AgainstTheProgram):
         self.service.start()
 
 
+class OverRedisProtocol(Asking, AgainstTheProgram):
+    """A service with `--resp`, which is asked by its commands."""
+
+    options = ("--connections", "4", "--resp")
+
+    def setUp(self) -> None:
+        super().setUp()
+        self.port = str(self.service.port)
+
+    def test_commands_that_are_answered(self) -> None:
+        self.assertEqual(self.ask(self.port, "SADD 0 17", "SISMEMBER 0 17", "SET 17 1 NX"), Said(0, [":1", ":1", "$-1"], ""))
+        self.assertEqual(self.ask(self.port, "PING", "", "QUIT", "PING"), Said(0, ["+PONG"], ""))
+
+    def test_replies_of_several_lines(self) -> None:
+        said = self.ask(self.port, "SMISMEMBER 0 1 2", "INFO", "HELLO", "SSCAN 0 0", "EXISTS 0")
+        self.assertEqual((said.status, said.message), (0, ""))
+        self.assertEqual((said.replies[:3], said.replies[-1]), (["*2", ":0", ":0"], ":0"))
+
+    def test_a_line_of_the_other_protocol(self) -> None:
+        said = self.ask(self.port, "EXISTS 0", "has 17")
+        self.assertEqual((said.status, said.replies[0], len(said.replies)), (4, ":0", 2))
+        self.assertIn("line 2", said.message)
+        self.assertIn("SISMEMBER", said.message)
+
+    def test_what_is_no_command(self) -> None:
+        for line in ("GET 17", "SADD 0 x", "SADD 0 'x"):
+            said = self.ask(self.port, line, "PING")
+            self.assertEqual(said.status, 4, line)
+            self.assertIn("line 1 is no command: ERR", said.message)
+
+    def test_a_full_file(self) -> None:
+        said = self.ask(self.port, "SADD 0 1 2 3", "EXISTS 1")
+        self.assertEqual((said.status, said.replies[1]), (1, ":1"))
+        self.assertIn("line 1 was answered FULL", said.message)
+
+
 class OverAFake(Asking, AgainstAFake):
     def test_replies_that_are_cut_off(self) -> None:
         for script in (answers(b"yes\nn"), answers(b"yes\n")):
@@ -105,6 +141,20 @@ class OverAFake(Asking, AgainstAFake):
         said = self.ask(str(self.fake(answers(b"yes\nhalted\n")).port), "has 1", "has 2", "has 3")
         self.assertEqual((said.status, said.replies), (1, ["yes", "halted"]))
         self.assertIn("line 2", said.message)
+
+    def test_the_same_by_redis_protocol(self) -> None:
+        for replies in (b":1\r\n", b":1\r\n$5\r\nhel", b":1\r\n*2\r\n:1\r\n"):
+            said = self.ask(str(self.fake(answers(replies)).port), "EXISTS 1", "EXISTS 2")
+            self.assertEqual((said.status, said.replies[0]), (6, ":1"), replies)
+            self.assertIn("after 1 of 2 replies", said.message)
+        said = self.ask(str(self.fake(answers(b"-FULL no slot is free; 0 of 1 were added\r\n-HALTED the device failed\r\n")).port), *["SADD 0 1"] * 3)
+        self.assertEqual(said.status, 1)
+        self.assertIn("line 2 was answered HALTED", said.message)
+
+    def test_another_service(self) -> None:
+        said = self.ask(str(self.fake(answers(b"SSH-2.0\r\n")).port), "has 1")
+        self.assertEqual(said.status, 4)
+        self.assertIn("no reply of a set service", said.message)
 
     def test_the_command_line(self) -> None:
         for words in ((), ("7000",), ("-t",), ("-t", "x", "7000", "has 1"), ("-t", "1"), ("-t", "1", "7000")):
@@ -125,6 +175,10 @@ class OverAFake(Asking, AgainstAFake):
 
 
 class ByBash(OverTheProgram):
+    tool = "bash"
+
+
+class ByBashOverRedisProtocol(OverRedisProtocol):
     tool = "bash"
 
 

@@ -2,7 +2,7 @@
 //
 //     walk MEMBERS BUCKETS MILLISECONDS
 //
-// The members are the even numbers below 2 * MEMBERS, and each number below that is looked for in turn, as `test_drills` does.
+// The members are the even numbers below 2 * MEMBERS, and each number below that is looked for in turn, as `alloc_drills` does.
 // Prints how many looks found a member: half of them.
 #include <stdint.h>
 #include <stdio.h>

@@ -12,7 +12,7 @@ from typing import IO, Callable, Dict, List, Sequence, Set
 
 from edits import crate as one
 from edits import kit, record
-from edits.edit import FOLDERS, files_of
+from edits.edit import FOLDERS
 
 # How much is shown of what a failed command said.
 SHOWN = 40
@@ -87,13 +87,14 @@ class Steps:
             kit.say("".join(lines).rstrip())
 
     def check(self, crate: kit.Crate) -> bool:
-        """Checks a crate: its layout, its proofs, and its edits if what their refusals rest on isn't as recorded."""
+        """Checks a crate: its layout, its proofs, and those of its edits for which the record doesn't hold."""
         self.tell(f"{crate.name}: layout", lambda: self.layout(crate))
         if not self.tell(f"{crate.name}: proofs", lambda: self.run(crate, "lib" if crate.makes_rlib() else "check")):
             return False
-        line = record.read(self.top).get(crate.name)
-        if files_of(crate, FOLDERS) and not (line and line.hash == record.Hashes().of(crate)):
-            self.tell(f"{crate.name}: edits", lambda: not one.try_edits(self.top, crate, FOLDERS, kit.Lanes(0)).failed)
+        hashes = record.Hashes([crate])
+        void = hashes.void(crate, FOLDERS, record.read(self.top))
+        if void:
+            self.tell(f"{crate.name}: edits", lambda: not one.try_edits(self.top, crate, void, kit.Lanes(0), hashes).failed)
         return True
 
     def test(self, crate: kit.Crate) -> None:

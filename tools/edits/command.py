@@ -6,7 +6,7 @@ import argparse
 import sys
 import time
 from concurrent.futures import ThreadPoolExecutor
-from typing import List, Optional, Sequence
+from typing import List, Optional, Sequence, Tuple
 
 from edits import crate as one
 from edits import gate, kit, record
@@ -14,6 +14,8 @@ from edits.edit import FOLDERS, MUST_FAIL, WRONG_BODIES, files_of
 
 OF = {MUST_FAIL: (MUST_FAIL,), WRONG_BODIES: (WRONG_BODIES,), "all": FOLDERS}
 SECONDS_OF_A_DAY = 86400
+# A crate, and edits of it.
+Chosen = Tuple[kit.Crate, List[str]]
 
 
 def read_words(words: Sequence[str]) -> argparse.Namespace:
@@ -21,13 +23,14 @@ def read_words(words: Sequence[str]) -> argparse.Namespace:
     parser.add_argument("--of", choices=list(OF), default="all", help="whose edits (all)")
     parser.add_argument("--lanes", type=int, default=0, help="checks side by side (a processor less than there are, at most 3)")
     parser.add_argument("--plan", action="store_true", help="say what would be tried, and try nothing")
-    parser.add_argument("--gate", action="store_true", help="after rt ci: the wrong bodies of what changed, and others by turns")
+    parser.add_argument("--void", action="store_true", help="only edits for which the record doesn't hold")
+    parser.add_argument("--gate", action="store_true", help="after rt ci: wrong bodies for which the record doesn't hold, others by turns")
     parser.add_argument("--minutes", type=float, default=None, help="no check begins after so many (no end)")
     parser.add_argument("--turn", type=int, default=None, help="with --gate, whose turn it is (the day's number)")
     parser.add_argument("crates", nargs="*", metavar="CRATE")
     options = parser.parse_args(words)
-    if options.gate and options.crates:
-        parser.error("--gate chooses the crates")
+    if options.gate and (options.crates or options.void):
+        parser.error("--gate chooses the edits")
     return options
 
 
@@ -40,20 +43,20 @@ def named(crates: List[kit.Crate], names: Sequence[str], folders: Sequence[str])
 
 
 def try_all(
-    top: str, crates: Sequence[kit.Crate], folders: Sequence[str], lanes: int, minutes: Optional[float], is_after_ci: bool
-) -> int:
-    """Tries the edits of crates, so many checks side by side and for so many minutes, and returns how many failed."""
-    below = list(dict.fromkeys(library for it in crates for library in it.below()))
-    unproved = kit.built(below, lanes, is_after_ci)
+    top: str, edits: Sequence[Chosen], lanes: int, minutes: Optional[float], hashes: Optional[record.Hashes]
+) -> Tuple[int, int]:
+    """Tries edits of crates, so many checks side by side and for so many minutes, and returns how many were refused and how many failed.
+
+    Without hashes it is after `rt ci`."""
+    below = list(dict.fromkeys(library for it, _ in edits for library in it.below()))
+    unproved = kit.built(below, lanes, hashes is None)
     if unproved:
         sys.exit(f"the library {unproved.name} isn't proved, so no edit was tried")
     shared = kit.Lanes(lanes, minutes)
-    with ThreadPoolExecutor(max(len(crates), 1)) as pool, shared.opened():
-        outcomes = [*pool.map(lambda it: one.try_edits(top, it, folders, shared, is_after_ci), crates)]
-    failed = sum(it.failed for it in outcomes)
+    with ThreadPoolExecutor(max(len(edits), 1)) as pool, shared.opened():
+        outcomes = [*pool.map(lambda it: one.try_edits(top, it[0], it[1], shared, hashes), edits)]
     kit.say(f"processor time: {kit.processor_seconds() / 60:.1f} minutes")
-    kit.say(f"{sum(it.refused for it in outcomes)} refused, {failed} failed")
-    return failed
+    return sum(it.refused for it in outcomes), sum(it.failed for it in outcomes)
 
 
 def main(top: str, words: Sequence[str]) -> int:
@@ -61,14 +64,27 @@ def main(top: str, words: Sequence[str]) -> int:
     options = read_words(words)
     kit.start()
     folders = OF[WRONG_BODIES if options.gate else options.of]
-    crates = named(kit.crates(top), options.crates, folders)
+    everything = kit.crates(top)
+    crates = named(everything, options.crates, folders)
     lanes = options.lanes or (0 if options.gate else min(3, max(kit.rt().processors() - 1, 1)))
+    hashes, is_enough = record.Hashes(everything if options.gate else crates), True
     if options.gate:
         turn = int(time.time()) // SECONDS_OF_A_DAY if options.turn is None else options.turn
-        choice = gate.choose(top, crates, turn)
-        gate.tell(choice, turn)
-        crates = [*choice.changed, *choice.in_turn]
+        choices, held = gate.choose(top, crates, hashes, turn), gate.holding(top, everything, hashes)
+        gate.tell(choices, held, turn)
+        is_enough = held.is_enough()
+        edits = [(it, choices[it.name].void + choices[it.name].in_turn) for it in crates]
+    elif options.void:
+        lines = record.read(top)
+        edits = [(it, hashes.void(it, folders, lines)) for it in crates]
+        kit.say(f"void: {sum(len(paths) for _, paths in edits)} of {sum(len(files_of(it, folders)) for it in crates)} edits")
+    else:
+        edits = [(it, files_of(it, folders)) for it in crates]
+    edits = [(it, paths) for it, paths in edits if paths]
     if options.plan:
-        bad = sum(one.plan(it, folders) for it in crates)
-        return 1 if bad else 0
-    return 1 if try_all(top, crates, folders, lanes, options.minutes, options.gate) else 0
+        bad = sum(one.plan(it, paths) for it, paths in edits)
+        return 0 if not bad and is_enough else 1
+    refused, failed = try_all(top, edits, lanes, options.minutes, None if options.gate else hashes)
+    failed += not is_enough
+    kit.say(f"{refused} refused, {failed} failed")
+    return 1 if failed else 0

@@ -1,14 +1,14 @@
-"""All edits of one crate: what is needed before they are tried, and the line of the record after it."""
+"""All edits of one crate: what is needed before they are tried, and the lines of the record after it."""
 
 from __future__ import annotations
 
 import dataclasses
 import os
 import tempfile
-from typing import Dict, Sequence
+from typing import Callable, Dict, List, Optional, Sequence
 
 from edits import kit, record
-from edits.edit import FOLDERS, Sources, files_of
+from edits.edit import Edit, Sources, name_of
 from edits.group import Trial
 
 # Seconds, roughly: of the proof of a line, and of an edit where the record has no line.
@@ -24,35 +24,57 @@ class Outcome:
     seconds: float
 
 
-def length(crate: kit.Crate, folders: Sequence[str], lines: Dict[str, record.Line]) -> float:
-    """How long the edits in these folders may take, in seconds."""
-    line = lines.get(crate.name)
-    each = line.seconds / line.edits if line and line.edits else SECONDS_OF_AN_EDIT
-    return SECONDS_OF_A_LINE * crate.count(rb"\n") + each * len(files_of(crate, folders))
+def seconds_of(crate: kit.Crate, path: str, lines: Dict[record.Key, record.Line]) -> float:
+    """How long an edit may take."""
+    line = lines.get((crate.name, name_of(path)))
+    return line.seconds if line else SECONDS_OF_AN_EDIT
 
 
-def plan(crate: kit.Crate, folders: Sequence[str]) -> int:
-    """Says the groups of a crate's edits, as they are where all is refused at once, and returns how many can't be applied."""
+def length(crate: kit.Crate, paths: Sequence[str], lines: Dict[record.Key, record.Line]) -> float:
+    """How long these edits may take, in seconds."""
+    return SECONDS_OF_A_LINE * crate.count(rb"\n") + sum(seconds_of(crate, it, lines) for it in paths)
+
+
+def plan(crate: kit.Crate, paths: Sequence[str]) -> int:
+    """Says the groups of edits, as they are where all is refused at once, and returns how many can't be applied."""
     sources = Sources(crate.folder)
-    edits = [sources.edit(it) for it in files_of(crate, folders)]
-    trial = Trial(crate, sources, "", kit.Lanes(1), 0)
+    edits = sources.edits(paths)
+    trial = Trial(crate, sources, "", kit.Lanes(1), 0, lambda _: None)
     trial.tell_bad(edits)
     for group in trial.groups(edits):
         kit.say(f"{crate.name} {len(group)}: {' '.join(it.name for it in group)}")
     return len(trial.failed)
 
 
-def try_edits(top: str, crate: kit.Crate, folders: Sequence[str], lanes: kit.Lanes, is_after_ci: bool = False) -> Outcome:
-    """Tries the edits in these folders of a crate. It writes the record where they are all and were refused.
+def keeping(top: str, crate: kit.Crate, hashes: record.Hashes) -> Callable[[List[Edit]], None]:
+    """What writes lines of the record, for edits whose hashes are what they were."""
+    known = hashes.of(crate)
 
-    After `rt ci` the crate is known to be proved, and the record is left alone.
+    def keep(refused: List[Edit]) -> None:
+        now = hashes.of(crate)
+        same = [it for it in refused if known.get(it.name) and now.get(it.name) == known[it.name]]
+        record.write(top, {(crate.name, name_of(it.name)): record.Line(known[it.name], it.seconds) for it in same})
+        for it in refused:
+            if it not in same:
+                kit.say(f"{crate.name}/{it.name} was changed meanwhile, or what it rests on, so it isn't recorded")
+
+    return keep
+
+
+def try_edits(
+    top: str, crate: kit.Crate, paths: Sequence[str], lanes: kit.Lanes, hashes: Optional[record.Hashes] = None
+) -> Outcome:
+    """Tries edits of a crate, and writes the record's lines of those that were refused.
+
+    Without hashes it is after `rt ci`: the crate is known to be proved, and the record is left alone.
     """
-    known = record.Hashes().of(crate)
+    is_after_ci = hashes is None
+    keep = keeping(top, crate, hashes) if hashes else lambda _: None
     sources = Sources(crate.folder)
-    edits = [sources.edit(it) for it in files_of(crate, folders)]
+    edits = sources.edits(paths)
     kept = f"{crate.folder}/out/incremental"
     with tempfile.TemporaryDirectory(prefix="try-edits-") as room:
-        trial = Trial(crate, sources, room, lanes, length(crate, folders, record.read(top)))
+        trial = Trial(crate, sources, room, lanes, length(crate, paths, record.read(top)), keep)
         if os.path.isdir(kept):
             kit.link_kept(kept, room)
         # One group from nothing proves what is left of the crate on its way.
@@ -64,9 +86,4 @@ def try_edits(top: str, crate: kit.Crate, folders: Sequence[str], lanes: kit.Lan
     outcome = Outcome(refused, failed, sum(trial.checks))
     untried = f", {late} not tried, for lack of time" * bool(late)
     kit.say(f"{crate.name}: {refused} refused, {failed} failed{untried}, in {len(trial.checks)} checks and {outcome.seconds:.0f} s")
-    if refused and not failed and not late and not is_after_ci and set(folders) == set(FOLDERS):
-        if record.Hashes().of(crate) == known:
-            record.write(top, crate.name, record.Line(known, refused, round(outcome.seconds)))
-        else:
-            kit.say(f"{crate.name} was changed meanwhile, so it isn't recorded")
     return outcome

@@ -2,16 +2,17 @@
 
 from __future__ import annotations
 
+import collections
 import dataclasses
 import glob
 import os
 import re
 import sys
 import tempfile
-from typing import Dict, FrozenSet, List, NamedTuple, Optional, Sequence, Set, Tuple
+from typing import Dict, FrozenSet, List, NamedTuple, Optional, Sequence, Tuple
 
 from edits import kit
-from edits.source import Name, Source, source_of
+from edits.source import Function, Name, Source, Token, source_of
 
 MUST_FAIL, WRONG_BODIES = "must-fail", "wrong-bodies"
 FOLDERS = (MUST_FAIL, WRONG_BODIES)
@@ -39,15 +40,21 @@ class Place(NamedTuple):
 class Edit:
     """A wrong body. One that changes more than bodies has no functions here, and is tried alone."""
 
+    # Its path below the crate.
     name: str
     pairs: List[Pair]
+    text: str = ""
     # The functions whose bodies it changes, and those that it adds.
     functions: FrozenSet[Place] = frozenset()
     added: FrozenSet[Place] = frozenset()
+    # What it gives both: file, name, and the tokens of signature, clauses and body.
+    bodies: List[Tuple[str, Name, Tuple[Token, ...]]] = dataclasses.field(default_factory=list)
     # Why it can't be applied.
     fault: str = ""
     # How many may share a check with it, itself counted.
     most: int = sys.maxsize
+    # Its share of the seconds of its checks.
+    seconds: float = 0.0
 
 
 def sections(folder: str) -> Dict[str, str]:
@@ -59,7 +66,8 @@ def sections(folder: str) -> Dict[str, str]:
     except FileNotFoundError:
         return {}
     paths = [f"{WRONG_BODIES}/{name}.edit" for name in parts[::2]]
-    twice = [it for it in paths if paths.count(it) > 1 or os.path.exists(f"{folder}/{it}")]
+    counts = collections.Counter([*paths, *(os.path.relpath(it, folder) for it in glob.glob(f"{folder}/{WRONG_BODIES}/*.edit"))])
+    twice = [it for it in paths if counts[it] > 1]
     if before.strip() or twice:
         sys.exit(f"{place}: {'it begins with no line `edit: NAME`' if before.strip() else f'{twice[0]} stands twice'}")
     return {path: text.rstrip("\n") + "\n" for path, text in zip(paths, parts[1::2])}
@@ -93,9 +101,17 @@ def stray_line(text: str) -> str:
     return f"the line '{stray[0].strip()}' is read by nobody: a text has one line" if stray else ""
 
 
-def fault_of(folder: str, path: str) -> str:
-    """Why an edit can't be applied to the crate in a folder; empty where it can."""
-    return read(folder, path)[2]
+def name_of(path: str) -> str:
+    """An edit's name, by its path: the crate has one of it."""
+    return os.path.basename(path)[: -len(".edit")]
+
+
+def twin_of(folder: str, path: str) -> str:
+    """Says of an edit whose name stands in the other folder too that it does; empty where it doesn't."""
+    at, file = os.path.split(path)
+    other = MUST_FAIL if at == WRONG_BODIES else WRONG_BODIES
+    is_there = os.path.exists(f"{folder}/{other}/{file}") or (other == WRONG_BODIES and f"{other}/{file}" in sections(folder))
+    return f"its name stands in {other} too" if is_there else ""
 
 
 def pairs_of(text: str) -> List[Pair]:
@@ -118,6 +134,8 @@ class Sources:
         self.folder = folder
         self.texts: Dict[str, str] = {}
         self.sources: Dict[str, Optional[Source]] = {}
+        # The sources that edits make, by their texts.
+        self.made: Dict[str, Optional[Source]] = {}
 
     def text(self, file: str) -> str:
         if file not in self.texts:
@@ -142,32 +160,47 @@ class Sources:
                 texts[file] = text.replace(old, new)
         return texts
 
-    def edit(self, path: str) -> Edit:
-        """Reads an edit of the crate."""
-        text, texts, fault = read(self.folder, path)
-        edit = Edit(path, pairs_of(text), fault=fault)
-        changes = [self.changes(file, text) for file, text in (texts or {}).items()]
-        if all(bodies for bodies, _ in changes):
-            edit.functions = frozenset(place for bodies, _ in changes for place in bodies)
-            edit.added = frozenset(place for _, added in changes for place in added)
+    def edits(self, paths: Sequence[str]) -> List[Edit]:
+        """Reads edits of the crate."""
+        found = [read(self.folder, it) for it in paths]
+        sources = [text for _, texts, _ in found for file, text in (texts or {}).items() if file.startswith("src/")]
+        self.made.update(zip(sources, read_sources(sources)))
+        return [self.edit_of(path, *it) for path, it in zip(paths, found)]
+
+    def edit_of(self, path: str, text: str, texts: Optional[Dict[str, str]], fault: str) -> Edit:
+        """An edit, by its own text and those that it makes of files."""
+        edit = Edit(path, pairs_of(text), text, fault=fault or twin_of(self.folder, path))
+        changes = [(file, *self.changes(file, text)) for file, text in (texts or {}).items()]
+        if all(changed for _, changed, _ in changes):
+            edit.functions = frozenset(Place(file, it.name) for file, changed, _ in changes for it in changed)
+            edit.added = frozenset(Place(file, it.name) for file, _, added in changes for it in added)
+            edit.bodies = [(file, it.name, it.head + it.body) for file, changed, added in changes for it in changed + added]
         return edit
 
-    def changes(self, file: str, text: str) -> Tuple[Set[Place], Set[Place]]:
-        """The functions of a file whose bodies this text changes, and those that it adds; none where it changes more."""
-        old, new = (self.source(file), read_source(text)) if file.startswith("src/") else (None, None)
+    def changes(self, file: str, text: str) -> Tuple[List[Function], List[Function]]:
+        """The functions of a file whose bodies this text changes, and those that it adds, as it gives them; none where it changes more."""
+        old, new = (self.source(file), self.made[text]) if file.startswith("src/") else (None, None)
         if old is None or new is None:
-            return set(), set()
+            return [], []
         added = new.functions.keys() - old.functions.keys()
         if old.without(frozenset()) != new.without(frozenset(added)):
-            return set(), set()
-        bodies = {name for name, it in old.functions.items() if it.body != new.functions[name].body}
-        return {Place(file, name) for name in bodies}, {Place(file, name) for name in added}
+            return [], []
+        changed = [new.functions[name] for name, it in old.functions.items() if it.body != new.functions[name].body]
+        return changed, [it for name, it in new.functions.items() if name in added]
+
+
+def read_sources(texts: Sequence[str]) -> List[Optional[Source]]:
+    """The functions of source texts, or None for each that the kit can't read."""
+    with tempfile.TemporaryDirectory(prefix="try-edits-") as room:
+        paths = [f"{room}/{number}.rt" for number in range(len(texts))]
+        for path, text in zip(paths, texts):
+            with open(path, "w", encoding="utf-8") as file:
+                file.write(text)
+        rows = kit.tokens(paths) if texts else []
+        alone = [[it] for it in rows] if rows is not None else [kit.tokens([it]) for it in paths]
+    return [source_of(it[0]) if it else None for it in alone]
 
 
 def read_source(text: str) -> Optional[Source]:
     """The functions of a source text, or None where the kit can't read it."""
-    with tempfile.NamedTemporaryFile("w", suffix=".rt", encoding="utf-8") as file:
-        file.write(text)
-        file.flush()
-        rows = kit.tokens([file.name])
-    return None if rows is None else source_of(rows[0])
+    return read_sources([text])[0]

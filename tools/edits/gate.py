@@ -1,77 +1,96 @@
-"""What the gate tries beside `rt ci`: the crates that changed since all of their edits were refused, and others by turns."""
+"""What the gate tries beside `rt ci`: the wrong bodies for which the record doesn't hold, and others by turns."""
 
 from __future__ import annotations
 
-from typing import Dict, List, NamedTuple, Sequence
+from typing import Dict, List, NamedTuple, Sequence, Tuple
 
 from edits import kit, record
-from edits.crate import length
-from edits.edit import WRONG_BODIES, fault_of, files_of
+from edits.crate import length, seconds_of
+from edits.edit import FOLDERS, WRONG_BODIES, files_of
 
 TURNS = 8
 
-# Seconds of a processor, by the record, that the gate gives to the crates that changed: all of them take four times as long.
-MOST_SECONDS = 4500.0
+# Seconds of a processor, by the record, that the gate gives to edits that are void: all of them take four times as long.
+MOST_SECONDS = 1800.0
+# For this part of all edits the record has to hold. It rises as lines are written, up to four fifths.
+LEAST_HELD = 0.5
 
 
 class Choice(NamedTuple):
-    """The crates whose wrong bodies are tried, as they changed or as it is their turn; those that changed and wait for another
-    turn, as they all take too long; and those that are left out."""
+    """The wrong bodies of a crate that are tried, as they are void or as it is their turn; those that are void and wait for another
+    turn, as all take too long; and those that are left out."""
 
-    changed: List[kit.Crate]
-    in_turn: List[kit.Crate]
-    waiting: List[kit.Crate]
-    left_out: List[kit.Crate]
+    void: List[str]
+    in_turn: List[str]
+    waiting: List[str]
+    left_out: List[str]
 
 
-def within(crates: Sequence[kit.Crate], lengths: Dict[str, float], turn: int) -> List[kit.Crate]:
-    """As many of these crates as there is time for, and one at least: each turn begins with another."""
-    chosen: List[kit.Crate] = []
-    start = turn % max(len(crates), 1)
+class Holding(NamedTuple):
+    """For how many of all edits the record holds."""
+
+    held: int
+    edits: int
+
+    def is_enough(self) -> bool:
+        return self.held >= LEAST_HELD * self.edits
+
+
+def within(crates: Sequence[kit.Crate], void: Dict[str, List[str]], lines: Dict[record.Key, record.Line], turn: int) -> Dict[str, List[str]]:
+    """As many of the edits that are void as there is time for, and one at least: each turn begins with another crate."""
+    chosen: Dict[str, List[str]] = {it.name: [] for it in crates}
+    spent, start = 0.0, turn % max(len(crates), 1)
     for crate in [*crates[start:], *crates[:start]]:
-        if not chosen or sum(lengths[it.name] for it in [*chosen, crate]) <= MOST_SECONDS:
-            chosen.append(crate)
+        for path in void[crate.name]:
+            before = 0.0 if chosen[crate.name] else length(crate, (), lines)
+            takes = before + seconds_of(crate, path, lines)
+            if not spent or spent + takes <= MOST_SECONDS:
+                chosen[crate.name].append(path)
+                spent += takes
     return chosen
 
 
-def lengths_of(crates: Sequence[kit.Crate], lines: Dict[str, record.Line]) -> Dict[str, float]:
-    return {it.name: length(it, (WRONG_BODIES,), lines) for it in crates}
-
-
-def turns(crates: Sequence[kit.Crate], lengths: Dict[str, float]) -> List[List[kit.Crate]]:
-    """The crates in parts that take about as long as each other: the longest first, each into the shortest part so far."""
-    parts: List[List[kit.Crate]] = [[] for _ in range(TURNS)]
-    for crate in sorted(crates, key=lambda it: (-lengths[it.name], it.name)):
-        min(parts, key=lambda part: sum(lengths[it.name] for it in part)).append(crate)
+def turns(crates: Sequence[kit.Crate], lines: Dict[record.Key, record.Line]) -> List[Dict[str, List[str]]]:
+    """All wrong bodies, in parts that take about as long as each other: those of a crate stand together."""
+    parts: List[Dict[str, List[str]]] = [{it.name: [] for it in crates} for _ in range(TURNS)]
+    edits = [(it, path, seconds_of(it, path, lines)) for it in crates for path in files_of(it, (WRONG_BODIES,))]
+    total, before = sum(seconds for _, _, seconds in edits), 0.0
+    for crate, path, seconds in edits:
+        parts[min(int(TURNS * (before + seconds / 2) / max(total, 1.0)), TURNS - 1)][crate.name].append(path)
+        before += seconds
     return parts
 
 
-def is_recorded(crate: kit.Crate, lines: Dict[str, record.Line], hashes: record.Hashes) -> bool:
-    """Whether nothing changed since all of a crate's edits were refused. No comment is in the hash, but an edit may quote one."""
-    is_known = crate.name in lines and lines[crate.name].hash == hashes.of(crate)
-    return is_known and not any(fault_of(crate.folder, it) for it in files_of(crate, (WRONG_BODIES,)))
+def choose(top: str, crates: Sequence[kit.Crate], hashes: record.Hashes, turn: int) -> Dict[str, Choice]:
+    """What is tried of each crate."""
+    lines = record.read(top)
+    void = {it.name: hashes.void(it, (WRONG_BODIES,), lines) for it in crates}
+    tried, part = within(crates, void, lines, turn), turns(crates, lines)[turn % TURNS]
+    chosen = {}
+    for crate in crates:
+        name = crate.name
+        others = [it for it in files_of(crate, (WRONG_BODIES,)) if it not in void[name]]
+        in_turn = [it for it in others if it in part[name]]
+        waiting = [it for it in void[name] if it not in tried[name]]
+        chosen[name] = Choice(tried[name], in_turn, waiting, [it for it in others if it not in in_turn])
+    return chosen
 
 
-def choose(top: str, crates: Sequence[kit.Crate], turn: int) -> Choice:
-    lines, hashes = record.read(top), record.Hashes()
-    with_edits = [it for it in crates if files_of(it, (WRONG_BODIES,))]
-    lengths = lengths_of(with_edits, lines)
-    changed = [it for it in with_edits if not is_recorded(it, lines, hashes)]
-    others = [it for it in with_edits if it not in changed]
-    tried, part = within(changed, lengths, turn), turns(with_edits, lengths)[turn % TURNS]
-    waiting = [it for it in changed if it not in tried]
-    return Choice(tried, [it for it in others if it in part], waiting, [it for it in others if it not in part])
+def holding(top: str, crates: Sequence[kit.Crate], hashes: record.Hashes) -> Holding:
+    """For how many edits of these crates, must-fail included, the record holds."""
+    lines = record.read(top)
+    edits = sum(len(files_of(it, FOLDERS)) for it in crates)
+    return Holding(edits - sum(len(hashes.void(it, FOLDERS, lines)) for it in crates), edits)
 
 
-def tell(choice: Choice, turn: int) -> None:
-    """Says which wrong bodies are tried, and which not, and why."""
-
-    def named(crates: Sequence[kit.Crate]) -> str:
-        return ", ".join(f"{it.name} ({len(files_of(it, (WRONG_BODIES,)))})" for it in crates) or "none"
-
-    kit.say("wrong bodies, how many by crate; those of must-fail were tried by rt ci")
-    kit.say(f"tried, since the crate or a contract below it changed since all of its edits were refused: {named(choice.changed)}")
-    kit.say(f"tried, since it is their turn ({turn % TURNS} of 0 to {TURNS - 1}): {named(choice.in_turn)}")
-    if choice.waiting:
-        kit.say(f"changed too, and not tried, since {MOST_SECONDS / 60:.0f} minutes of a processor are full (try-edits tries them): {named(choice.waiting)}")
-    kit.say(f"left out, since nothing changed that their refusal rests on, and it isn't their turn: {named(choice.left_out)}")
+def tell(choices: Dict[str, Choice], held: Holding, turn: int) -> None:
+    """Says how many wrong bodies are tried, and how many not, and why."""
+    kit.say("wrong bodies by crate; those of must-fail were tried by rt ci. Tried: void, as the record doesn't hold for them, and in turn")
+    kit.say(f"(the turn is {turn % TURNS} of 0 to {TURNS - 1}). Not tried: waiting, void too, after {MOST_SECONDS / 60:.0f} minutes of a processor; left out")
+    for name, choice in choices.items():
+        counts: Tuple[int, ...] = tuple(map(len, choice))
+        if sum(counts):
+            kit.say(f"  {name}: {counts[0]} void, {counts[1]} in turn, {counts[2]} waiting, {counts[3]} left out")
+    kit.say(f"the record holds for {held.held} of {held.edits} edits")
+    if not held.is_enough():
+        kit.say(f"FAILED: that is less than {LEAST_HELD:.0%} of them; tools/try-edits --void writes the lines that are missing")

@@ -8,7 +8,7 @@ import re
 import tempfile
 import time
 from concurrent.futures import ThreadPoolExecutor
-from typing import Dict, FrozenSet, Iterator, List, Optional, Sequence, Set
+from typing import Callable, Dict, FrozenSet, Iterator, List, Optional, Sequence, Set
 
 from edits import kit
 from edits.edit import Edit, Place, Sources, read_source
@@ -37,10 +37,12 @@ def is_of(item: str, crate: str, place: Place) -> bool:
 class Trial:
     """The edits of one crate, tried over the work that a check of the crate itself kept in a folder."""
 
-    def __init__(self, crate: kit.Crate, sources: Sources, room: str, lanes: kit.Lanes, length: float) -> None:
-        """Of crates that share lanes the longest comes first."""
+    def __init__(
+        self, crate: kit.Crate, sources: Sources, room: str, lanes: kit.Lanes, length: float, keep: Callable[[List[Edit]], None]
+    ) -> None:
+        """Of crates that share lanes the longest comes first. What a check refuses is given to `keep`."""
         self.crate, self.sources, self.room = crate, sources, room
-        self.lanes, self.length = lanes, length
+        self.lanes, self.length, self.keep = lanes, length, keep
         self.refused: List[str] = []
         self.failed: List[str] = []
         # Those for which no time was left.
@@ -107,6 +109,16 @@ class Trial:
         if said is None:
             self.late += [it.name for it in group]
             return []
+        for edit in group:
+            edit.seconds += said.seconds / len(group)
+        again = self.verdicts(group, said, texts)
+        refused = [it for it in group if it.name in self.refused]
+        if refused:
+            self.keep(refused)
+        return again
+
+    def verdicts(self, group: List[Edit], said: kit.Check, texts: Dict[str, str]) -> List[Edit]:
+        """Tells the verdicts of a check that are clear, and returns the other edits."""
         if len(group) == 1:
             self.judge_one(group[0], said, texts)
             return []

@@ -185,6 +185,7 @@ class Check:
     said: Dict[str, str]
     # The first line on a text that the prover couldn't read.
     unread: str
+    seconds: float
 
     def is_judged(self) -> bool:
         """Whether the prover read all, and came to a verdict."""
@@ -205,11 +206,12 @@ class Check:
 
 def check(crate: Crate, texts: Dict[str, str], kept: str) -> Check:
     """Checks a copy of a crate with these texts, over the work that is kept in a folder, and keeps its own there."""
+    start = time.monotonic()
     ran = rt().checked(crate, texts, ["--jobs", "1"], kept)
     lines = ran.stdout.rstrip("\n").split("\n")
     stale = rt().rtlib.STALE.search(ran.stdout)
     unread = stale[0] if stale else next((it for it in lines if rt().unread(it, texts)), "")
-    return Check(ran.returncode, lines, dict(ITEM.findall(ran.stdout)), unread)
+    return Check(ran.returncode, lines, dict(ITEM.findall(ran.stdout)), unread, time.monotonic() - start)
 
 
 def link_kept(start: str, end: str) -> None:

@@ -4,7 +4,7 @@ from __future__ import annotations
 
 import dataclasses
 import re
-from typing import Dict, FrozenSet, List, NamedTuple, Optional, Tuple
+from typing import Dict, FrozenSet, List, NamedTuple, Optional, Sequence, Tuple
 
 ROW = re.compile(r"^(\d+) (\d+) (\d+) (\w+) (.*)$", re.M)
 OPENING, CLOSING = ("(", "["), (")", "]")
@@ -69,18 +69,15 @@ class Source:
         return [*found, *self.tokens[at:]]
 
 
-def tokens_of(rows: str) -> Tuple[Token, ...]:
-    """The tokens that `rattle fmt --tokens` printed for one file."""
-    found = []
-    for _, _, _, kind, text in ROW.findall(rows):
-        is_code = kind == "Code"
-        found.append(Token(is_code, text[1:-1] if is_code else text))
-    return tuple(found)
+def read_rows(rows: Sequence[Tuple[str, ...]]) -> Tuple[Token, ...]:
+    """The tokens that `rattle fmt --tokens` printed for one file, by their rows."""
+    return tuple(Token(True, text[1:-1]) if kind == "Code" else Token(False, text) for _, _, _, kind, text in rows)
 
 
 def source_of(rows: str) -> Source:
     """Reads a source by its tokens. Outside of bodies it leaves what a type may name, a `const fn`, and what it can't place."""
-    tokens = tokens_of(rows)
+    found = ROW.findall(rows)
+    tokens = read_rows(found)
     functions: Dict[Name, Function] = {}
     places: Dict[Name, Tuple[int, int, int]] = {}
     # The type and trait of each open brace.
@@ -109,7 +106,7 @@ def source_of(rows: str) -> Source:
         elif token.closes() and len(owners) > 1:
             owners.pop()
         at += 1
-    lines = tuple(int(row[0]) for row in ROW.findall(rows))
+    lines = tuple(int(row[0]) for row in found)
     return Source(tokens, functions, places, lines)
 
 

@@ -8,13 +8,13 @@ import threading
 from typing import Dict, Iterator, Tuple
 
 from edits import kit
-from edits.record import files
+from edits.citations import files
 
 PARTS = ("src", "specs", "proofs")
 # How often the processes are looked at, in seconds: what a process takes after the last look isn't seen.
 PAUSE = 1.0
 # The lines of each crate's proofs when the program of dist/ was made (tools/release), and by which part they may grow unnamed.
-WRITTEN, MOST_GROWTH = "dist/PROOFS", 0.05
+WRITTEN, MOST_GROWTH = os.path.join("tools", "proof-budget"), 0.05
 
 
 class Watch:

@@ -11,15 +11,16 @@ import sys
 import tempfile
 import time
 import unittest
+import unittest.mock
 from concurrent.futures import ThreadPoolExecutor
-from typing import Dict, List, Optional, Tuple
+from typing import Dict, List, Optional, Sequence, Tuple
 
 sys.dont_write_bytecode = True
 sys.path.insert(0, os.path.dirname(os.path.dirname(os.path.abspath(__file__))))
 
-from edits import change, command, gate, kit, record, table  # noqa: E402
-from edits.crate import Outcome, try_edits  # noqa: E402
-from edits.edit import FOLDERS, MUST_FAIL, ONE_FILE, WRONG_BODIES, Place, Sources, files_of, read_source, sections  # noqa: E402
+from edits import change, command, gate, kit, record, table, test_citations  # noqa: E402
+from edits.crate import Outcome, keeping, try_edits  # noqa: E402
+from edits.edit import FOLDERS, MUST_FAIL, ONE_FILE, WRONG_BODIES, Place, Sources, files_of, name_of, read_source, sections  # noqa: E402
 from edits.group import is_of  # noqa: E402
 from edits.source import Name  # noqa: E402
 
@@ -178,8 +179,10 @@ class Repository:
     def crate(self, name: str) -> kit.Crate:
         return next(it for it in kit.crates(self.top) if it.name == name)
 
-    def hash(self, name: str) -> str:
-        return record.Hashes().of(self.crate(name))
+    def hashes(self, name: str) -> Dict[str, str]:
+        """The hashes of a crate's edits, by their names."""
+        crate = self.crate(name)
+        return {name_of(path): known for path, known in record.Hashes([crate]).of(crate).items()}
 
 
 # Whether wrong bodies stand in one file a crate. The tests are run with both.
@@ -213,7 +216,7 @@ class EditsTest(unittest.TestCase):
         found = self.repository.crate(crate)
         self.assertIsNone(kit.built(found.below(), 1, is_after_ci=False))
         with contextlib.redirect_stdout(io.StringIO()) as said:
-            outcome = try_edits(self.repository.top, found, folders, kit.Lanes(2, minutes))
+            outcome = try_edits(self.repository.top, found, files_of(found, folders), kit.Lanes(2, minutes), record.Hashes([found]))
         return outcome, said.getvalue().split("\n")
 
     def assert_said(self, start: str, lines: List[str]) -> None:
@@ -238,7 +241,11 @@ class VerdictTest(EditsTest):
         first = ["refused low/least_is_the_second", "refused low/next_is_two_more", "refused low/triangle_of_four"]
         self.assertEqual(told[:3], first)
         self.assertEqual(sorted(told[3:]), ["NOT REFUSED low/second_is_itself", "refused low/lower_is_turned"])
-        self.assertEqual(record.read(self.repository.top), {})
+        names = ["least_is_the_second", "lower_is_turned", "next_is_two_more", "triangle_of_four"]
+        lines = record.read(self.repository.top)
+        self.assertEqual([*lines], [("low", it) for it in names])
+        self.assertEqual([it.hash for it in lines.values()], [self.repository.hashes("low")[it] for it in names])
+        self.assertLessEqual(sum(it.seconds for it in lines.values()), outcome.seconds + 0.1 * len(lines))
 
     def test_impl(self) -> None:
         """An impl is refused with its method, and a method with what it calls: one check will do."""
@@ -315,86 +322,143 @@ class LanesTest(EditsTest):
             self.assertIsInstance(late.exception(), InterruptedError)
 
     def test_crates(self) -> None:
-        """The edits of two crates are tried, and each has its line in the record."""
+        """The edits of two crates are tried, and each has its line in the record; then none is void, and of a new one just it is tried."""
         self.repository.put_edits("low", {"next_is_two_more": NEXT_IS_TWO_MORE, "corners_are_four": CORNERS_ARE_FOUR})
         self.repository.put_edits("high", {"third_is_second": THIRD_IS_SECOND})
         with contextlib.redirect_stdout(io.StringIO()) as said:
             status = command.main(self.repository.top, ["--lanes", "2"])
         self.assertEqual((status, said.getvalue().split("\n")[-2]), (0, "3 refused, 0 failed"))
-        self.assertEqual([(name, it.edits) for name, it in record.read(self.repository.top).items()], [("high", 1), ("low", 2)])
+        lines = [("high", "third_is_second"), ("low", "corners_are_four"), ("low", "next_is_two_more")]
+        self.assertEqual([*record.read(self.repository.top)], lines)
+        self.repository.put_edits("low", {"least_is_the_second": LEAST_IS_THE_SECOND})
+        with contextlib.redirect_stdout(io.StringIO()) as said:
+            status = command.main(self.repository.top, ["--lanes", "2", "--void"])
+        told = said.getvalue().split("\n")
+        self.assertEqual((status, told[0], told[-2]), (0, "void: 1 of 4 edits", "1 refused, 0 failed"))
 
 
-class RecordTest(EditsTest):
-    """The record and the choice of the gate."""
+class FilledTest(EditsTest):
+    """A test with a record."""
 
-    def test_record(self) -> None:
-        """A crate has a line once all of its edits were refused, and the gate then leaves it out."""
+    def fill(self, names: Sequence[str] = ("low", "high")) -> None:
+        """Writes the lines of these crates' edits, as if they were refused."""
+        hashes = {(crate, edit): known for crate in names for edit, known in self.repository.hashes(crate).items()}
+        record.write(self.repository.top, {key: record.Line(known, 1.25) for key, known in hashes.items()})
+
+
+class RecordTest(FilledTest):
+    """The record."""
+
+    def test_lines(self) -> None:
+        """A line has an edit's crate, name, hash and seconds, and goes when the edit is gone."""
         top = self.repository.top
         self.repository.put_edits("high", {"third_is_second": THIRD_IS_SECOND})
-        self.tried("high", (WRONG_BODIES,))
-        self.assertEqual(record.read(top), {}, "edits of one folder are not all")
-        crates = [self.repository.crate("high")]
-        self.assertEqual(gate.choose(top, crates, 0).changed, crates)
-        self.tried("high")
-        line = record.read(top)["high"]
-        self.assertEqual((line.hash, line.edits), (self.repository.hash("high"), 1))
-        chosen = [gate.choose(top, crates, turn) for turn in range(gate.TURNS)]
-        self.assertEqual([it.changed for it in chosen], [[]] * gate.TURNS)
-        self.assertEqual(sorted(len(it.in_turn) for it in chosen), [0] * (gate.TURNS - 1) + [1])
+        self.repository.put_edits("low", {"next_is_two_more": NEXT_IS_TWO_MORE})
+        self.fill()
+        with open(os.path.join(top, record.PLACE), encoding="utf-8") as text:
+            lines = text.read().splitlines()
+        known = self.repository.hashes("low")["next_is_two_more"]
+        self.assertEqual(len(lines), 3)
+        self.assertEqual(lines[2], f"low next_is_two_more {known} 1.2")
+        self.assertEqual(record.read(top)["low", "next_is_two_more"], record.Line(known, 1.2))
+        for path in files_of(self.repository.crate("high"), FOLDERS):
+            whole = f"{top}/crates/high/{path}"
+            os.remove(whole if os.path.exists(whole) else f"{top}/crates/high/{ONE_FILE}")
+        self.fill(["low"])
+        self.assertEqual([*record.read(top)], [("low", "next_is_two_more")])
+
+    def test_two_of_a_name(self) -> None:
+        """A name that stands in both folders is no edit's."""
+        for folder in FOLDERS:
+            self.repository.put_edits("low", {"next_is_two_more": NEXT_IS_TWO_MORE}, folder)
+        low = self.repository.crate("low")
+        faults = [it.fault for it in Sources(low.folder).edits(files_of(low, FOLDERS))]
+        self.assertEqual(faults, ["its name stands in wrong-bodies too", "its name stands in must-fail too"])
+        self.assertEqual(record.Hashes([low]).void(low, FOLDERS, {}), files_of(low, FOLDERS))
+
+    def test_changed_meanwhile(self) -> None:
+        """An edit isn't recorded where what it rests on was changed while it was tried."""
+        self.repository.put_edits("low", {"next_is_two_more": NEXT_IS_TWO_MORE, "lower_is_turned": LOWER_IS_TURNED})
+        low = self.repository.crate("low")
+        keep, sources = keeping(self.repository.top, low, record.Hashes([low])), Sources(low.folder)
+        edits = sources.edits(files_of(low, FOLDERS))
+        self.repository.write("crates/low/src/lib.rt", LOW.replace("result ≡ x + 1", "result ≡ 1 + x"))
+        with contextlib.redirect_stdout(io.StringIO()) as said:
+            keep(edits)
+        self.assertEqual([*record.read(self.repository.top)], [("low", "lower_is_turned")])
+        self.assertIn("low/wrong-bodies/next_is_two_more.edit was changed meanwhile", said.getvalue())
+
+
+class GateTest(FilledTest):
+    """The choice of the gate."""
+
+    def chosen(self, turn: int) -> Dict[str, gate.Choice]:
+        crates = kit.crates(self.repository.top)
+        return gate.choose(self.repository.top, crates, record.Hashes(crates), turn)
+
+    def test_choice(self) -> None:
+        """Void edits are tried at each turn, and the others once in all turns."""
+        self.repository.put_edits("low", {"next_is_two_more": NEXT_IS_TWO_MORE, "lower_is_turned": LOWER_IS_TURNED})
+        self.repository.put_edits("high", {"third_is_second": THIRD_IS_SECOND})
+        self.assertEqual([len(self.chosen(0)[it].void) for it in ("low", "high")], [2, 1])
+        self.fill()
+        for turn in range(gate.TURNS):
+            self.assertEqual([self.chosen(turn)[it].void for it in ("low", "high")], [[], []])
+        tried = [it for turn in range(gate.TURNS) for name in ("low", "high") for it in self.chosen(turn)[name].in_turn]
+        self.assertEqual(sorted(map(name_of, tried)), ["lower_is_turned", "next_is_two_more", "third_is_second"])
+        self.repository.write("crates/low/src/lib.rt", LOW.replace("result ≤ x", "x ≥ result", 1))
+        self.assertEqual([*map(name_of, self.chosen(0)["low"].void)], ["lower_is_turned"])
+        self.assertEqual(self.chosen(0)["high"].void, [])
+
+    def test_quoted_comment(self) -> None:
+        """No comment is in a hash, but an edit that quotes one can't be applied when it is another."""
         self.repository.put_edit("high", "third_is_second", QUOTES_A_COMMENT)
-        record.write(top, "high", record.Line(self.repository.hash("high"), 1, 1))
-        self.assertEqual(gate.choose(top, crates, 0).changed, [])
+        self.fill()
+        self.assertEqual(self.chosen(0)["high"].void, [])
         self.repository.write("crates/high/src/lib.rt", HIGH.replace("/// Three more.", "/// Three added."))
-        self.assertEqual(gate.choose(top, crates, 0).changed, crates, "the edit can't be applied")
-        self.repository.write("crates/high/src/lib.rt", HIGH)
-        self.repository.write("crates/low/src/lib.rt", LOW.replace("x < 900", "x < 901"))
-        self.assertEqual(gate.choose(top, crates, 0).changed, crates)
+        self.assertEqual(len(self.chosen(0)["high"].void), 1)
 
     def test_most_seconds(self) -> None:
-        """Of the crates that changed the gate takes those that it has time for, each turn from another on, and one at least."""
+        """Of the void edits the gate takes those that it has time for, each turn from another crate on, and one at least."""
         crates = [self.repository.crate(name) for name in ("low", "high")]
-        third = gate.MOST_SECONDS / 3
+        paths = {"low": ["wrong-bodies/a.edit", "wrong-bodies/b.edit"], "high": ["wrong-bodies/c.edit"]}
 
-        def taken(low: float, high: float, turn: int) -> List[str]:
-            return [it.name for it in gate.within(crates, {"low": low, "high": high}, turn)]
+        def taken(part: float, turn: int) -> List[str]:
+            seconds = gate.MOST_SECONDS * part
+            lines = {(name, name_of(it)): record.Line("", seconds) for name in paths for it in paths[name]}
+            return [name_of(it) for edits in gate.within(crates, paths, lines, turn).values() for it in edits]
 
-        self.assertEqual(gate.within([], {}, 5), [])
-        self.assertEqual(taken(third, third, 0), ["low", "high"])
-        self.assertEqual(taken(third, third, 1), ["high", "low"])
-        self.assertEqual([taken(2 * third, 2 * third, turn) for turn in (0, 1)], [["low"], ["high"]])
-        self.assertEqual(taken(4 * third, third, 0), ["low"])
+        self.assertEqual(gate.within([], {}, {}, 5), {})
+        self.assertEqual([taken(0.3, turn) for turn in (0, 1)], [["a", "b", "c"]] * 2)
+        self.assertEqual([taken(0.4, turn) for turn in (0, 1)], [["a", "b"], ["a", "c"]])
+        self.assertEqual([taken(4, turn) for turn in (0, 1)], [["a"], ["c"]])
+
+    def test_floor(self) -> None:
+        """The gate says for how many of all edits the record holds, and fails below the floor, here four fifths of them."""
+        edits = {"next_is_two_more": NEXT_IS_TWO_MORE, "lower_is_turned": LOWER_IS_TURNED, "corners_are_four": CORNERS_ARE_FOUR}
+        self.repository.put_edits("low", edits)
+        self.repository.put_edits("low", {"least_is_the_second": LEAST_IS_THE_SECOND}, MUST_FAIL)
+        self.repository.put_edits("high", {"third_is_second": THIRD_IS_SECOND})
+
+        def planned() -> Tuple[int, str, bool]:
+            with contextlib.redirect_stdout(io.StringIO()) as said, unittest.mock.patch.object(gate, "LEAST_HELD", 0.8):
+                status = command.main(self.repository.top, ["--gate", "--plan"])
+            told = said.getvalue()
+            return status, next(it for it in told.split("\n") if it.startswith("the record holds")), "FAILED: " in told
+
+        self.assertEqual(planned(), (1, "the record holds for 0 of 5 edits", True))
+        self.fill(["low"])
+        self.assertEqual(planned(), (0, "the record holds for 4 of 5 edits", False))
+        self.repository.write("crates/low/src/lib.rt", LOW.replace("result ≡ x + 1", "result ≡ 1 + x"))
+        self.assertEqual(planned(), (1, "the record holds for 3 of 5 edits", True))
 
     def test_no_time(self) -> None:
-        """An edit for which no time is left is neither refused nor a failure, and its crate isn't recorded."""
+        """An edit for which no time is left is neither refused nor a failure, and isn't recorded."""
         self.repository.put_edits("high", {"third_is_second": THIRD_IS_SECOND})
         outcome, said = self.tried("high", minutes=0)
         self.assertEqual((outcome.refused, outcome.failed), (0, 0))
         self.assert_said("high: 0 refused, 0 failed, 1 not tried", said)
         self.assertEqual(record.read(self.repository.top), {})
-
-    def test_hash(self) -> None:
-        """It changes with what a refusal rests on, and with nothing else."""
-        self.repository.put_edits("high", {"third_is_second": THIRD_IS_SECOND}, MUST_FAIL)
-        known = self.repository.hash("high")
-        same = {
-            "crates/low/src/lib.rt": LOW.replace("next(next(x))", "next(x) + 1").replace("/// Two more.", "/// Two added."),
-            "crates/low/proofs/lower/Answers.antt": LOWER + "\n",
-            "crates/high/proofs/third/Answers.antt": "\n",
-            "crates/high/src/lib.rt": HIGH + "\n// No more.\n",
-        }
-        others = {
-            "crates/low/src/lib.rt": LOW.replace("x < 900", "x < 901"),
-            "crates/low/specs/Lib.antt": "pub mod More\n",
-            "crates/high/src/lib.rt": HIGH + "\nfn more() {}\n",
-            "crates/high/wrong-bodies/another.edit": "file: src/lib.rt\n",
-        }
-        for path, text in same.items():
-            self.repository.write(path, text)
-            self.assertEqual(self.repository.hash("high"), known, path)
-        for path, text in others.items():
-            self.repository.write(path, text)
-            self.assertNotEqual(self.repository.hash("high"), known, path)
-            known = self.repository.hash("high")
 
 
 class ChangeTest(EditsTest):
@@ -456,7 +520,7 @@ class ReadingTest(EditsTest):
         sources = Sources(self.repository.crate("low").folder)
 
         def changed(name: str) -> Tuple[List[str], List[str]]:
-            edit = sources.edit(f"{WRONG_BODIES}/{name}.edit")
+            edit = sources.edits([f"{WRONG_BODIES}/{name}.edit"])[0]
             return [it.name.name for it in edit.functions], [it.name.name for it in edit.added]
 
         self.assertEqual(changed("body"), (["next"], []))
@@ -510,8 +574,8 @@ class OneFileTest(InOneFile):
 
         def state() -> Tuple[object, ...]:
             paths = files_of(low, FOLDERS)
-            found = [Sources(low.folder).edit(it) for it in paths]
-            return paths, [(it.name, it.pairs, it.fault, it.functions) for it in found], self.repository.hash("low")
+            found = Sources(low.folder).edits(paths)
+            return paths, [(it.name, it.pairs, it.fault, it.functions) for it in found], self.repository.hashes("low")
 
         self.repository.put_edits("low", {"kept_by_the_kit": SECOND_IS_ITSELF}, MUST_FAIL)
         self.repository.put_edits("low", edits)
@@ -545,7 +609,16 @@ class OneFileTest(InOneFile):
 
 
 class RecordOfOneFileTest(InOneFile, RecordTest):
-    """The record and the choice of the gate, over edits in one file."""
+    """The record, over edits in one file."""
+
+
+class GateOfOneFileTest(InOneFile, GateTest):
+    """The choice of the gate, over edits in one file."""
+
+
+def load_tests(loader: unittest.TestLoader, tests: unittest.TestSuite, _: Optional[str]) -> unittest.TestSuite:
+    """These tests, and after them those of what a refusal rests on."""
+    return unittest.TestSuite([tests, loader.loadTestsFromModule(test_citations)])
 
 
 if __name__ == "__main__":

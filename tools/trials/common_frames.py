@@ -2,7 +2,7 @@
 
 from __future__ import annotations
 
-from typing import List
+from typing import Iterator, List
 
 from trials.beside_redis import framed, redis_server
 from trials.frames import sent_in_pieces
@@ -18,7 +18,8 @@ FIRST_KEY = 100
 
 # What no command can be made of, told in the same words.
 NOT_CARRIED_OUT = (
-    *((b"SADD",), (b"SADD", b"0"), (b"SISMEMBER", b"0", b"1", b"2"), (b"EXISTS",), (b"SETNX", b"1"), (b"SET", b"1"), (b"SET", b"1", b"1", b"XY")),
+    *((b"SADD",), (b"SADD", b"0"), (b"SISMEMBER", b"0", b"1", b"2"), (b"EXISTS",), (b"SETNX", b"1"), (b"SET", b"1")),
+    *((b"EXEC",), (b"DISCARD",), (b"DISCARD", b"1"), (b"MULTI", b"1")),
     *((b"SELECT",), (b"SELECT", b"0", b"0"), (b"PING", b"1", b"2"), (b"ECHO",), (b"",), (b"sad",), (b"\xc5ADD", b"0", b"1"), (b"NO\r\nSUCH", b"a\r\nb")),
     *((b"x" * 200, b"y" * 100, b"z" * 100, b"w"), (b"nosuch", *[b"ab"] * 60), *((b"nosuch", b"y" * length, b"z") for length in (124, 125, 126, 127))),
 )
@@ -59,6 +60,10 @@ class CommonNoise(FrameNoise):
         if kind == 14:
             return [b"PING", *[self.bytes()] * draw.randrange(2)] if self.one_in(2) else [b"ECHO", self.bytes()]
         return list(draw.choice(NOT_CARRIED_OUT))
+
+    def transaction(self) -> Iterator[bytes]:
+        """None: Redis carries out what stands in one."""
+        return iter(())
 
     def selection(self) -> List[bytes]:
         """A database that there is, or one too many."""

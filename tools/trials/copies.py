@@ -2,6 +2,7 @@
 
 from __future__ import annotations
 
+import itertools
 import os
 import random
 import socket
@@ -11,7 +12,7 @@ import time
 from collections import Counter
 from contextlib import contextmanager, suppress
 from typing import Counter as Count
-from typing import Iterator, List, Tuple
+from typing import Iterator, List, Sequence, Tuple
 
 from trials.at_path import socket_of
 from trials.changing import changing
@@ -152,6 +153,34 @@ def try_cut_off(program: Program, folder: str) -> None:
         expect(os.path.exists(new), False, "whether there is a file")
 
 
+@contextmanager
+def endless(pages: Sequence[bytes]) -> Iterator[int]:
+    """A port where one client is told these pages, one for each request, and again from the first one on."""
+    with socket.create_server(("127.0.0.1", 0)) as listener:
+
+        def answer() -> None:
+            client, _ = listener.accept()
+            with client, suppress(OSError):
+                for page in itertools.cycle(pages):
+                    if not client.recv(1 << 16):
+                        return
+                    client.sendall(page)
+
+        thread = threading.Thread(target=answer)
+        thread.start()
+        yield listener.getsockname()[1]
+        thread.join(PATIENCE)
+
+
+def try_endless(program: Program, folder: str) -> None:
+    """A cursor that stands still or goes back is no page of a scan: the copy ends, and makes nothing."""
+    new = os.path.join(folder, "new")
+    for pages in ([told(5, 1)], [told(5, 1), told(7, 2)], [told(5)], [told(4096, 1), told(256, 2)]):
+        with endless(pages) as port:
+            expect(program.run("copy", str(port), new, "10", patience=10.0), NO_REPLY, f"a copy of {len(pages)} pages without an end")
+        expect(os.path.exists(new), False, "whether there is a file")
+
+
 def try_words(program: Program, folder: str) -> None:
     """Standard error says in words why nothing was made."""
     new = os.path.join(folder, "new")
@@ -227,5 +256,6 @@ TRIALS = (
     ("copies while others change the set", try_meanwhile),
     ("copies that are cut off", try_cut_off),
     ("copies of what isn't such a service", try_refused),
+    ("copies of pages without an end", try_endless),
     ("words for a copy that isn't made", try_words),
 )

@@ -90,9 +90,9 @@ class Crowd:
         for connection in self.connections:
             connection.shutdown(socket.SHUT_WR)
 
-    def exchange(self, texts: Sequence[bytes]) -> List[bytes]:
-        """Sends a text on each, and gives what came: as many lines as the text has."""
-        return self._talk([Talk(it, text, text.count(b"\n")) for it, text in zip(self.connections, texts)])
+    def exchange(self, texts: Sequence[bytes], lines: Optional[int] = None) -> List[bytes]:
+        """Sends a text on each, and gives what came: so many lines, or as many as the text has."""
+        return self._talk([Talk(it, text, lines or text.count(b"\n")) for it, text in zip(self.connections, texts)])
 
     def last(self, texts: Sequence[bytes] = ()) -> List[bytes]:
         """Sends a text on each, if any, and gives what comes until the service ends the connection."""

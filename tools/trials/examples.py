@@ -31,6 +31,7 @@ REDIS = "a redis-server with members"
 NOT_RUN: Dict[str, Dict[str, str]] = {
     "README.md": {
         "./first-run": "it has trials of its own",
+        "tools/try-real": "it runs this",
         "docker build -f contrib/Containerfile -t lazyset dist": DOCKER,
         "PATH=$PWD/crates/lazyset/out:$PATH": "the shell has the program that is tried on its path",
     },
@@ -40,7 +41,7 @@ NOT_RUN: Dict[str, Dict[str, str]] = {
         "docker run --init -d --name keys -v keys:/set lazyset serve keys 7000 8 --buckets 1000 --control /run/lazyset/control": DOCKER,
         "docker run --rm --network container:keys CLIENT": DOCKER,
         "redis-cli SMEMBERS seen | lazyset make set 100000 --keys": REDIS,
-        "redis-cli SMEMBERS texts | python3 keys_of_lines.py | lazyset make set 100000 --keys": REDIS,
+        "redis-cli SMEMBERS tags | PYTHONPATH=clients/python python3 keys_of_members.py tags | lazyset make texts 100000 --keys": REDIS,
     },
     "OPERATIONS.md": {
         "make install": ROOT,
@@ -124,6 +125,22 @@ def examples_of(text: str) -> Tuple[List[Example], List[Example]]:
         else:
             is_below = False
     return examples, others
+
+
+def rows_of(text: str) -> List[Tuple[int, str, str]]:
+    """The rows of a page's tables that end with two commands, one that makes a file and one that serves it, with their lines."""
+    ends = re.compile(r"\| `(lazyset make [^`]+)` \| `(lazyset serve [^`]+)` \|$")
+    found = ((number, ends.search(line)) for number, line in enumerate(text.splitlines(), 1))
+    return [(number, row[1], row[2]) for number, row in found if row]
+
+
+def try_row(shell: "Shell", line: int, make: str, serve: str) -> None:
+    """A row's file is made, and its service listens; the file is removed again."""
+    slots, port = (re.findall(pattern, words)[0] for pattern, words in ((r"make \S+ (\d+)", make), (r"serve \S+ (\d+)", serve)))
+    for command, wanted in ((make, [f"made {slots}"]), (f"{serve} &", [f"listening {port}"]), (f"kill $! && wait $!; rm {make.split()[2]}", [])):
+        printed = shell.run(command, len(wanted))
+        if printed != wanted:
+            raise Wrong(f"line {line}: {command!r} printed {printed}, not {wanted}")
 
 
 def see_listed(others: Sequence[Example], listed: Dict[str, str]) -> None:
@@ -224,7 +241,8 @@ def _is_taken(port: int) -> bool:
 
 
 def try_page(program: str, folder: str, page: str) -> None:
-    """Runs a page's examples one after another, in one shell and one folder. What else stands there as a command is listed above."""
+    """Runs a page's rows of commands, and then its examples one after another, in one shell and one folder. What else stands there as a
+    command is listed above."""
     with open(page, encoding="utf-8") as file:
         text = file.read()
     name = os.path.basename(page)
@@ -238,6 +256,8 @@ def try_page(program: str, folder: str, page: str) -> None:
         raise Skip(f"port {port} is another program's")
     shell = Shell(folder, program)
     try:
+        for line, make, serve in rows_of(text):
+            try_row(shell, line, make, serve)
         for example in examples:
             if is_left_out(example):
                 continue

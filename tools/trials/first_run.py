@@ -10,7 +10,7 @@ import subprocess
 from dataclasses import dataclass
 from typing import List
 
-from trials.installs import needs
+from trials.installs import expect_named_pages, needs
 from trials.program import PATIENCE, Program
 from trials.report import Wrong, expect
 
@@ -136,7 +136,7 @@ def try_interrupted(program: Program, folder: str, top: str) -> None:
 
 
 def try_tar(program: Program, folder: str, top: str) -> None:
-    """The tar file of a release has what `make install` takes."""
+    """The tar file of a release has a first run, which takes its program, and what `make install` takes."""
     needs("make", "tar")
     copy = Copy(folder)
     copy.make(top)
@@ -146,7 +146,14 @@ def try_tar(program: Program, folder: str, top: str) -> None:
     copy.run("tools/release", "--built")
     packed = copy.run("tools/release", "--tar", folder)[-1]
     copy.run("tar", "-xf", packed, "-C", folder)
-    name = os.path.basename(packed)[: -len(".tar.gz")]
-    copy.run("make", "-s", "-C", os.path.join(folder, name), "install", f"PREFIX={folder}/there")
+    release = os.path.join(folder, os.path.basename(packed)[: -len(".tar.gz")])
+    first_run = os.path.join(release, "first-run")
+    for _ in range(2):
+        lines = copy.run(first_run)
+        expect(lines[0], "took the program of dist/, which is the release's; nothing was proved here", "what a first run of the release says")
+        expect(Program(lines[-1].partition("the program is ")[2]).run("--version"), program.run("--version"), "the program that it leaves")
+    copy.run(first_run, "--prove", status=1)
+    copy.run("make", "-s", "-C", release, "install", f"PREFIX={folder}/there")
+    expect_named_pages(os.path.join(folder, "there", "share", "doc", "lazyset"))
     ended = Program(os.path.join(folder, "there", "bin", "lazyset")).run("--version")
     expect(ended, program.run("--version"), "the program that is installed")

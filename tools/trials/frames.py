@@ -17,7 +17,7 @@ from trials.guests import PATIENCE, connect, received
 from trials.hostile import SLOTS, Drawn, expect_all, tell
 from trials.noise_frames import OTHERS, FrameNoise
 from trials.plain import Plain
-from trials.plain_frames import PlainTalk, array, integer
+from trials.plain_frames import MOST_WORDS, NO_TRANSACTIONS, PlainTalk, array, integer
 from trials.program import Ended, Key, Program, Service
 from trials.report import Wrong, expect
 from trials.stops import control_of
@@ -31,6 +31,9 @@ MOST_AFTER = 1000
 # Commands that are sent at once.
 AT_ONCE = 500
 
+# Members of a large frame.
+LARGE = 5_000
+
 # Keys that are added while a service is stopped, and how often that is tried.
 MANY, TRIES = 60_000, 20
 
@@ -38,8 +41,9 @@ HALTED = b"-HALTED the device failed\r\n"
 
 # How errors begin, and by what they are counted.
 KINDS = {
-    **{"FULL": "full", "OLDFILE": "oldfile", "ERR unknown": "unknown", "ERR wrong": "wrong_count", "ERR value is": "no_key", "ERR DB": "no_room"},
-    **{"ERR syntax": "syntax", "ERR values": "long_value", "ERR SHUTDOWN": "shutdown"},
+    **{"FULL": "full", "OLDFILE": "oldfile", "ERR unknown": "unknown", "ERR wrong": "wrong_count", "ERR value is": "no_key", "ERR a set": "no_room"},
+    **{"ERR DB": "no_database", "ERR syntax error:": "bad_set", "ERR syntax": "syntax", "ERR values": "long_value", "ERR SHUTDOWN": "shutdown"},
+    **{"ERR transactions": "in_transaction", "EXECABORT": "aborted", "ERR EXEC": "exec_alone", "ERR DISCARD": "discard_alone"},
     **{"ERR Protocol error: invalid m": "count", "ERR Protocol error: invalid b": "length", "ERR Protocol error: exp": "no_bulk"},
     **{"ERR Protocol error: no": "no_end", "ERR Protocol error: quo": "quotes", "ERR Protocol error: too": "too_big"},
 }
@@ -116,6 +120,8 @@ class Own(FrameNoise):
     """Draws frames that ask for keys of one room alone."""
 
     others = OTHERS
+    # After RESET room 0 would be selected.
+    ends = (b"EXEC", b"DISCARD")
 
     def __init__(self, seed: int, room: int) -> None:
         super().__init__(seed)
@@ -196,10 +202,69 @@ def try_at_once(program: Program, folder: str) -> None:
     expect(program.members(file), [], "the keys of the file")
 
 
+def try_large(program: Program, folder: str) -> None:
+    """A frame of thousands of members is carried out whole; one of a word too many ends the connection, and nothing of it is done."""
+    file = os.path.join(folder, "f")
+    program.make(file, LARGE)
+    with Service(program, file, PASSES, *by_frames(2)) as service:
+        keys = [b"%d" % number for number in range(LARGE)]
+        told = replies(service.port, array(b"SADD", b"3", *keys), array(b"SMISMEMBER", b"3", *keys), array(b"SREM", b"3", *keys[1:]))
+        expect(told, integer(LARGE) + b"*%d\r\n" % LARGE + LARGE * integer(1) + integer(LARGE - 1), "the replies to large frames")
+        told = replies(service.port, array(b"SREM", *[b"0"] * (MOST_WORDS - 1)), array(b"SREM", b"3", *[b"0"] * (MOST_WORDS - 1)))
+        expect(told, integer(0) + b"-ERR Protocol error: invalid multibulk length\r\n", "the replies to the largest frame, and to one that is larger")
+    expect(program.members(file), [Key(3, 0)], "the keys of the file")
+
+
+def try_transactions(program: Program, folder: str) -> None:
+    """After MULTI nothing is done until EXEC or DISCARD, also where the frames come one by one; then all is as before."""
+    file = os.path.join(folder, "f")
+    program.make(file, 8)
+    begins = array(b"SELECT", b"3") + array(b"MULTI") + array(b"SADD", b"3", b"17") + array(b"SELECT", b"9") + array(b"NOSUCH")
+    after = array(b"EXISTS", b"17") + array(b"SADD", b"3", b"18") + array(b"EXISTS", b"18")
+    rows = (
+        (array(b"EXEC"), b"-EXECABORT Transaction discarded because of previous errors.\r\n", b":0\r\n:1\r\n:1\r\n"),
+        (array(b"DISCARD"), b"+OK\r\n", b":0\r\n:0\r\n:1\r\n"),
+        (array(b"RESET"), b"+RESET\r\n", b":0\r\n:0\r\n:0\r\n"),
+        (b"", b"", 3 * NO_TRANSACTIONS),
+    )
+    with Service(program, file, 2, *by_frames(4)) as service:
+        for end, told, last in rows:
+            wanted = b"+OK\r\n" + 4 * NO_TRANSACTIONS + told + last
+            text = begins + end + after
+            expect(replies(service.port, text), wanted, f"the replies to {end!r} after MULTI")
+            if end != array(b"EXEC"):
+                expect(sent(connect(service.port), [text[place : place + 1] for place in range(len(text))]), wanted, f"the same of {end!r}, byte by byte")
+        expect(replies(service.port, begins, array(b"QUIT"), after), b"+OK\r\n" + 4 * NO_TRANSACTIONS + b"+OK\r\n", "the replies where QUIT comes after MULTI")
+        alone = b"-ERR EXEC without MULTI\r\n-ERR DISCARD without MULTI\r\n"
+        expect(replies(service.port, array(b"EXEC"), array(b"DISCARD")), alone, "the replies without MULTI")
+    expect(program.members(file), [Key(3, 18)], "the keys of the file")
+
+
+# What is told of a database that isn't there, where names are texts.
+ONE_DATABASE = b"-ERR SELECT: with --text there is database 0 alone; give each application's sets names of their own\r\n"
+
+
+def try_databases(program: Program, folder: str) -> None:
+    """Where names and members are texts there is one database: a client that selects another is told so, and shares no set unknowingly."""
+    file = os.path.join(folder, "f")
+    program.make(file, 8)
+    with Service(program, file, 2, *by_frames(2), "--text") as service:
+        frames = [array(b"SELECT", b"0"), array(b"SADD", b"seen", b"evt_1"), array(b"SELECT", b"1"), array(b"SELECT", b"16"), array(b"SELECT", b"00")]
+        expect(replies(service.port, *frames), b"+OK\r\n:1\r\n" + 3 * ONE_DATABASE, "the replies where another database is selected")
+        frames = [array(b"SELECT", b"x"), array(b"RESET"), array(b"SISMEMBER", b"seen", b"evt_1")]
+        expect(replies(service.port, *frames), ONE_DATABASE + b"+RESET\r\n:1\r\n", "the replies after it")
+    file = os.path.join(folder, "g")
+    program.make(file, 8)
+    with Service(program, file, 2, *by_frames(2)) as service:
+        frames = [array(b"SELECT", b"1"), array(b"SELECT", b"16"), array(b"SELECT", b"00")]
+        expect(replies(service.port, *frames), b"+OK\r\n" + 2 * b"-ERR DB index is out of range\r\n", "the replies where names are rooms")
+
+
 def try_halted(program: Program, folder: str) -> None:
     """Once the device failed a client is told so, and its connection ends; the service ends too. What was answered is in the file."""
     needs_strace()
-    for call, number in (("fdatasync", 4), ("pwrite64", 3)):
+    # A start syncs twice: before its look for a mark, and as it opens.
+    for call, number in (("fdatasync", 5), ("pwrite64", 3)):
         file = os.path.join(folder, call)
         program.make(file, 8)
         with Service(program, file, 4, *by_frames(4), before=failing(file, call, number)) as service:
@@ -272,6 +337,9 @@ TRIALS = (
     ("frames while a service stops", try_stop),
     ("frames that come byte by byte", try_one_by_one),
     ("frames that are sent at once", try_at_once),
+    ("frames of thousands of members", try_large),
+    ("frames that select a database", try_databases),
+    ("frames in a transaction", try_transactions),
     ("frames once a device failed", try_halted),
     ("frames at a path", try_at_path),
 )

@@ -22,14 +22,14 @@ FILES = {
     "lib/systemd/system/lazyset@.service": 0o644,
     "lib/systemd/system/lazyset@.socket": 0o644,
     "share/bash-completion/completions/lazyset": 0o644,
-    "share/doc/lazyset/OPERATIONS.md": 0o644,
-    "share/doc/lazyset/PROTOCOL.md": 0o644,
-    "share/doc/lazyset/RECIPES.md": 0o644,
     "share/man/man1/lazyset.1": 0o644,
 }
 
 # The client for Python.
-MODULES = ("__init__.py", "claims.py", "commands.py", "connection.py", "errors.py", "pool.py", "py.typed", "texts.py")
+MODULES = (
+    *("__init__.py", "child.py", "claims.py", "commands.py", "connection.py", "errors.py", "periods.py", "pool.py", "py.typed"),
+    *("resp.py", "sweeper.py", "texts.py"),
+)
 
 PACKED = [
     "lib/systemd/system/lazyset@.service",
@@ -39,9 +39,6 @@ PACKED = [
     *(f"usr/lib/python3/dist-packages/lazyset/{name}" for name in MODULES),
     "usr/share/bash-completion/completions/lazyset",
     "usr/share/doc/lazyset/NEWS.md.gz",
-    "usr/share/doc/lazyset/OPERATIONS.md",
-    "usr/share/doc/lazyset/PROTOCOL.md",
-    "usr/share/doc/lazyset/RECIPES.md",
     "usr/share/doc/lazyset/changelog.gz",
     "usr/share/doc/lazyset/copyright",
     "usr/share/doc/lazyset/examples/webhook_receiver.py",
@@ -75,18 +72,35 @@ def modes_in(folder: str) -> Dict[str, int]:
     return {os.path.relpath(path, folder): os.stat(path).st_mode & 0o7777 for path in paths}
 
 
+def pages_of(top: str) -> List[str]:
+    """The pages and their pictures."""
+    return [name for name in os.listdir(os.path.join(top, "docs")) if name.endswith((".md", ".svg"))]
+
+
+def expect_named_pages(folder: str) -> None:
+    """Each page and each picture that a page of a folder names is there too, and so is the page that operators begin with."""
+    there = set(os.listdir(folder))
+    expect("OPERATIONS.md" in there, True, "that there are pages")
+    for page in sorted(name for name in there if name.endswith(".md")):
+        text = bytes_of(os.path.join(folder, page)).decode()
+        named = re.findall(r"\bdocs/(\w+\.md)", text) + re.findall(r"\]\((\w[\w-]*\.svg)\)", text)
+        expect(sorted(set(named) - there), [], f"what {page} names and isn't there")
+
+
 def try_make(program: Program, folder: str, top: str) -> None:
     """The files are where they are asked for, the unit starts the program that is there, and they can be taken away."""
     needs("make")
     words = ["make", "-s", "-C", top, f"PROGRAM={program.path}", f"DESTDIR={folder}", "PREFIX=/opt/set"]
     said([*words, "install"])
-    expect(modes_in(os.path.join(folder, "opt", "set")), FILES, "what is installed")
     place = os.path.join(folder, "opt", "set")
+    pages = {os.path.join("share", "doc", "lazyset", name): 0o644 for name in pages_of(top)}
+    expect(modes_in(place), {**FILES, **pages}, "what is installed")
+    expect_named_pages(os.path.join(place, "share", "doc", "lazyset"))
     expect(bytes_of(os.path.join(place, "bin", "lazyset")) == bytes_of(program.path), True, "the program's bytes")
     unit, port = (bytes_of(os.path.join(place, "lib", "systemd", "system", f"lazyset@.{kind}")).decode() for kind in ("service", "socket"))
-    expect(re.findall(r"^Exec\w+=-?(\S+) (?:serve|stop) ", unit, re.M), ["/opt/set/bin/lazyset"] * 2, "what the unit starts")
-    pages = re.findall(r"^Documentation=file:(.*)$", unit + port, re.M)
-    expect(pages, ["/opt/set/share/doc/lazyset/OPERATIONS.md"] * 2, "the pages that the units name")
+    expect(re.findall(r"([^\s=-]+/lazyset) (?:serve|stop) ", unit), ["/opt/set/bin/lazyset"] * 2, "what the unit starts")
+    named = re.findall(r"^Documentation=file:(.*)$", unit + port, re.M)
+    expect(named, ["/opt/set/share/doc/lazyset/OPERATIONS.md"] * 2, "the pages that the units name")
     said([*words, "uninstall"])
     expect(modes_in(folder), {}, "what is left")
 
@@ -101,9 +115,11 @@ def try_package(program: Program, folder: str, top: str) -> None:
         packages.append(said([os.path.join(top, "tools", "debian-package"), place], PROGRAM=program.path).strip())
     expect(bytes_of(packages[0]) == bytes_of(packages[1]), True, "the same bytes twice")
     listed = re.findall(r"^-\S+ root/root .* \./(\S+)$", said(["dpkg-deb", "-c", packages[0]]), re.M)
-    expect(sorted(listed), PACKED, "the files of the package")
+    pages = [os.path.join("usr", "share", "doc", "lazyset", name) for name in pages_of(top)]
+    expect(sorted(listed), sorted([*PACKED, *pages]), "the files of the package")
     room = os.path.join(folder, "room")
     said(["dpkg-deb", "-x", packages[0], room])
+    expect_named_pages(os.path.join(room, "usr", "share", "doc", "lazyset"))
     version = said([os.path.join(room, "usr", "bin", "lazyset"), "--version"]).split()[1].rstrip(",")
     expect(said(["dpkg-deb", "-f", packages[0], "Version"]).strip(), version, "its version")
     modules = os.path.join(room, "usr", "lib", "python3", "dist-packages")
@@ -128,7 +144,7 @@ def try_container(program: Program, folder: str, top: str) -> None:
 
 
 def try_health(program: Program, folder: str, top: str) -> None:
-    """A container is healthy where its service answers a lookup, and not where it is stopped, halted or gone."""
+    """A container is healthy where its service answers a lookup by either protocol, and not where it is stopped, halted or gone."""
     needs("bash")
     text = bytes_of(os.path.join(top, "contrib", "Containerfile")).decode().replace("\\\n", "")
     words = json.loads("".join(re.findall(r"^HEALTHCHECK (?:--\S+ )*CMD (.*)$", text, re.M)))
@@ -139,22 +155,29 @@ def try_health(program: Program, folder: str, top: str) -> None:
 
     file = os.path.join(folder, "keys")
     program.make(file, 4)
-    with Service(program, file, 1) as service:
-        expect(status(service.port), 0, "the health of a service")
-        expect(program.members(file), [], "the keys after a look at its health")
-        service.process.send_signal(signal.SIGSTOP)
-        # On a busy machine its threads go on for a while: this waits for the last of them.
-        os.waitpid(service.process.pid, os.WUNTRACED)
-        expect(status(service.port), 1, "the health of a service that hangs")
-    expect(status(service.port), 1, "the health of a service that is gone")
-    with socket.create_server(("127.0.0.1", 0)) as listener:
-        threading.Thread(target=tell_halted, args=(listener,), daemon=True).start()
-        expect(status(listener.getsockname()[1]), 1, "the health of a service whose device failed")
+    by_redis = ("--connections", "4", "--resp")
+    with Service(program, file, 1, *by_redis, "--text") as service:
+        expect(status(service.port), 0, "the health of a service of texts")
+    file = os.path.join(folder, "numbers")
+    program.make(file, 4)
+    for options in ((), by_redis):
+        with Service(program, file, 1, *options) as service:
+            expect(status(service.port), 0, f"the health of a service with {options}")
+            expect(program.members(file), [], "the keys after a look at its health")
+            service.process.send_signal(signal.SIGSTOP)
+            # On a busy machine its threads go on for a while: this waits for the last of them.
+            os.waitpid(service.process.pid, os.WUNTRACED)
+            expect(status(service.port), 1, f"the health of a service with {options} that hangs")
+        expect(status(service.port), 1, f"the health of a service with {options} that is gone")
+    for told in (b"halted\n", b"-ERR unknown command 'has', with args beginning with: '0' \r\n-HALTED the device failed\r\n"):
+        with socket.create_server(("127.0.0.1", 0)) as listener:
+            threading.Thread(target=tell, args=(listener, told), daemon=True).start()
+            expect(status(listener.getsockname()[1]), 1, f"the health of a service that answers {told!r}")
 
 
-def tell_halted(listener: socket.socket) -> None:
-    """Answers one client as a service does whose device failed."""
+def tell(listener: socket.socket, told: bytes) -> None:
+    """Answers one client so, and ends the connection."""
     client, _ = listener.accept()
     with client:
         client.recv(64)
-        client.sendall(b"halted\n")
+        client.sendall(told)

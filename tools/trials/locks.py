@@ -2,17 +2,24 @@
 
 from __future__ import annotations
 
+import errno
 import fcntl
 import os
 import socket
-from typing import Tuple
+from typing import List, Tuple
 
+from trials.faults import needs_strace
 from trials.files import CLOSED, TORN, bytes_in, put
 from trials.program import PATIENCE, Ended, Program, Service
 from trials.report import expect
 from trials.torn import HEAD_4, words_for
 
 NO_FILE = Ended("nofile\n", 3)
+
+# By what a lock fails where there are none, and by what a file system that has some tells that it is ill or has none left.
+WITHOUT, ILL = ("ENOSYS", "EOPNOTSUPP"), ("ENOTCONN", "ESTALE", "ENOLCK", "EIO")
+
+NO_LOCK_HINT = "; where surely none has, give it --no-lock"
 
 # What the commands that read a file tell of one with four slots and the key 1.
 READINGS = (("info", "format 2\nslots 4\nmembers 1\nfree 3\ngood\n"), ("check", "slot 0 key 1\ngood\n"))
@@ -81,6 +88,40 @@ def try_shared(program: Program, old: str, new: str) -> None:
     with open(old, "rb") as writing:
         fcntl.flock(writing, fcntl.LOCK_EX)
         expect(program.run_loud("renew", old, new, "8"), taken(old), "a renewal beside a writer")
+
+
+def unlocked(file: str, error: str) -> List[str]:
+    """The words behind which a program's lock of the file fails so."""
+    return ["strace", "-f", "-qq", "-o", os.devnull, "-P", file, "-e", "trace=flock", "-e", f"inject=flock:error={error}"]
+
+
+def words_of(error: str) -> str:
+    number = getattr(errno, error)
+    return f"{os.strerror(number)} (os error {number})"
+
+
+def try_failing(program: Program, folder: str) -> None:
+    """Where a file system has no locks a command goes on, and says so. Any other failure refuses it, unless --no-lock is given."""
+    needs_strace()
+    file = os.path.join(folder, "f")
+    program.make(file, 4)
+    before = bytes_in(file)
+    for error in ILL:
+        why = f"lazyset: {file}: its lock failed, so another process may have it open: {words_of(error)}"
+        for command in (("run", file), ("serve", file, "0", "1")):
+            told = NO_FILE, f"{why}{NO_LOCK_HINT}\n"
+            expect(program.run_loud(*command, lines="add 1\n", before=unlocked(file, error)), told, f"{command[0]} where a lock fails by {error}")
+        for command in (("make", file, "8"), ("grow", file, "8"), ("renew", file, f"{file}.new", "8")):
+            expect(program.run_loud(*command, before=unlocked(file, error)), (NO_FILE, f"{why}\n"), f"{command[0]} where a lock fails by {error}")
+        expect(bytes_in(file), before, "the file's bytes")
+    for error, option in (*((error, ()) for error in WITHOUT), *((error, ("--no-lock",)) for error in ILL)):
+        said = f"lazyset: {file}: it can't be locked, so see that nothing else opens it: {words_of(error)}\n"
+        ended = program.run_loud("run", file, *option, lines="has 1\n", before=unlocked(file, error))
+        expect(ended, (Ended("no\n", 0), said), f"a run without locks by {error}")
+    with Service(program, file, 1, "--no-lock", before=unlocked(file, "ENOLCK")) as service:
+        expect(ask(service.port, "add 1"), "yes\n", "a reply of a service without a lock")
+    with Service(program, file, 1):
+        expect(program.run_loud("run", file, "--no-lock"), taken(file), "a run with --no-lock of a file that is served")
 
 
 def try_itself(program: Program, file: str) -> None:

@@ -10,7 +10,7 @@ from trials.plain_frames import MOST_FRAME, MOST_VALUE, MOST_WORD, MOST_WORDS, a
 
 # What a frame of noise is put together from.
 FRAME_WORDS = (
-    *("*1\r\n", "*2\r\n", "*3\r\n", "*0\r\n", "*-1\r\n", "*1025\r\n", "*", "$1\r\n", "$4\r\n", "$0\r\n", "$513\r\n", "$-1\r\n", "$"),
+    *("*1\r\n", "*2\r\n", "*3\r\n", "*0\r\n", "*-1\r\n", "*8193\r\n", "*", "$1\r\n", "$4\r\n", "$0\r\n", "$513\r\n", "$-1\r\n", "$"),
     *("SADD", "PING", "QUIT", "0", "17", "x", " ", "\t", "\r", "\n", "\r\n", "\r\n", "\r\n", "'", '"', "-", "-0", "01"),
 )
 
@@ -30,7 +30,8 @@ IN_ROOM = (b"EXISTS", b"DEL", b"UNLINK")
 OTHERS = (
     *((b"GET", b"1"), (b"SADD",), (b"SADD", b"0"), (b"SISMEMBER", b"0", b"1", b"2"), (b"EXISTS",), (b"SETNX", b"1"), (b"SET", b"1", b"1")),
     *((b"SET", b"1", b"1", b"XX"), (b"SET", b"1", b"1", b"NX", b"GET"), (b"SELECT",), (b"SELECT", b"0", b"0"), (b"PING", b"1", b"2"), (b"ECHO",)),
-    *((b"",), (b"sad",), (b"SADDS", b"0", b"1"), (b"\xc5ADD", b"0", b"1"), (b"NO\r\nSUCH", b"a\r\nb"), (b"MULTI",), (b"SMEMBERS", b"0")),
+    *((b"",), (b"sad",), (b"SADDS", b"0", b"1"), (b"\xc5ADD", b"0", b"1"), (b"NO\r\nSUCH", b"a\r\nb"), (b"WATCH", b"1"), (b"SMEMBERS", b"0")),
+    *((b"MULTI", b"1"), (b"EXEC",), (b"EXEC",), (b"EXEC", b"1"), (b"DISCARD",), (b"DISCARD",), (b"DISCARD", b"1"), (b"RESET", b"0")),
     *((b"DBSIZE", b"0"), (b"SHUTDOWN",), (b"SHUTDOWN", b"Save"), (b"SHUTDOWN", b"abort"), (b"SHUTDOWN", b"nosave", b"now")),
 )
 
@@ -51,7 +52,10 @@ class FrameNoise(Noise):
     rooms: Sequence[bytes] = ROOMS
 
     # What asks for no key.
-    others: Sequence[Sequence[bytes]] = (*OTHERS, (b"DBSIZE",), (b"DBSIZE",))
+    others: Sequence[Sequence[bytes]] = (*OTHERS, (b"DBSIZE",), (b"DBSIZE",), (b"RESET",))
+
+    # What ends a transaction.
+    ends: Sequence[bytes] = (b"EXEC", b"DISCARD", b"RESET")
 
     def talk(self) -> bytes:
         """What a client sends on one connection."""
@@ -61,10 +65,21 @@ class FrameNoise(Noise):
         """Some frames, the last of which may be QUIT."""
         for _ in range(self.draw.randrange(24)):
             yield self.spelled(self.command())
+        if self.one_in(6):
+            yield from self.transaction()
         if self.one_in(4):
             yield self.spelled([b"quit"])
         if self.one_in(8):
             yield self.at_limits()
+
+    def transaction(self) -> Iterator[bytes]:
+        """One that is ended, or isn't, and frames in it and after it."""
+        yield self.spelled([b"multi"])
+        for words in ([], [] if self.one_in(4) else [self.draw.choice(self.ends)]):
+            if words:
+                yield self.spelled(words)
+            for _ in range(self.draw.randrange(6)):
+                yield self.spelled(self.command())
 
     def command(self) -> List[bytes]:
         """The words of a frame, most of which ask for something."""

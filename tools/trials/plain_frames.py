@@ -8,7 +8,7 @@ from trials.plain import MOST_NUMBER, MOST_ROOM, Plain, read_range
 from trials.program import Key
 
 MOST_WORD = 512
-MOST_WORDS = 1024
+MOST_WORDS = 8192
 MOST_FRAME = 65_536
 MOST_VALUE = 64
 MOST_SHOWN = 128
@@ -16,7 +16,11 @@ MOST_SHOWN = 128
 # Greater than what a count that is less than zero may be.
 MOST_READ = 2**64 - 1
 
-OK, NIL, PONG = b"+OK\r\n", b"$-1\r\n", b"+PONG\r\n"
+OK, NIL, PONG, RESET = b"+OK\r\n", b"$-1\r\n", b"+PONG\r\n", b"+RESET\r\n"
+NO_TRANSACTIONS = b"-ERR transactions aren't served; nothing is done until EXEC or DISCARD\r\n"
+
+# What ends a transaction, and what it is told.
+ENDS = {"exec": b"-EXECABORT Transaction discarded because of previous errors.\r\n", "discard": OK, "reset": RESET}
 
 
 class Unfinished(Exception):
@@ -156,6 +160,7 @@ class PlainTalk:
     def __init__(self, plain: Plain) -> None:
         self.plain = plain
         self.room = 0
+        self.refuses = False
 
     def tell(self, text: bytes) -> Told:
         """What is told of the whole text, at the end of which the client ends its sending."""
@@ -179,6 +184,8 @@ class PlainTalk:
     def reply(self, words: Sequence[bytes]) -> bytes:
         """The reply to a frame of some words."""
         name = words[0].lower().decode("latin-1")
+        if self.refuses:
+            return self.refused(name, len(words))
         if name not in COMMANDS:
             return unknown(words)
         fewest, most, carry_out = COMMANDS[name]
@@ -186,13 +193,32 @@ class PlainTalk:
             return error(f"wrong number of arguments for '{name}' command")
         return carry_out(self, words)
 
+    def refused(self, name: str, count: int) -> bytes:
+        """The reply in a transaction, where nothing is done."""
+        if name == "quit":
+            return OK
+        if name not in ENDS or count > 1:
+            return NO_TRANSACTIONS
+        self.refuses = False
+        if name == "reset":
+            self.room = 0
+        return ENDS[name]
+
+    def multi(self) -> bytes:
+        self.refuses = True
+        return NO_TRANSACTIONS
+
+    def reset(self) -> bytes:
+        self.room = 0
+        return RESET
+
     def ask(self, verb: str, room: Optional[int], members: Sequence[bytes], form: Callable[[List[bool]], bytes]) -> bytes:
         """Asks for each member, and tells the answers in this form."""
         if room is None:
-            return error("DB index is out of range")
+            return error("a set's name is a room, 0 to 15 (serve --text takes names)")
         numbers = [read_range(member, 0, MOST_NUMBER) for member in members]
         if None in numbers:
-            return error("value is not an integer or out of range")
+            return error("value is not an integer or out of range (serve --text takes texts)")
         replies = [self.plain.ask(verb, Key(room, number)) for number in numbers if number is not None]
         for refused, cause in (("oldfile", "OLDFILE the file has room 0 alone"), ("full", "FULL no slot is free")):
             if refused in replies:
@@ -210,7 +236,7 @@ class PlainTalk:
 
     def set(self, words: Sequence[bytes]) -> bytes:
         if len(words) != 4 or words[3].lower() != b"nx":
-            return error("syntax error")
+            return error("syntax error: SET takes NX alone, as in SET key value NX")
         return self.with_value(words, lambda added: OK if added[0] else NIL)
 
     def select(self, words: Sequence[bytes]) -> bytes:
@@ -255,6 +281,10 @@ COMMANDS: Dict[str, Tuple[int, int, Callable[[PlainTalk, Sequence[bytes]], bytes
     "ping": (1, 2, lambda talk, words: bulk(words[1]) if len(words) == 2 else PONG),
     "echo": (2, 2, lambda talk, words: bulk(words[1])),
     "quit": (1, MOST_WORDS, lambda talk, words: OK),
+    "reset": (1, 1, lambda talk, words: talk.reset()),
+    "multi": (1, 1, lambda talk, words: talk.multi()),
+    "exec": (1, 1, lambda talk, words: error("EXEC without MULTI")),
+    "discard": (1, 1, lambda talk, words: error("DISCARD without MULTI")),
     "dbsize": (1, 1, lambda talk, words: integer(len(talk.plain.places))),
     "shutdown": (1, MOST_WORDS, lambda talk, words: shutdown(words)),
 }

@@ -10,7 +10,7 @@ from typing import Callable, List, NamedTuple, Sequence, Tuple
 
 from trials.beside_redis import HERE, Listener, framed, needs_package, python_with, redis_server
 from trials.frames import replies
-from trials.plain_frames import array
+from trials.plain_frames import ENDS, NO_TRANSACTIONS, array
 from trials.program import PATIENCE, Key, Program
 from trials.report import Skip, Wrong, expect
 
@@ -44,6 +44,8 @@ EXISTS 100
 SELECT 16
 SISMEMBER 0
 NOSUCH a b
+EXEC
+DISCARD
 """
 TOGETHER = """SADD 4 1 2 3
 SISMEMBER 4 2
@@ -73,9 +75,12 @@ def asked(text: str, redis: str, told: str) -> Difference:
     return Difference(array(*text.encode().split()), f"{redis}\r\n".encode(), f"{told}\r\n".encode())
 
 
-NO_KEY = "-ERR value is not an integer or out of range"
-NO_ROOM = "-ERR DB index is out of range"
-SYNTAX = "-ERR syntax error"
+NO_NUMBER = "-ERR value is not an integer or out of range"
+NO_KEY = f"{NO_NUMBER} (serve --text takes texts)"
+NO_ROOM = "-ERR a set's name is a room, 0 to 15 (serve --text takes names)"
+NO_DATABASE = "-ERR DB index is out of range"
+EXEC_COUNT = "wrong number of arguments for 'exec' command"
+BAD_SET = "-ERR syntax error: SET takes NX alone, as in SET key value NX"
 
 
 def unknown(text: str) -> str:
@@ -99,27 +104,32 @@ DIFFERENCES = (
     asked("SETNX name 1", ":1", NO_KEY),
     asked("SADD tags 1", ":1", NO_ROOM),
     asked("SADD 16 1", ":1", NO_ROOM),
-    asked("SELECT x", NO_KEY, NO_ROOM),
+    asked("SELECT x", NO_NUMBER, NO_DATABASE),
     # A set has no name among the keys, and belongs to no database.
     asked("EXISTS 0", ":1", ":0"),
     asked("DEL 0", ":1", ":0"),
     Difference(array(b"SADD", b"5", b"200") + array(b"SELECT", b"5") + array(b"EXISTS", b"200"), b":1\r\n+OK\r\n:0\r\n", b":1\r\n+OK\r\n:1\r\n"),
     Difference(array(b"SELECT", b"5") + array(b"SISMEMBER", b"5", b"200"), b"+OK\r\n:0\r\n", b"+OK\r\n:1\r\n"),
     # Values aren't kept, and a key may only be new.
-    asked("SET 210 1", "+OK", SYNTAX),
-    asked("SET 211 1 NX EX 10", "+OK", SYNTAX),
+    asked("SET 210 1", "+OK", BAD_SET),
+    asked("SET 211 1 NX EX 10", "+OK", BAD_SET),
+    asked("SET 210 1 XY", "-ERR syntax error", BAD_SET),
     asked("GET 210", "$1\r\n1", unknown("GET 210")),
     asked(f"SETNX 212 {'v' * 65}", ":1", "-ERR values are not kept, and may have 64 bytes"),
     # Commands that aren't there.
     asked("SCARD 4", ":2", unknown("SCARD 4")),
-    asked("MULTI", "+OK", unknown("MULTI")),
+    # Nothing of a transaction is done.
+    Difference(array(b"MULTI") + array(b"SADD", b"0", b"9") + array(b"EXEC"), b"+OK\r\n+QUEUED\r\n*1\r\n:1\r\n", 2 * NO_TRANSACTIONS + ENDS["exec"]),
+    asked("SISMEMBER 0 9", ":1", ":0"),
+    asked("EXEC 1", f"-EXECABORT Transaction discarded because of: {EXEC_COUNT}", f"-ERR {EXEC_COUNT}"),
+    asked("WATCH 17", "+OK", unknown("WATCH 17")),
     Difference(array(b"INFO", b"nosuch", b"none"), b"$0\r\n\r\n", b"-ERR wrong number of arguments for 'info' command\r\n"),
     # Frames are stricter, and shorter.
     Difference(b'PING "hello"\r\nPING\r\n', b"$5\r\nhello\r\n+PONG\r\n", fault("quotes in an inline request\r\n").encode()),
     Difference(b"*1\r\n$4\r\nPINGxy*1\r\n$4\r\nPING\r\n", b"+PONG\r\n+PONG\r\n", fault("no line end after a bulk\r\n").encode()),
     Difference(b"PING a\x0bb\r\n", b"$3\r\na\x0bb\r\n", b"-ERR wrong number of arguments for 'ping' command\r\n"),
     Difference(array(b"ECHO", b"e" * 513), b"$513\r\n" + b"e" * 513 + b"\r\n", fault("invalid bulk length\r\n").encode()),
-    Difference(array(b"EXISTS", *[b"1"] * 1024), b":0\r\n", fault("invalid multibulk length\r\n").encode()),
+    Difference(array(b"EXISTS", *[b"1"] * 8192), b":0\r\n", fault("invalid multibulk length\r\n").encode()),
     Difference(b"p" * 70000, fault("too big inline request\r\n").encode(), fault("too big request\r\n").encode()),
     Difference(b"*" + b"1" * 70000, fault("too big mbulk count string\r\n").encode(), fault("too big request\r\n").encode()),
 )
@@ -167,6 +177,29 @@ def try_python(program: Program, folder: str) -> None:
     printed, told = beside(program, folder, lambda port: output([python, "-B", os.path.join(HERE, "client.py"), str(port)], SCRIPT))
     expect(printed.splitlines()[-1], "True 1 0", "what it prints last")
     expect(len(told), 2, "connections")
+
+
+# A pipeline as redis-py makes it where nothing is said: MULTI before its commands, and EXEC after them.
+PIPELINE = """
+import sys, redis
+service = redis.Redis(port=int(sys.argv[1]), socket_timeout=30)
+pipeline = service.pipeline()
+pipeline.sadd("0", 17).select(3).sadd("0", 18)
+try:
+    print(pipeline.execute())
+except redis.ResponseError as error:
+    print(error)
+print(service.smismember("0", [17, 18]), service.sadd("0", 19), service.exists(19))
+"""
+
+
+def try_pipeline(program: Program, folder: str) -> None:
+    """redis-py's pipeline as it is where nothing is said: it raises an error, nothing of it was done, and the connection goes on."""
+    python = python_with("redis", "python3-redis")
+    with framed(program, folder) as port:
+        wanted = ["transactions aren't served; nothing is done until EXEC or DISCARD", "[0, 0] 1 1"]
+        expect(output([python, "-B", "-c", PIPELINE, str(port)]).splitlines(), wanted, "what redis-py prints")
+    expect(program.members(os.path.join(folder, "set")), [Key(0, 19)], "the keys of the file")
 
 
 def try_ruby(program: Program, folder: str) -> None:
@@ -234,6 +267,7 @@ TRIALS = (
     ("redis-benchmark", try_benchmark),
     ("hiredis", try_hiredis),
     ("redis-py", try_python),
+    ("redis-py's pipeline", try_pipeline),
     ("redis-rb", try_ruby),
     ("what differs from Redis", try_differences),
 )

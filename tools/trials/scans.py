@@ -29,7 +29,8 @@ MOST_SLOTS, MOST_KEYS = 4_096, 256
 
 NO_PAGE = b"*2\r\n" + bulk(b"0") + b"*0\r\n"
 CURSOR, SYNTAX = b"-ERR invalid cursor\r\n", b"-ERR syntax error\r\n"
-NO_KEY, NO_ROOM = b"-ERR value is not an integer or out of range\r\n", b"-ERR DB index is out of range\r\n"
+NO_NUMBER = b"-ERR value is not an integer or out of range\r\n"
+NO_ROOM = b"-ERR a set's name is a room, 0 to 15 (serve --text takes names)\r\n"
 NO_TEXTS = b"-ERR texts are not kept, and none can be listed\r\n"
 
 
@@ -105,7 +106,7 @@ def try_pages(program: Program, folder: str) -> None:
                 first = page(stream)
             others = [asked(0, slots), asked(0, 1 << 24), asked(0, (1 << 24) + 1), array(b"SSCAN", b"0", b"x"), asked(16, 0)]
             others += [array(b"SSCAN", b"0", b"0", *more) for more in ([b"MATCH", b"1*"], [b"COUNT"], [b"COUNT", b"0"], [b"COUNT", b"x"])]
-            told = NO_PAGE * 2 + CURSOR * 2 + NO_ROOM + SYNTAX * 3 + NO_KEY
+            told = NO_PAGE * 2 + CURSOR * 2 + NO_ROOM + SYNTAX * 3 + NO_NUMBER
             expect(replies(service.port, *others), told, "what no scan comes to")
         with Service(program, file, 4, "--buckets", "5", *by_frames(4)) as service, connect(service.port) as client:
             rest = keys_of(list(pages(client, 0, 1_000, first.cursor)))

@@ -2,8 +2,10 @@
 
 from __future__ import annotations
 
+import fcntl
 import os
 import re
+import signal
 import socket
 import stat
 import subprocess
@@ -152,6 +154,65 @@ def try_slow(program: Program, file: str) -> None:
             expect(words, f"lazyset: stop {control}: it hasn't ended after 1 s\n", "what it says")
             expect(client.recv(4), b"yes\n", "the reply of the command that was under way")
         expect(service.wait(), 0, "the service's status")
+
+
+def try_resumed(program: Program, folder: str) -> None:
+    """A stop that is itself stopped and resumed (Ctrl-Z, fg) goes on waiting: it ends when the service has."""
+    needs_strace()
+    file = os.path.join(folder, "resumed")
+    program.make(file, 2)
+    control = control_of(file)
+    before = ["strace", "-f", "-qq", "-o", os.devnull, "-e", "trace=fdatasync", "-e", "inject=fdatasync:delay_enter=3000000:when=2+"]
+    with Service(program, file, 1, "--control", control, before=before) as service:
+        with socket.create_connection(("127.0.0.1", service.port), PATIENCE) as client:
+            client.sendall(b"add 1\n")
+            time.sleep(0.3)
+            with subprocess.Popen([program.path, "stop", control], stdout=subprocess.DEVNULL, stderr=subprocess.DEVNULL) as stop:
+                for number in (signal.SIGSTOP, signal.SIGCONT):
+                    time.sleep(0.3)
+                    stop.send_signal(number)
+                time.sleep(0.5)
+                expect(stop.poll(), None, "whether the stop has ended before the service")
+                expect(stop.wait(PATIENCE), 0, "the stop")
+                with open(file, "rb") as free:
+                    fcntl.flock(free, fcntl.LOCK_EX | fcntl.LOCK_NB)
+        expect(service.wait(), 0, "the service's status")
+
+
+def threadless(number: int) -> List[str]:
+    """The words behind which a program's thread of that number can't be made."""
+    calls = "clone,clone3"
+    return ["strace", "-f", "-qq", "-o", os.devnull, "-e", f"trace={calls}", "-e", f"inject={calls}:error=EAGAIN:when={number}"]
+
+
+def try_deaf(program: Program, folder: str) -> None:
+    """Where no thread can be made that hears, the log says so, the service goes on, and a stop is refused at once. Where none can be made
+    for a loop, the service ends with status 1."""
+    needs_strace()
+    file = os.path.join(folder, "deaf")
+    program.make(file, 4)
+    control, said = control_of(file), "no thread can be made for {}: it can't be asked to stop so"
+    with tempfile.TemporaryFile("w+") as log, Service(program, file, 1, "--control", control, log=log, before=threadless(1)) as service:
+        expect(ask(service.port), b"yes\n", "a reply")
+        expect(said.format("--control") in lines_of(log, file), True, "that the log says so")
+        began = time.monotonic()
+        expect(program.run("stop", control), Ended("nofile\n", 3), "a stop that nobody hears")
+        expect(time.monotonic() - began < 5, True, "that it is refused at once")
+    os.remove(control)
+    with tempfile.TemporaryFile("w+") as log, Service(program, file, 1, "--until-eof", log=log, before=threadless(1)) as service:
+        expect(ask(service.port), b"no\n", "a reply")
+        expect(said.format("--until-eof") in lines_of(log, file), True, "that the log says so")
+    with tempfile.TemporaryFile("w+") as log:
+        with Service(program, file, 2, "--connections", "20", "--loops", "2", log=log, before=threadless(1)) as service:
+            expect(service.wait(), 1, "the status of a service without all its loops")
+        said_last = lines_of(log, file)[-2:]
+        expect(said_last, ["no thread can be made for a loop: the service ends", "ended: sessions 0, members 1 of 4 slots"], "the log")
+
+
+def ask(port: int) -> bytes:
+    with socket.create_connection(("127.0.0.1", port), PATIENCE) as client:
+        client.sendall(b"add 1\n")
+        return client.recv(16)
 
 
 def try_ready(program: Program, folder: str) -> None:

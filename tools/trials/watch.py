@@ -130,6 +130,50 @@ def try_change(program: Program, file: str, change: Callable[[str], None], why: 
         expect(ends[:3], [f"{why}: no further change is answered", DEVICE_FAILED, f"lazyset: {why}"], "the log")
 
 
+# The file's length with one of its two slots, and the formats: in 4 writes are gathered up to a sync.
+ONE_SLOT, FORMATS = 32, (1, 2, 3, 4)
+
+
+def try_cut(program: Program, folder: str, *options: str) -> None:
+    """A file is cut between two additions of one connection, the second of which writes where it ended: it isn't made longer again, and no
+    answer is given that the file doesn't hold. What made it shorter may have put it right by then: it has failed all the same."""
+    for form, is_mended in ((form, is_mended) for form in FORMATS for is_mended in (False, True)):
+        file = os.path.join(folder, f"cut-{form}-{is_mended}")
+        program.make(file, 2, form)
+        with logged(program, file, 2, *options) as service, Lazyset(service.port, timeout=PATIENCE) as keys:
+            expect(keys.add(1), True, "the first addition")
+            os.truncate(file, ONE_SLOT)
+            expect_halted(keys, 2, f"an addition to a cut file of format {form}")
+            if is_mended:
+                os.truncate(file, ONE_SLOT + 16)
+            expect(service.service.wait(), 1, "the status")
+            expect(service.lines()[:2], [DEVICE_FAILED, "lazyset: the file's length was changed"], "the log")
+        expect(os.path.getsize(file), ONE_SLOT + 16 * is_mended, "the file's length")
+    try_cut_run(program, os.path.join(folder, "run"))
+
+
+def expect_halted(keys: Lazyset, number: int, what: str) -> None:
+    try:
+        told: object = keys.add(number)
+    except Halted:
+        told = "halted"
+    expect(told, "halted", what)
+
+
+def try_cut_run(program: Program, file: str) -> None:
+    """So it is of `run`."""
+    program.make(file, 2)
+    process = subprocess.Popen([program.path, "run", file], stdin=subprocess.PIPE, stdout=subprocess.PIPE, stderr=subprocess.PIPE, text=True)
+    assert process.stdin is not None and process.stdout is not None
+    process.stdin.write("add 1\n")
+    process.stdin.flush()
+    expect(process.stdout.readline(), "yes\n", "the first addition of a run")
+    os.truncate(file, ONE_SLOT)
+    told, words = process.communicate("add 2\n", timeout=PATIENCE)
+    expect((told, process.returncode), ("halted\n", 1), "an addition of a run to a cut file")
+    expect(f"lazyset: {file}: the file's length was changed\n" in words, True, f"what it says: {words!r}")
+
+
 def try_threads(program: Program, folder: str) -> None:
     """Where two of three further threads can't be made the log says so, and the thread that makes them serves in their place."""
     needs_strace()

@@ -132,6 +132,35 @@ def try_files(program: Program, folder: str) -> None:
         expect(found, (Ended("nofile\n", 3), f"lazyset: {path}: {why}\n"), " ".join(words))
 
 
+# What stands at the path of a file that is made, and what is said once it was written over.
+NO_SET, NEARLY = "were written over, which were no set", "were written over, a set's but for the first one"
+OVERWRITTEN: Tuple[Tuple[Optional[bytes], str], ...] = (
+    (None, ""),
+    (b"", ""),
+    (b"mine\n", f"5 bytes {NO_SET}"),
+    (b"not a set at all" * 2, f"32 bytes {NO_SET}"),
+    (changed(TWO_SLOTS, 0, 0), f"48 bytes {NEARLY}"),
+    (changed(TWO_SLOTS, 0, 0)[:40], f"40 bytes {NEARLY}"),
+    (changed(TWO_SLOTS, 0, 0)[:15], f"15 bytes {NO_SET}"),
+)
+
+
+def try_overwritten(program: Program, folder: str) -> None:
+    """A file that is made over another one says what that was. What isn't made says nothing of it."""
+    file, old = os.path.join(folder, "f"), os.path.join(folder, "old")
+    put(old, TWO_SLOTS)
+    for text, words in OVERWRITTEN:
+        said = f"lazyset: {file}: {words}\n" if words else ""
+        for command in (("make", file, "2"), ("renew", old, file, "2")):
+            put(file, text)
+            made = "made 2\n" if command[0] == "make" else f"renewed {len(program.members(old))}\n"
+            expect(program.run_loud(*command), (Ended(made, 0), said), f"{command[0]} over {text!r}")
+        put(file, text)
+        expect(program.run_loud("make", file, "2", "--keys"), (Ended("made 2\n", 0), f"lazyset: make {file}: 0 keys\n{said}"), f"a list over {text!r}")
+        put(file, text)
+        expect(NO_SET in program.run_loud("make", file, "0")[1], False, "whether a making that wasn't done says so")
+
+
 def try_port(program: Program, folder: str) -> None:
     """A port that another program has."""
     file = os.path.join(folder, "file")

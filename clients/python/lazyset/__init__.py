@@ -13,6 +13,12 @@
     with Pool(7000, size=8) as keys:              # for many threads at once
         keys.add(19)
 
+    with Lazyset.open("keys", slots=65536) as keys:
+        keys.add(22)                              # a file that a child of this process serves, and no port
+
+    with RespKeys(7009) as keys:                  # a service with --resp
+        Periods(keys, 86400).is_new(21)           # True once a day; the key is forgotten a day later
+
 What each reply means, and what a lost connection leaves unknown, is told in docs/PROTOCOL.md; what a call may raise in
 `lazyset.errors`.
 """
@@ -27,19 +33,23 @@ from .errors import (
     Full,
     Halted,
     InDoubt,
+    Late,
     LazysetError,
     LostConnection,
     NoConnection,
+    NotServed,
     OldFile,
     Refused,
     TimedOut,
     Unfinished,
     Worn,
 )
+from .periods import Periods
 from .pool import Pool
+from .resp import RespKeys
 from .texts import key_of
 
-__version__ = "1.16"
+__version__ = "1.17"
 
 __all__ = [
     "CONNECT_TIMEOUT",
@@ -54,14 +64,18 @@ __all__ = [
     "Full",
     "Halted",
     "InDoubt",
+    "Late",
     "Lazyset",
     "LazysetError",
     "LostConnection",
     "NoConnection",
+    "NotServed",
     "OldFile",
+    "Periods",
     "Pool",
     "Refused",
     "Reply",
+    "RespKeys",
     "TimedOut",
     "Unfinished",
     "Verb",

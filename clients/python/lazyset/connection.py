@@ -7,9 +7,11 @@ import selectors
 import socket
 import threading
 import time
+from contextlib import contextmanager
 from types import TracebackType
-from typing import Iterable, List, Optional, Sequence, Type, Union
+from typing import Iterable, Iterator, List, Optional, Sequence, Type, Union
 
+from .child import START_TIMEOUT, Child
 from .claims import claim
 from .commands import Command, Reply
 from .errors import (
@@ -81,6 +83,24 @@ class Lazyset:
         self._has_a_pass = False
         self._received = b""
         self.reconnect()
+
+    @classmethod
+    @contextmanager
+    def open(
+        cls,
+        file: Union[str, "os.PathLike[str]"],
+        slots: Optional[int] = None,
+        program: str = "lazyset",
+        timeout: Optional[float] = REPLY_TIMEOUT,
+        start_timeout: Optional[float] = START_TIMEOUT,
+    ) -> Iterator[Lazyset]:
+        """The set in a file, for a `with` block: a child of this process serves it, and ends with it. No port, and no other user of the machine.
+
+        `slots` makes the file, of format 4, where there is none. `program` is the path of lazyset, or its name. Opening may take `start_timeout`
+        seconds. `NotServed`: there is no such file, another process has it, or what else the program says. A process that is forked off may
+        `reconnect()`; the child goes on for as long as one of them lives, or until the block ends in this one."""
+        with Child(file, slots, program, start_timeout) as child, cls(child.path, timeout=timeout) as keys:
+            yield keys
 
     def __enter__(self) -> Lazyset:
         return self

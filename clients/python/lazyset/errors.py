@@ -4,6 +4,8 @@
         Refused             answered, and nothing was changed; the connection goes on
             Full, OldFile, Worn
         InDoubt             a claim of which an earlier try had no answer: it isn't known whose the key is
+        Late                a claim of a period took too long: it isn't known whether the key is new
+        NotServed           the child of `Lazyset.open` didn't serve its file, or ended badly, and why
         Unfinished          the connection is closed; `replies` and `command` say how far the call came
             Halted          the service's device failed
             Bad, BadReply   this is no service of this protocol
@@ -61,6 +63,25 @@ class InDoubt(LazysetError):
         super().__init__(f"{number} may be this worker's, or that of {', '.join(map(str, workers))}")
         self.number = number
         self.workers = list(workers)
+
+
+class Late(LazysetError):
+    """A claim of a period took `seconds`, which is longer than the guard. The key was added, and another client may have been told that it is new
+    around the change of period. Take it as a lost reply."""
+
+    def __init__(self, number: int, seconds: float) -> None:
+        super().__init__(f"a claim of {number} took {seconds:.1f} seconds, which is longer than the guard")
+        self.number = number
+        self.seconds = seconds
+
+
+class NotServed(LazysetError):
+    """The child that `Lazyset.open` starts doesn't serve the file, or has ended badly; the message has its words, and `status` its status, if it
+    has ended by itself. What was answered before holds."""
+
+    def __init__(self, message: str, status: Optional[int] = None) -> None:
+        super().__init__(message)
+        self.status = status
 
 
 class Unfinished(LazysetError):

@@ -3,28 +3,27 @@ ghost use Rattle.std.specs.Prelude.{◌≡◌, ◌≤◌, IsTrue};
 ghost use Rattle.lz_slot.specs.Limits.{last_room, most_buckets, most_buckets_of, most_passes, most_rehearsed};
 ghost use Rattle.lz_slot.specs.Rooms.{last_room_of};
 ghost use Rattle.lz_vault.specs.Makes.{WritesNothing};
-ghost use Rattle.lazyset_command_line.specs.Requests.{IsWithin};
+ghost use Rattle.lazyset_arguments.specs.Requests.{IsWithin};
 
 use crate::control::ask_to_stop;
 use crate::copying::copy;
 use crate::counted::Counted;
 use crate::fault::Fault;
-use crate::files::{
-    StandIns, create, header_on, is_absent, is_same, open, open_source, read_front, say_cause,
-    take_away_empty, take_lock,
-};
+use crate::files::{StandIns, header_on, open, open_alone, open_source, read_front, say_cause};
 use crate::growing::grow;
 use crate::handed::handed;
 use crate::heard::Heard;
 use crate::held::is_held;
+use crate::making::Making;
 use crate::over_disk::{make_keys_over, make_over, renew_over, run_over};
 use crate::service::{At, Until, serve};
 use crate::source::Source;
+use crate::texts::wanted_by;
 use crate::words::words_of;
-use lazyset_command_line::{Request, read, too_many_buckets};
-use lazyset_commands::{
-    MOST_JUDGED, ServeOptions, Shown, Status, check_of_on, judge_on, rehearse_on, survey_on,
-    torn_slots,
+use lazyset_arguments::{Request, read, too_many_buckets};
+use lazyset_set_commands::{
+    MOST_JUDGED, ServeOptions, Shown, Status, Wanted, check_of_on, judge_on, rehearse_on,
+    survey_on, torn_slots,
 };
 use lz_disk::{Disk, FileDisk, Lock};
 use lz_slot::{Format, Header};
@@ -92,12 +91,7 @@ where
             file,
             slots,
             format,
-        } => {
-            if stands.has_no_input() {
-                return Err(Fault::NoRead);
-            }
-            make_keys(rt, writer, file, slots, format)
-        }
+        } => make_keys(rt, writer, stands, file, slots, format),
         Request::Renew {
             old,
             new,
@@ -115,7 +109,24 @@ where
             slots,
             format,
         } => copy(rt, writer, address, file, slots, format),
-        Request::Run { file, buckets } => run_file(rt, writer, file, buckets),
+        // The others work on a file that is there, or on none.
+        _ => dispatch_other(rt, request, writer),
+    }
+}
+
+fn dispatch_other<R, W>(rt: &R, request: Request<'_>, writer: &mut W) -> Result<Status, Fault>
+where
+    R: Env + Files<File = File> + Input + Eprint + AllocGlobal,
+    R: Net<Listener = TcpListener, Stream = TcpStream> + Threads + Wait + Clock + Sync,
+    W: Write + Drop,
+    requires { IsWithin request }
+{
+    match request {
+        Request::Run {
+            file,
+            buckets,
+            no_lock,
+        } => run_file(rt, writer, file, buckets, no_lock),
         Request::Serve {
             file,
             options,
@@ -123,6 +134,9 @@ where
             socket,
             control,
             until_eof,
+            no_lock,
+            as_numbers,
+            adopts,
         } => {
             let until = Until { control, until_eof };
             // Before anything else is opened, which might get its number.
@@ -130,14 +144,10 @@ where
                 Some(path) => At::Path(path),
                 None => At::Port(handed(rt)),
             };
-            let mut disk = open_for(rt, file, options.buckets)?;
-            let buckets = if is_spread {
-                buckets_for(&mut disk)
-            } else {
-                options.buckets
-            };
-            let options = ServeOptions { buckets, ..options };
-            serve(rt, writer, file, disk, options, until, at)
+            let wanted = wanted_by(options.loops, as_numbers, adopts);
+            serve_file(
+                rt, writer, file, options, is_spread, until, at, no_lock, wanted,
+            )
         }
         Request::Stop { path, within } => ask_to_stop(rt, path, within),
         Request::Info { file } => survey(rt, writer, file, Shown::Counts),
@@ -149,18 +159,9 @@ where
             buckets,
             format,
         } => Ok(rehearse(rt, writer, slots, buckets, format)),
+        // They make files, and were dispatched before.
+        _ => Ok(Status::CommandLine),
     }
-}
-
-/// A making that wasn't done leaves no file where there was none, unless something was written into it.
-pub(crate) fn after_making<R>(rt: &R, path: &str, was_absent: bool, status: Status) -> Status
-where
-    R: Files<File = File> + AllocGlobal,
-{
-    if was_absent && status != Status::Done {
-        take_away_empty(rt, path);
-    }
-    status
 }
 
 fn make<R, W>(
@@ -174,17 +175,15 @@ where
     R: Files<File = File> + Eprint + Clock + AllocGlobal,
     W: Write + Drop,
 {
-    let was_absent = is_absent(rt, file);
-    let disk = create(rt, file)?;
-    take_lock(rt, file, &disk, Lock::Exclusive)?;
+    let (making, disk) = Making::begin(rt, file, None)?;
     let (status, disk) = make_over(rt, writer, file, disk, slots, format);
-    say_cause(rt, file, disk.cause());
-    Ok(after_making(rt, file, was_absent, status))
+    Ok(making.end(rt, &disk, status))
 }
 
 fn make_keys<R, W>(
     rt: &R,
     writer: &mut W,
+    stands: &StandIns,
     file: &str,
     slots: u64,
     format: Format,
@@ -193,17 +192,17 @@ where
     R: Files<File = File> + Input + Eprint + Clock + AllocGlobal,
     W: Write + Drop,
 {
-    let was_absent = is_absent(rt, file);
-    let disk = create(rt, file)?;
-    take_lock(rt, file, &disk, Lock::Exclusive)?;
+    if stands.has_no_input() {
+        return Err(Fault::NoRead);
+    }
+    let (making, disk) = Making::begin(rt, file, None)?;
     let mut reader = Counted::new(rt.reader());
     let (status, disk) = make_keys_over(rt, &mut reader, writer, file, disk, slots, format);
     if status == Status::Done {
         let keys = reader.lines();
         let _ = eprintln!(rt; "lazyset: make {file}: {keys} keys");
     }
-    say_cause(rt, file, disk.cause());
-    Ok(after_making(rt, file, was_absent, status))
+    Ok(making.end(rt, &disk, status))
 }
 
 fn renew<R, W>(
@@ -220,26 +219,20 @@ where
     requires { last_room_of format ≡ last_room }
 {
     let old_disk = open(rt, old, Lock::Shared)?;
-    let was_absent = is_absent(rt, new);
-    let disk = create(rt, new)?;
-    // A file can't be renewed into itself, and is refused for what it is.
-    if !is_same(&old_disk, &disk) {
-        take_lock(rt, new, &disk, Lock::Exclusive)?;
-    }
+    let (making, disk) = Making::begin(rt, new, Some(&old_disk))?;
     let (status, old_disk, disk) = renew_over(rt, writer, old, old_disk, new, disk, slots, format);
     say_cause(rt, old, old_disk.cause());
-    say_cause(rt, new, disk.cause());
-    Ok(after_making(rt, new, was_absent, status))
+    Ok(making.end(rt, &disk, status))
 }
 
 // The file as a disk. More buckets than its format allows are refused as the command line refuses a number that is out of range. In
 // format 4 no write waits for a sync of another, so those of slots side by side are gathered: a kill of the process loses what no
 // sync has covered, as a crash does.
-fn open_for<R>(rt: &R, file: &str, buckets: usize) -> Result<FileDisk, Fault>
+fn open_for<R>(rt: &R, file: &str, buckets: usize, no_lock: bool) -> Result<FileDisk, Fault>
 where
     R: Files<File = File> + Eprint + Clock + AllocGlobal,
 {
-    let mut disk = open(rt, file, Lock::Exclusive)?;
+    let mut disk = open_alone(rt, file, no_lock)?;
     if let Some(Header { format, .. }) = header_on(&mut disk) {
         if buckets > format.most_buckets() {
             let _ = eprintln!(rt;
@@ -270,13 +263,47 @@ fn buckets_for<D: Disk>(disk: &mut D) -> usize
     slots.clamp(1, most)
 }
 
-fn run_file<R, W>(rt: &R, writer: &mut W, file: &str, buckets: usize) -> Result<Status, Fault>
+fn serve_file<R, W>(
+    rt: &R,
+    writer: &mut W,
+    file: &str,
+    options: ServeOptions,
+    is_spread: bool,
+    until: Until<'_>,
+    at: At<'_>,
+    no_lock: bool,
+    wanted: Wanted,
+) -> Result<Status, Fault>
+where
+    R: Env + Files<File = File> + Eprint + AllocGlobal,
+    R: Net<Listener = TcpListener, Stream = TcpStream> + Threads + Wait + Clock + Sync,
+    W: Write + Drop,
+    requires passes { (1 ≤ options.passes) × (options.passes ≤ most_passes) }
+    requires buckets { (1 ≤ options.buckets) × (options.buckets ≤ most_buckets) }
+{
+    let mut disk = open_for(rt, file, options.buckets, no_lock)?;
+    let buckets = if is_spread {
+        buckets_for(&mut disk)
+    } else {
+        options.buckets
+    };
+    let options = ServeOptions { buckets, ..options };
+    serve(rt, writer, file, disk, options, until, at, wanted)
+}
+
+fn run_file<R, W>(
+    rt: &R,
+    writer: &mut W,
+    file: &str,
+    buckets: usize,
+    no_lock: bool,
+) -> Result<Status, Fault>
 where
     R: Files<File = File> + Input + Eprint + AllocGlobal + Wait + Clock,
     W: Write + Drop,
     requires { (1 ≤ buckets) × (buckets ≤ most_buckets) }
 {
-    let disk = open_for(rt, file, buckets)?;
+    let disk = open_for(rt, file, buckets, no_lock)?;
     let (status, disk) = run_over(rt, &mut rt.reader(), writer, file, disk, buckets);
     say_cause(rt, file, disk.cause());
     Ok(status)

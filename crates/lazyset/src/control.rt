@@ -3,7 +3,7 @@ use crate::at_path::listen_at;
 use crate::fault::Fault;
 use crate::files::no_file;
 use crate::log::Stoppable;
-use lazyset_commands::Status;
+use lazyset_set_commands::Status;
 use std::fs::File;
 use std::io::{ErrorKind, Read, Write};
 use std::net::{Net, Shutdown};
@@ -14,14 +14,16 @@ use std::sync::atomic::{AtomicBool, Ordering};
 use std::time::{Clock, Duration};
 use std::{io, thread};
 
-// What is sent on it.
+// What is sent on it, and what is sent back once the service has ended.
 const STOP: &[u8] = b"stop\n";
+
+const ENDED: &[u8] = b"ended\n";
 
 // How many may wait to be heard.
 const BACKLOG: i32 = 16;
 
 // For how many milliseconds one is heard, and how long it is waited where none can be.
-const PATIENCE: u64 = 1_000;
+const PATIENCE_MS: u64 = 1_000;
 
 /// A socket on which the service is asked to stop.
 #[derive(Drop)]
@@ -39,8 +41,7 @@ impl Control {
         })
     }
 
-    /// Hears until it is closed, and has the service end once somebody has asked for it. Those who did wait for the end: they hear of
-    /// it when they are dropped.
+    /// Hears until it is closed, and has the service end once somebody has asked for it. Those who did wait for the end.
     pub fn hear<R, O>(&self, rt: &R, log: &O) -> Vec<UnixStream>
     where
         R: Clock + AllocGlobal,
@@ -52,7 +53,7 @@ impl Control {
                 break;
             }
             let Ok(stream) = stream else {
-                thread::sleep(rt, Duration::from_millis(PATIENCE));
+                thread::sleep(rt, Duration::from_millis(PATIENCE_MS));
                 continue;
             };
             if asks(&stream) {
@@ -74,10 +75,41 @@ impl Control {
 
 // Whether a stop is asked for on this connection.
 fn asks(stream: &UnixStream) -> bool {
-    let _ = stream.set_read_timeout(Some(Duration::from_millis(PATIENCE)));
+    let _ = stream.set_read_timeout(Some(Duration::from_millis(PATIENCE_MS)));
     let mut word = [0; STOP.len()];
     let mut reader = stream;
     reader.read_exact(&mut word).is_ok() && word.as_slice() == STOP
+}
+
+/// Tells those who have asked for it that the service has ended.
+pub fn tell_ended(waiting: &[UnixStream]) {
+    for stream in waiting {
+        let mut writer = stream;
+        let _ = writer.write_all(ENDED);
+    }
+}
+
+// What becomes of a stop that was asked for.
+#[derive(Clone, Copy)]
+enum Outcome {
+    Ended,
+    /// Nothing was told in time.
+    Silent,
+    /// The connection ended before.
+    Lost,
+}
+
+impl Outcome {
+    // What is told on this connection.
+    fn told(stream: &UnixStream) -> Outcome {
+        let mut told = [0; ENDED.len()];
+        let mut reader = stream;
+        match reader.read_exact(&mut told) {
+            Ok(()) if told.as_slice() == ENDED => Outcome::Ended,
+            Err(error) if error.kind() == ErrorKind::WouldBlock => Outcome::Silent,
+            _ => Outcome::Lost,
+        }
+    }
 }
 
 /// Asks the service that listens at this path to stop, and waits for its end, up to so many seconds.
@@ -94,13 +126,19 @@ where
     if let Err(error) = stream.write_all(STOP) {
         return Err(no_file(rt, path, error));
     }
-    let mut answer = [0; 1];
-    match stream.read(&mut answer) {
-        Err(error) if error.kind() == ErrorKind::WouldBlock => {
+    match Outcome::told(&stream) {
+        Outcome::Ended => Ok(Status::Done),
+        Outcome::Silent => {
             let _ = eprintln!(rt; "lazyset: stop {path}: it hasn't ended after {within} s");
             Ok(Status::Failed)
         }
-        // The connection is closed when the service has ended.
-        _ => Ok(Status::Done),
+        // One that was killed says nothing, nor does one of release 1.16 or before. Nobody listens there then.
+        Outcome::Lost if UnixStream::connect(rt, path).is_err() => Ok(Status::Done),
+        Outcome::Lost => {
+            let _ = eprintln!(rt;
+                "lazyset: stop {path}: the connection ended, and a service listens there"
+            );
+            Ok(Status::Failed)
+        }
     }
 }

@@ -3,12 +3,11 @@ ghost use Rattle.std.specs.Prelude.{◌≡◌};
 ghost use Rattle.lz_slot.specs.Limits.{last_room};
 ghost use Rattle.lz_slot.specs.Rooms.{last_room_of};
 
-use crate::commands::after_making;
 use crate::fault::Fault;
-use crate::files::{create, is_absent, no_file, say_cause, take_lock};
+use crate::files::no_file;
+use crate::making::Making;
 use crate::over_disk::copy_over;
-use lazyset_commands::Status;
-use lz_disk::Lock;
+use lazyset_set_commands::Status;
 use lz_slot::{Format, read_number};
 use std::fs::File;
 use std::io;
@@ -19,7 +18,7 @@ use std::rt::Files;
 use std::time::{Clock, Duration};
 
 // For how many milliseconds a service may be silent.
-const PATIENCE: u64 = 60_000;
+const PATIENCE_MS: u64 = 60_000;
 
 const MOST_PORT: u64 = 65_535;
 
@@ -38,7 +37,7 @@ where
     W: Write + Drop,
     requires { last_room_of format ≡ last_room }
 {
-    let patience = Duration::from_millis(PATIENCE);
+    let patience = Duration::from_millis(PATIENCE_MS);
     if is_path(address) {
         let stream = match UnixStream::connect(rt, address) {
             Ok(stream) => stream,
@@ -96,10 +95,7 @@ where
     W: Write + Drop,
     requires { last_room_of format ≡ last_room }
 {
-    let was_absent = is_absent(rt, file);
-    let disk = create(rt, file)?;
-    take_lock(rt, file, &disk, Lock::Exclusive)?;
+    let (making, disk) = Making::begin(rt, file, None)?;
     let (status, disk) = copy_over(rt, reader, asker, writer, file, disk, slots, format);
-    say_cause(rt, file, disk.cause());
-    Ok(after_making(rt, file, was_absent, status))
+    Ok(making.end(rt, &disk, status))
 }

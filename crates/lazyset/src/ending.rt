@@ -15,7 +15,7 @@ const INPUT: RawFd = 0;
 const TOKEN: Token = Token(0);
 
 // For how many seconds it is waited before it is seen whether that is still of use.
-const PATIENCE: u64 = 1;
+const PATIENCE_S: u64 = 1;
 
 /// Reads standard input and throws it away, until it has ended, or nobody wants to know any more. Whether it has ended.
 pub fn has_ended<R: Net + Wait + AllocGlobal>(rt: &R, is_over: &AtomicBool) -> bool {
@@ -64,7 +64,7 @@ impl Watch {
             .reregister(&mut SourceFd(&INPUT), TOKEN, Interest::READABLE);
         let polled = self
             .poll
-            .poll(&mut self.events, Some(Duration::from_secs(PATIENCE)));
+            .poll(&mut self.events, Some(Duration::from_secs(PATIENCE_S)));
         again.is_ok() && polled.is_ok() && !self.events.is_empty()
     }
 }

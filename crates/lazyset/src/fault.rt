@@ -1,6 +1,6 @@
 //! What ends a command before it has what it works on.
-use lazyset_command_line::Refusal;
-use lazyset_commands::Status;
+use lazyset_arguments::Refusal;
+use lazyset_set_commands::Status;
 use std::alloc::AllocError;
 use std::io;
 use std::io::ErrorKind;

@@ -21,6 +21,11 @@ const INPUT: RawFd = 0;
 
 const LAST_STANDARD: RawFd = 2;
 
+// What is said of a lock that failed, and what a service may do then.
+const NOT_LOCKED: &str = "its lock failed, so another process may have it open";
+
+const NO_LOCK_HINT: &str = "where surely none has, give it --no-lock";
+
 // The most bytes that one read of a file takes.
 const MOST_PIECE: usize = 4_096;
 
@@ -74,21 +79,63 @@ pub fn open<R: Files<File = File> + Eprint>(
     Ok(disk)
 }
 
+/// The same for a command that has the file to itself. With `no_lock` it goes on where a lock can't be had, and none is held by another.
+pub fn open_alone<R>(rt: &R, path: &str, no_lock: bool) -> Result<FileDisk, Fault>
+where
+    R: Files<File = File> + Eprint,
+{
+    let disk = open_or_create(rt, path, false)?;
+    match disk.lock(Lock::Exclusive) {
+        Err(LockFault::Failed(error)) if no_lock => say_unlocked(rt, path, error),
+        Err(LockFault::Failed(error)) => {
+            return Err(no_file(
+                rt,
+                path,
+                format_args!("{NOT_LOCKED}: {error}; {NO_LOCK_HINT}"),
+            ));
+        }
+        given => see_locked(rt, path, given)?,
+    }
+    see_in_place(rt, path, &disk)?;
+    Ok(disk)
+}
+
 /// Takes a lock on this file. Where the file system has no locks that is said, and it goes on without. The file has to stand at its path
 /// still once it is locked: it may have been replaced meanwhile.
 pub fn take_lock<R>(rt: &R, path: &str, disk: &FileDisk, lock: Lock) -> Result<(), Fault>
 where
     R: Files<File = File> + Eprint,
 {
-    match disk.lock(lock) {
-        Ok(()) => {}
-        Err(LockFault::Taken) => return Err(no_file(rt, path, "another process has it open")),
+    see_locked(rt, path, disk.lock(lock))?;
+    see_in_place(rt, path, disk)
+}
+
+// Whether a command may go on after this outcome of a lock. One that failed may be another's: a network file system that is ill says so
+// of a file that another machine has.
+fn see_locked<R: Eprint>(rt: &R, path: &str, given: Result<(), LockFault>) -> Result<(), Fault> {
+    match given {
+        Ok(()) => Ok(()),
+        Err(LockFault::Taken) => Err(no_file(rt, path, "another process has it open")),
+        Err(LockFault::Failed(error)) => {
+            Err(no_file(rt, path, format_args!("{NOT_LOCKED}: {error}")))
+        }
         Err(LockFault::NoLocks(error)) => {
-            let _ = eprintln!(rt;
-                "lazyset: {path}: it can't be locked, so see that nothing else opens it: {error}"
-            );
+            say_unlocked(rt, path, error);
+            Ok(())
         }
     }
+}
+
+fn say_unlocked<R: Eprint>(rt: &R, path: &str, error: io::Error) {
+    let _ = eprintln!(rt;
+        "lazyset: {path}: it can't be locked, so see that nothing else opens it: {error}"
+    );
+}
+
+fn see_in_place<R>(rt: &R, path: &str, disk: &FileDisk) -> Result<(), Fault>
+where
+    R: Files<File = File> + Eprint,
+{
     if let Ok(facts) = rt.metadata(path)
         && let Some(identity) = disk.identity()
         && identity != (facts.dev(), facts.ino())

@@ -7,7 +7,7 @@ ghost use Rattle.lz_vault.specs.Makes.{WritesNothing};
 use crate::fault::Fault;
 use crate::files::{header_on, no_file, open, say_cause, take_lock};
 use crate::over_disk::grow_over;
-use lazyset_commands::{Shelf, Standing, Status};
+use lazyset_set_commands::{Shelf, Standing, Status};
 use lz_disk::{DeviceFault, Disk, FileDisk, Lock};
 use lz_slot::{Format, Header, LAST_ROOM};
 use std::fs::{File, Metadata, OpenOptions};

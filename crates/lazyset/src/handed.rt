@@ -12,7 +12,7 @@ use std::{env, io};
 const FIRST: RawFd = 3;
 
 // For how many seconds a connection is waited for at a time. The socket is systemd's too, so no wait is ended by shutting it down.
-const PATIENCE: u64 = 1;
+const PATIENCE_S: u64 = 1;
 
 /// The listener that was handed to this process, where one was: the variable LISTEN_PID is the process's number, and LISTEN_FDS is 1.
 pub fn handed<R: Env + AllocGlobal>(rt: &R) -> Option<io::Result<TcpListener>> {
@@ -38,7 +38,7 @@ fn take() -> io::Result<TcpListener> {
     if same.nodelay().is_err() || same.peer_addr().is_ok() {
         return Err(no_listener());
     }
-    same.set_read_timeout(Some(Duration::from_secs(PATIENCE)))?;
+    same.set_read_timeout(Some(Duration::from_secs(PATIENCE_S)))?;
     // Who had it before may have left it so.
     listener.set_nonblocking(false)?;
     Ok(listener)

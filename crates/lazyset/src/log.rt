@@ -1,24 +1,24 @@
 //! What the service says on standard error, and when it is to end.
+mod observing;
+
 use crate::at_path::has_waiting;
 use crate::backlog::Backlog;
 use crate::gauge::Gauge;
-use crate::identity::{process, run_of};
+use crate::identity::run_of;
 use crate::level::Level;
 use crate::ready::Ready;
 use crate::seldom::Seldom;
 use crate::tally::Tally;
 use crate::watched::Watched;
-use lazyset_command_line::{MAJOR, MINOR};
-use lazyset_commands::format_number;
+use lazyset_set_commands::Status;
 use lz_disk::Cause;
-use lz_proto::Reply;
-use lz_resp::Figures;
-use lz_serve::{Lack, Listener, Observer, Serving, Verb, close_listener};
+use lz_resp::Naming;
+use lz_serve::{Language, Listener, Observer, Serving, close_listener};
 use lz_slot::Format;
+use std::fmt;
 use std::sync::atomic::{AtomicBool, AtomicUsize, Ordering};
 use std::sync::{OnceLock, Wait};
 use std::time::{Clock, Duration};
-use std::{fmt, io};
 
 // From how many members in a list on a command takes long enough to be told.
 const LONG_LIST: usize = 64;
@@ -27,6 +27,9 @@ const LONG_LIST: usize = 64;
 pub trait Stoppable: Observer {
     /// The service is to end: no further command is begun.
     fn stop(&self);
+
+    /// It doesn't hear by this option whether it is to end: no thread can be made for that.
+    fn deaf(&self, option: &str);
 }
 
 /// What the system around a service wants and tells.
@@ -64,6 +67,8 @@ pub struct Log<'a, R: Eprint> {
     crowded: Seldom,
     unaccepted: Seldom,
     was_changed: AtomicBool,
+    /// A loop has no thread.
+    lacks_loop: AtomicBool,
     stops: AtomicBool,
 }
 
@@ -100,6 +105,7 @@ where
             crowded: Seldom::new(),
             unaccepted: Seldom::new(),
             was_changed: AtomicBool::new(false),
+            lacks_loop: AtomicBool::new(false),
             stops: AtomicBool::new(false),
         };
         log.say(Level::Info, "opening");
@@ -134,12 +140,32 @@ where
             return;
         }
         let sessions = self.sessions.load(Ordering::SeqCst);
-        let (members, slots) = (self.gauge.members(), self.gauge.slots());
-        let how = if self.stops() { "stopped" } else { "ended" };
+        let (members, slots) = (self.members(), self.gauge.slots());
+        let is_asked = self.stops() && !self.lacks_loop.load(Ordering::SeqCst);
+        let how = if is_asked { "stopped" } else { "ended" };
         self.say(
             Level::Notice,
             format_args!("{how}: sessions {sessions}, members {members} of {slots} slots"),
         );
+    }
+
+    /// The status of the service, where that is this one but for what the log knows: one that lacks a loop has failed.
+    pub fn status(&self, status: Status) -> Status {
+        match status {
+            Status::Done if self.lacks_loop.load(Ordering::SeqCst) => Status::Failed,
+            status => status,
+        }
+    }
+
+    // No further command is begun, and no connection is taken. Whether that is news.
+    fn begin_end(&self) -> bool {
+        if self.stops.swap(true, Ordering::SeqCst) {
+            return false;
+        }
+        if let Some(listener) = self.listener.get() {
+            close_listener(listener);
+        }
+        true
     }
 
     // The second that it is.
@@ -212,6 +238,20 @@ where
         self.around.backlog.at(self.rt.alloc(), listener.port()?)
     }
 
+    // How many marks its file has: one where its keys are texts.
+    fn marks(&self) -> usize {
+        let loops = self.serving.get().and_then(|serving| serving.loops);
+        match loops.map(|loops| loops.language) {
+            Some(Language::Frames(Naming::Texts)) => 1,
+            _ => 0,
+        }
+    }
+
+    // How many members it has, without its marks.
+    fn members(&self) -> usize {
+        self.gauge.members().saturating_sub(self.marks())
+    }
+
     // How many buckets, passes and loops it has.
     fn shape(&self) -> (usize, usize, usize) {
         let Some(serving) = self.serving.get() else {
@@ -243,153 +283,15 @@ where
     R: Eprint + Clock + Wait + AllocGlobal,
 {
     fn stop(&self) {
-        if self.stops.swap(true, Ordering::SeqCst) {
-            return;
-        }
-        self.say(Level::Notice, "asked to stop");
-        if let Some(listener) = self.listener.get() {
-            close_listener(listener);
-        }
-    }
-}
-
-impl<'a, R> Observer for Log<'a, R>
-where
-    R: Eprint + Clock + Wait + AllocGlobal,
-{
-    fn serving(&self, serving: Serving, listener: &Listener) {
-        if let Ok(same) = listener.try_clone() {
-            let _ = self.listener.set(self.rt, same);
-        }
-        let places = match serving.loops {
-            Some(loops) => loops.connections,
-            None => serving.passes,
-        };
-        self.places.store(places, Ordering::SeqCst);
-        let _ = self.serving.set(self.rt, serving);
-        self.gauge.begin(serving.slots, serving.members);
-        self.tell_opened();
-        self.say(Level::Info, format_args!("serving: {serving}"));
-        self.tell_lists(serving.members, serving.buckets);
-        self.around.ready.tell();
-        // It may have been asked before it had a listener.
-        if self.stops() {
-            close_listener(listener);
+        if self.begin_end() {
+            self.say(Level::Notice, "asked to stop");
         }
     }
 
-    fn no_port(&self, error: io::Error) {
-        let file = self.file;
-        self.write(
-            Level::Error,
-            format_args!("lazyset: serve {file}: noport: {error}"),
-        );
-    }
-
-    fn unserved(&self, why: Lack) {
-        self.say(Level::Error, format_args!("it serves nobody: {why}"));
-    }
-
-    fn threadless(&self) {
-        self.say(
-            Level::Warning,
-            format_args!(
-                "no thread can be made: the one that starts the others serves in its place"
-            ),
-        );
-    }
-
-    fn accepted(&self) {
-        self.sessions.fetch_add(1, Ordering::SeqCst);
-        self.guests.fetch_add(1, Ordering::SeqCst);
-        if let Some(change) = self.watched.as_ref().and_then(Watched::change)
-            && !self.was_changed.swap(true, Ordering::SeqCst)
-        {
-            self.say(
-                Level::Error,
-                format_args!("{change}: no further change is answered"),
-            );
-        }
-        self.tell_crowd();
-    }
-
-    fn crowded(&self) {
-        self.tell_crowd();
-    }
-
-    fn unaccepted(&self, error: io::Error) {
-        if !self.stops() && self.unaccepted.may(self.second()) {
-            self.say(
-                Level::Warning,
-                format_args!("no connection can be accepted: {error}"),
-            );
-        }
-    }
-
-    fn parted(&self) {
-        self.guests.fetch_sub(1, Ordering::SeqCst);
-    }
-
-    fn answered(&self, verb: Verb, reply: Reply, members: Option<usize>) {
-        self.tally.count(verb, reply);
-        match (verb, reply) {
-            (Verb::Add, Reply::Yes) => {
-                if let Some(share) = self.gauge.came(members) {
-                    let (members, slots) = (self.gauge.members(), self.gauge.slots());
-                    self.say(
-                        Level::Warning,
-                        format_args!("{share} % full: {members} members in {slots} slots"),
-                    );
-                }
-            }
-            (Verb::Remove, Reply::Yes) => self.gauge.left(members),
-            (_, Reply::Full) => {
-                if self.gauge.fills() {
-                    self.say(Level::Warning, "full: no slot was free for a new key");
-                }
-            }
-            _ => {}
-        }
-    }
-
-    fn figures(&self) -> Figures {
-        let (buckets, passes, loops) = self.shape();
-        Figures {
-            major: MAJOR,
-            minor: MINOR,
-            process: process(),
-            run: self.run,
-            seconds: self.seconds(),
-            stoppable: matches!(self.listener.get(), Some(Listener::Path(_))),
-            clients: self.guests.load(Ordering::SeqCst),
-            most_clients: self.places.load(Ordering::SeqCst),
-            sessions: self.sessions.load(Ordering::SeqCst),
-            answered: self.tally.all(),
-            adds: self.tally.adds(),
-            removes: self.tally.removes(),
-            lookups: self.tally.lookups(),
-            full: self.tally.full(),
-            format: format_number(self.format) as usize,
-            slots: self.gauge.slots(),
-            members: self.gauge.members(),
-            buckets,
-            passes,
-            loops,
-        }
-    }
-
-    fn shut_down(&self) {
-        self.stop();
-    }
-
-    fn halted(&self) {
+    fn deaf(&self, option: &str) {
         self.say(
             Level::Error,
-            "the device failed: nothing is answered until the file is opened again",
+            format_args!("no thread can be made for {option}: it can't be asked to stop so"),
         );
-    }
-
-    fn stops(&self) -> bool {
-        self.stops.load(Ordering::SeqCst)
     }
 }

@@ -18,6 +18,7 @@ mod held;
 mod identity;
 mod level;
 mod log;
+mod making;
 mod over_disk;
 mod ready;
 mod seldom;
@@ -26,6 +27,7 @@ mod share;
 mod shown_disk;
 mod source;
 mod tally;
+mod texts;
 mod watched;
 mod words;
 

@@ -9,15 +9,15 @@ ghost use Rattle.lz_disk.specs.Images.{IsImage};
 ghost use Rattle.lz_disk.specs.Devices.{LeavesOnly};
 ghost use Rattle.lz_vault.specs.Makes.{IsUnmadeOrHolds};
 ghost use Rattle.lz_vault.specs.Opens.{MayOpen};
-ghost use Rattle.lazyset_offline.specs.Copies.{LeavesCopy};
-ghost use Rattle.lazyset_offline.specs.Growths.{IsLeftOrHolds, MayBeLeft};
-ghost use Rattle.lazyset_offline.specs.Listings.{LeavesListed};
-ghost use Rattle.lazyset_offline.specs.Refusals.{FailedOpen};
-ghost use Rattle.lazyset_commands.specs.PlainReplies.{PassMayAnswer};
-ghost use Rattle.lazyset_commands.specs.Runs.{SessionOfSet};
+ghost use Rattle.lazyset_file_commands.specs.Copies.{LeavesCopy};
+ghost use Rattle.lazyset_file_commands.specs.Growths.{IsLeftOrHolds, MayBeLeft};
+ghost use Rattle.lazyset_file_commands.specs.Listings.{LeavesListed};
+ghost use Rattle.lazyset_file_commands.specs.Refusals.{FailedOpen};
+ghost use Rattle.lazyset_set_commands.specs.PlainReplies.{PassMayAnswer};
+ghost use Rattle.lazyset_set_commands.specs.Runs.{SessionOfSet};
 
 use crate::files::{bytes_of, shown};
-use lazyset_commands::{
+use lazyset_set_commands::{
     Shelf, Standing, Status, copy_on, grow_on, make_keys_on, make_on, renew_on, run_on,
 };
 use lz_disk::Disk;

@@ -2,7 +2,7 @@
 use std::sync::atomic::{AtomicU64, Ordering};
 
 // How many seconds pass at least.
-const PAUSE: u64 = 60;
+const PAUSE_S: u64 = 60;
 
 /// Lets something be told once a minute at most.
 #[derive(Drop)]
@@ -24,7 +24,7 @@ impl Seldom {
             return false;
         }
         self.next
-            .store(second.saturating_add(PAUSE), Ordering::SeqCst);
+            .store(second.saturating_add(PAUSE_S), Ordering::SeqCst);
         true
     }
 

@@ -1,12 +1,12 @@
 //! The service of a file, until it is asked to stop.
-ghost use Rattle.std.specs.Prelude.{◌≡◌, ◌⊎◌, ◌≤◌, option_map};
+ghost use Rattle.std.specs.Prelude.{◌≡◌, ◌≤◌, option_map};
 ghost use Rattle.lz_slot.specs.Limits.{most_buckets, most_passes};
 ghost use Rattle.lz_vault.specs.Opens.{MayOpen};
-ghost use Rattle.lazyset_commands.specs.Services.{RanService, RefusedService};
+ghost use Rattle.lazyset_set_commands.specs.Marks.{KeptService};
 
 use crate::at_path::{SocketFile, listen_at};
 use crate::backlog::Backlog;
-use crate::control::Control;
+use crate::control::{Control, tell_ended};
 use crate::ending::has_ended;
 use crate::fault::Fault;
 use crate::handed::is_of_six;
@@ -14,7 +14,7 @@ use crate::level::is_journal;
 use crate::log::{Log, Stoppable, Surroundings};
 use crate::ready::Ready;
 use crate::watched::Watched;
-use lazyset_commands::{Listener, Place, ServeOptions, Status, serve_on};
+use lazyset_set_commands::{Listener, Place, ServeOptions, Status, Wanted, serve_kept_on};
 use lz_disk::{Disk, FileDisk};
 use std::fs::File;
 use std::io::Write;
@@ -23,12 +23,17 @@ use std::os::unix::net::UnixStream;
 use std::rt::{Env, Files};
 use std::sync::Wait;
 use std::sync::atomic::{AtomicBool, Ordering};
-use std::thread::Threads;
+use std::thread::{JoinHandle, Threads};
 use std::time::Clock;
 use std::{io, thread};
 
 // How many connections may wait at a path, where the system allows as many.
 const BACKLOG: i32 = 4_096;
+
+// The options by which it hears whether it is to end.
+const CONTROL: &str = "--control";
+
+const UNTIL_EOF: &str = "--until-eof";
 
 /// What a service is asked to stop by, besides signals.
 #[derive(Clone, Copy)]
@@ -92,6 +97,7 @@ pub fn serve<R, W>(
     options: ServeOptions,
     until: Until<'_>,
     at: At<'_>,
+    wanted: Wanted,
 ) -> Result<Status, Fault>
 where
     R: Env + Files<File = File> + Eprint + AllocGlobal,
@@ -100,22 +106,12 @@ where
     requires passes { (1 ≤ options.passes) × (options.passes ≤ most_passes) }
     requires buckets { (1 ≤ options.buckets) × (options.buckets ≤ most_buckets) }
 {
-    let control = match until.control {
-        Some(path) => match Control::listen(rt, path) {
-            Ok(control) => Some(control),
-            Err(error) => {
-                let _ = eprintln!(rt; "lazyset: serve {file}: --control {path}: {error}");
-                return Ok(Status::Failed);
-            }
-        },
-        None => None,
+    let control = match control_of(rt, file, until) {
+        Ok(control) => control,
+        Err(status) => return Ok(status),
     };
     let watched = File::open(rt, file).ok().and_then(Watched::new);
-    let around = Surroundings {
-        has_levels: is_journal(rt),
-        ready: Ready::new(rt),
-        backlog: Backlog::new(rt, at.is_of_six()),
-    };
+    let around = surroundings_of(rt, &at);
     let place = at.place(rt);
     let socket = socket_of(rt, &place);
     let log = Log::new(rt, file, watched, around);
@@ -131,20 +127,56 @@ where
         disk,
         options,
         place,
+        wanted,
         control.as_ref(),
         until.until_eof,
     );
     log.say_cause(disk.cause());
+    take_away_sockets(rt, until, socket);
+    log.ended();
+    drop(disk);
+    tell_ended(&waiting);
+    Ok(log.status(status))
+}
+
+// The socket on which the service is asked to stop, where it has one. It doesn't serve without.
+fn control_of<R>(rt: &R, file: &str, until: Until<'_>) -> Result<Option<Control>, Status>
+where
+    R: Files<File = File> + Net + Eprint,
+{
+    let Some(path) = until.control else {
+        return Ok(None);
+    };
+    match Control::listen(rt, path) {
+        Ok(control) => Ok(Some(control)),
+        Err(error) => {
+            let _ = eprintln!(rt; "lazyset: serve {file}: --control {path}: {error}");
+            Err(Status::Failed)
+        }
+    }
+}
+
+fn surroundings_of<R>(rt: &R, at: &At<'_>) -> Surroundings
+where
+    R: Env + Files<File = File> + AllocGlobal,
+{
+    Surroundings {
+        has_levels: is_journal(rt),
+        ready: Ready::new(rt),
+        backlog: Backlog::new(rt, at.is_of_six()),
+    }
+}
+
+fn take_away_sockets<R>(rt: &R, until: Until<'_>, socket: Option<SocketFile<'_>>)
+where
+    R: Files<File = File>,
+{
     if let Some(path) = until.control {
         let _ = rt.remove_file(path);
     }
     if let Some(socket) = socket {
         socket.remove(rt);
     }
-    log.ended();
-    drop(disk);
-    drop(waiting);
-    Ok(status)
 }
 
 /// What a service leaves.
@@ -164,6 +196,7 @@ pub fn serve_until<R, W, O, D>(
     disk: D,
     options: ServeOptions,
     place: Place<'_>,
+    wanted: Wanted,
     control: Option<&Control>,
     until_eof: bool,
 ) -> Ended<D, W>
@@ -176,13 +209,11 @@ where
     requires passes { (1 ≤ options.passes) × (options.passes ≤ most_passes) }
     requires buckets { (1 ≤ options.buckets) × (options.buckets ≤ most_buckets) }
     requires medium { MayOpen (D.device disk) }
-    ensures ran { RanService D.device options.buckets options.passes (option_map (λ p. p.now) place.entry.path) result.status (W.contents writer) (W.contents result.writer) disk result.disk
-        ⊎ RefusedService D.device result.status (W.contents writer) (W.contents result.writer) disk result.disk }
+    ensures ran { KeptService D.device wanted options.buckets options.passes (option_map (λ p. p.now) place.entry.path) result.status (W.contents writer) (W.contents result.writer) disk result.disk }
 {
     // The closure holds a `Vec`: of one that holds an `Option<&str>`, as the place does, and none, the kit can't state the contract.
     let nobody = Vec::new(rt.alloc());
-    let is_over = AtomicBool::new(false);
-    let is_over = &is_over;
+    let is_over = &AtomicBool::new(false);
     thread::scope(
         thread::scope_env(),
         rt,
@@ -190,43 +221,85 @@ where
             requires passes { (1 ≤ options.passes) × (options.passes ≤ most_passes) }
             requires buckets { (1 ≤ options.buckets) × (options.buckets ≤ most_buckets) }
             requires medium { MayOpen (D.device disk) }
-            ensures ran { RanService D.device options.buckets options.passes (option_map (λ p. p.now) place.entry.path) result.status (W.contents writer) (W.contents result.writer) disk result.disk
-                ⊎ RefusedService D.device result.status (W.contents writer) (W.contents result.writer) disk result.disk }
+            ensures ran { KeptService D.device wanted options.buckets options.passes (option_map (λ p. p.now) place.entry.path) result.status (W.contents writer) (W.contents result.writer) disk result.disk }
         {
             let hearing = match control {
-                Some(control) => scope
-                    .spawn(move || -> Vec<UnixStream> { control.hear(rt, log) })
-                    .ok(),
+                Some(control) => {
+                    let begun = scope.spawn(move || -> Vec<UnixStream> { control.hear(rt, log) });
+                    heard_or_closed(log, control, begun)
+                }
                 None => None,
             };
             let reading = if until_eof {
-                scope
-                    .spawn(move || -> () { stop_at_end(rt, log, is_over) })
-                    .ok()
+                let begun = scope.spawn(move || -> () { stop_at_end(rt, log, is_over) });
+                begun_or_said(log, UNTIL_EOF, begun)
             } else {
                 None
             };
             let mut writer = writer;
-            let (status, disk) = serve_on(rt, &mut writer, log, disk, options, place);
-            is_over.store(true, Ordering::SeqCst);
-            if let Some(control) = control {
-                control.close();
-            }
-            let waiting = match hearing {
-                Some(hearing) => hearing.join(rt),
-                None => nobody,
-            };
-            if let Some(reading) = reading {
-                reading.join(rt);
-            }
+            let (status, disk) = serve_kept_on(rt, &mut writer, log, disk, options, place, wanted);
+            end_hearing(control, is_over);
             Ended {
                 status,
                 disk,
                 writer,
-                waiting,
+                waiting: join_both(rt, hearing, reading, nobody),
             }
         },
     )
+}
+
+// The thread that hears by this option whether the service is to end. Where it couldn't be made that is said.
+fn begun_or_said<T: Drop, E: Drop, O: Stoppable>(
+    log: &O,
+    option: &str,
+    begun: Result<JoinHandle<T>, E>,
+) -> Option<JoinHandle<T>> {
+    match begun {
+        Ok(thread) => Some(thread),
+        Err(_) => {
+            log.deaf(option);
+            None
+        }
+    }
+}
+
+// The same of the thread that hears on this socket. Who asks there is refused at once where nobody hears.
+fn heard_or_closed<T: Drop, E: Drop, O: Stoppable>(
+    log: &O,
+    control: &Control,
+    begun: Result<JoinHandle<T>, E>,
+) -> Option<JoinHandle<T>> {
+    let hearing = begun_or_said(log, CONTROL, begun);
+    if hearing.is_none() {
+        control.close();
+    }
+    hearing
+}
+
+// The service is over: nobody needs to hear whether it is to end.
+fn end_hearing(control: Option<&Control>, is_over: &AtomicBool) {
+    is_over.store(true, Ordering::SeqCst);
+    if let Some(control) = control {
+        control.close();
+    }
+}
+
+// Waits for both threads that hear. Those who asked for the end, where somebody heard.
+fn join_both<R: Threads>(
+    rt: &R,
+    hearing: Option<JoinHandle<Vec<UnixStream>>>,
+    reading: Option<JoinHandle<()>>,
+    nobody: Vec<UnixStream>,
+) -> Vec<UnixStream> {
+    let waiting = match hearing {
+        Some(hearing) => hearing.join(rt),
+        None => nobody,
+    };
+    if let Some(reading) = reading {
+        reading.join(rt);
+    }
+    waiting
 }
 
 // Has the service end when standard input does.

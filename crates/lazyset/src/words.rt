@@ -1,6 +1,6 @@
 //! What the lines that refuse say in words, for standard error.
 
-use lazyset_command_line::Request;
+use lazyset_arguments::Request;
 use lz_slot::Format;
 
 // What stands before the number of a fault.
@@ -88,9 +88,29 @@ fn words_of_end(request: Request<'_>, line: &str) -> Option<&'static str> {
         "noreply" => Some(
             "a reply is no page of keys: the service has to be started with --resp, and without --text",
         ),
+        "othertext" => Some(
+            "its keys are texts: serve it with --text, or with --numbers to take them for numbers",
+        ),
+        "othernumbers" => Some(words_of_numbers(request)),
+        "oldfile" => Some(
+            "a file of format 1 has no room for the mark of texts: renew it, then serve it with --text=adopt",
+        ),
+        "full" => Some("no slot is free for the mark of texts: grow the file first"),
         _ if line.starts_with("line ") => Some(words_of_line(request)),
         _ if line.starts_with("twice ") => Some("this line's key stands in a line above"),
         _ => None,
+    }
+}
+
+// Why a service of texts is refused for the keys of its file.
+fn words_of_numbers(request: Request<'_>) -> &'static str {
+    match request {
+        Request::Serve { adopts: true, .. } => {
+            "some of its keys are outside room 0, so it is no older file of texts: serve it without --text"
+        }
+        _ => {
+            "its keys are numbers: serve it without --text; an older file of texts is marked by --text=adopt"
+        }
     }
 }
 

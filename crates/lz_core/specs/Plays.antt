@@ -1,6 +1,6 @@
 -- What a world plays: its steps one for one, as steps of a run.
 use Rattle.std.specs.Prelude.{◌≡◌, ◌⊎◌, ℕ, Bool, List, [], ◌∷◌, ◌++◌, reverse}
-use Rattle.lz_slot.specs.declared.history.Mark.{Mark}
+use Rattle.lz_slot.specs.declared.history.HistoryEvent.{HistoryEvent}
 use Rattle.lz_disk.specs.{Images.{Medium}, Picks.{left_by}}
 use Rattle.lz_core.specs.declared.play.Step.{Step as PlayStep, TheVariants.{Call, Turn as TurnOf, Trip, Stop, Crash, Open}}
 use Rattle.lz_machine.specs.Runs.{State, disk_of, Transition, Calls, Turn, Fails, Trips, Stops, Crashes, Opens, OpenFails, Point, run, IsRun}
@@ -21,7 +21,7 @@ ArePlaysOf p (play ∷ plays) [] = ⊥
 ArePlaysOf p (play ∷ plays) (step ∷ steps) = IsPlayOf (run p steps).state play step × ArePlaysOf p plays steps
 
 -- From the point p these steps of a play lead to the state, and answer these marks; both lists stand oldest first.
-pub record PlaysTo (p : Point) (plays : List PlayStep) (marks : List Mark) (new : State) : Type 0 where
+pub record PlaysTo (p : Point) (plays : List PlayStep) (marks : List HistoryEvent) (new : State) : Type 0 where
   pub steps : List Transition
   pub one_for_one : ArePlaysOf p (reverse plays) steps
   pub runs : IsRun p steps

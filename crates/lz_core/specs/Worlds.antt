@@ -2,7 +2,7 @@
 use Rattle.lz_core.specs.declared.world.PlayFault.TheVariants as play_fault
 use Rattle.std.specs.Prelude.{◌≡◌, ◌≢◌, ◌⊎◌, ◌↔◌, ℕ, suc, Bool, true, false, if◌then◌else◌, ◌-◌, ◌<◌, ◌≤◌, IsTrue, IsNone, IsSome, IsSomeAnd, List, [], ◌∷◌}
 use Rattle.std.specs.{Prelude.{◌++◌, length, map, reverse, take, slice_get, slice_index_or, Option, Some, None}, List.{All}}
-use Rattle.lz_slot.specs.{Limits.{most_actors, largest_key}, declared.{history.Mark.{Mark}, format.Format.{Format}}, Sets.{Keys, Same, members}}
+use Rattle.lz_slot.specs.{Limits.{most_actors, largest_key}, declared.{history.HistoryEvent.{HistoryEvent}, format.Format.{Format}}, Sets.{Keys, Same, members}}
 use Rattle.lz_slot.specs.{Histories.{ChainTo, lives}, Bytes.{Holds, format_of}}
 use Rattle.lz_disk.specs.{Images.{Medium, at_rest}, Records.{Past, after, device_of}}
 use Rattle.lz_machine.specs.{declared.{event.{Event.{Event}, Outcome.{Outcome, TheVariants.{Fault}}}, kind.Kind.{Kind}}, Kinds.{kind_of}, Yards.{Shape}}
@@ -102,7 +102,7 @@ pub record IsNew (its_shape : Shape) (format : Format) (w : WorldOver) : Type 0 
 
 -- From a point at which a world was, tripped or not, the steps of a play lead, one for one, to where it is now, and answer these
 -- marks, which are those of a run; what leads to the one point leads to the other; and the device fails where it was tripped.
-pub record LeadsTo (p : Point) (was_tripped : Bool) (plays : List PlayStep) (marks : List Mark) (new : WorldOver) : Type 0 where
+pub record LeadsTo (p : Point) (was_tripped : Bool) (plays : List PlayStep) (marks : List HistoryEvent) (new : WorldOver) : Type 0 where
   pub played : PlaysTo p plays marks new.state
   pub calls : (run p played.steps).calls ≡ new.calls
   pub reached : (start : Start) → IsReached start p → IsReached start (run p played.steps)
@@ -110,11 +110,11 @@ pub record LeadsTo (p : Point) (was_tripped : Bool) (plays : List PlayStep) (mar
   pub as_tripped : GoAsTripped p was_tripped played.steps
   pub tripped : tripped_by was_tripped played.steps ≡ new.tripped
 
-abbrev pub PlaysOn : WorldOver → List PlayStep → List Mark → WorldOver → Type 0
+abbrev pub PlaysOn : WorldOver → List PlayStep → List HistoryEvent → WorldOver → Type 0
 PlaysOn old plays marks new = (p : Point) → IsAt old.state old.calls p → LeadsTo p old.tripped plays marks new
 
 -- What was seen before and now is a chain of lives: each text that a crash may leave now holds the set to which it leads.
-abbrev pub IsChain : WorldOver → List Mark → WorldOver → Type 0
+abbrev pub IsChain : WorldOver → List HistoryEvent → WorldOver → Type 0
 IsChain old marks new =
     (start : Start) (p : Point) (t : List ℕ)
     → IsReached start p → IsAt old.state old.calls p → MayLeave new.state t
@@ -132,14 +132,14 @@ IsLawful (Down shape disk) _ = Unit {0}
 
 -- Step i, counted from 1, is the first one that isn't lawful: the world stands as after the steps before it.
 pub record StopsAt (old : WorldOver) (plays : List PlayStep) (i : ℕ) (new : WorldOver) : Type 0 where
-  pub marks : List Mark
+  pub marks : List HistoryEvent
   pub before : PlaysOn old (take (i - 1) plays) marks new
   pub step : PlayStep
   pub there : (1 ≤ i) × (slice_get plays (i - 1) ≡ Some step)
   pub unlawful : ¬ IsLawful new.state step
 
 -- One step of a play, as a step of a run; whether the device was tripped isn't looked at.
-pub record Goes (old : WorldOver) (play : PlayStep) (step : Transition) (marks : List Mark) (new : WorldOver) : Type 0 where
+pub record Goes (old : WorldOver) (play : PlayStep) (step : Transition) (marks : List HistoryEvent) (new : WorldOver) : Type 0 where
   pub is : IsPlayOf old.state play step
   pub may : MayStep old.state step
   pub to : state_after (suc old.calls) old.state step ≡ new.state
@@ -147,7 +147,7 @@ pub record Goes (old : WorldOver) (play : PlayStep) (step : Transition) (marks :
   pub told : marks_of (suc old.calls) old.state step ≡ reverse marks
 
 -- A turn was taken: it was done, with no device call where the device was tripped, or its device call failed.
-pub record TakesTurn (old : WorldOver) (a : ℕ) (outcome : Outcome) (marks : List Mark) (new : WorldOver) : Type 0 where
+pub record TakesTurn (old : WorldOver) (a : ℕ) (outcome : Outcome) (marks : List HistoryEvent) (new : WorldOver) : Type 0 where
   pub done : outcome ≢ Fault → Goes old (TurnOf a) (Turn a) marks new × (IsTrue old.tripped → ¬ CallsDevice old.state a)
   pub failed : outcome ≡ Fault → (left : Medium) × Goes old (TurnOf a) (Fails a left) marks new
   pub of_run : AreMarksOfRun marks
@@ -157,7 +157,7 @@ pub record TakesTurn (old : WorldOver) (a : ℕ) (outcome : Outcome) (marks : Li
 pub record LacksMemory (old : WorldOver) (play : PlayStep) (new : WorldOver) : Type 0 where
   pub step : Transition
   pub failure : IsFailure step
-  pub marks : List Mark
+  pub marks : List HistoryEvent
   pub goes : Goes old play step marks new
   pub untripped : (old.tripped ≡ false) × (new.tripped ≡ false)
 
@@ -169,7 +169,7 @@ LacksNext old plays count new = IsSomeAnd (slice_get plays count) (λ play. Lack
 pub record StopsEarly (old : WorldOver) (plays : List PlayStep) (new : WorldOver) : Type 0 where
   pub count : ℕ
   pub few : count ≤ length plays
-  pub marks : List Mark
+  pub marks : List HistoryEvent
   pub mid : WorldOver
   pub before : PlaysOn old (take count plays) marks mid
   pub last : (new ≡ mid) ⊎ LacksNext mid plays count new
@@ -210,7 +210,7 @@ play_fault_number (play_fault.NotNow step) = 1
 play_fault_number play_fault.Memory = 2
 
 -- the marks of a turn
-abbrev pub mark_list : Option Mark → List Mark
+abbrev pub mark_list : Option HistoryEvent → List HistoryEvent
 mark_list None = []
 mark_list (Some mark) = mark ∷ []
 

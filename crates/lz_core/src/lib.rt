@@ -11,8 +11,9 @@ mod reopening;
 mod shown;
 mod world;
 
-pub use lz_caller::Caller;
-pub use lz_machine::{Actor, Course, Event, Hold, Kind, Outcome, Progress, Reply, Sequence, laws};
-pub use lz_yard::Yard;
+pub use lz_machine::{
+    Actor, Course, Event, Kind, LockPhase, Outcome, Progress, Reply, Sequence, laws,
+};
+pub use lz_yard::{Caller, Yard};
 pub use play::Step;
 pub use world::{ACTORS, PlayFault, Turned, World};

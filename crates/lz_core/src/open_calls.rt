@@ -7,9 +7,9 @@ ghost use Rattle.lz_machine.specs.Runs.{marks_of_turn};
 ghost use Rattle.lz_core.specs.Worlds.{IsCallOn, call_after, call_shown, event_asked, mark_list};
 
 use crate::world::ACTORS;
-use lz_caller::Caller;
 use lz_machine::{Event, Outcome, Reply};
-use lz_slot::{Cut, Mark, Refusal};
+use lz_slot::{Cut, HistoryEvent, Refusal};
+use lz_yard::Caller;
 use std::alloc::{AllocError, Global};
 
 // A call that is open.
@@ -40,22 +40,22 @@ pub(crate) fn next_of_call(callers: &[Option<OpenCall>], actor: usize) -> Option
 }
 
 // The mark with which a call ends.
-fn mark_of(number: u64, reply: Reply) -> Mark
+fn mark_of(number: u64, reply: Reply) -> HistoryEvent
     ensures { result ≡ runs.mark_of number reply }
 {
     match reply {
-        Reply::Yes => Mark::Answer(number, true),
-        Reply::No => Mark::Answer(number, false),
-        Reply::Full(_) => Mark::Refused(number, Refusal::Full),
-        Reply::Worn => Mark::Refused(number, Refusal::Worn),
-        Reply::OldFile => Mark::Refused(number, Refusal::OldFile),
-        Reply::Halted => Mark::Cut(number, Cut::Halted),
-        Reply::Device => Mark::Cut(number, Cut::Device),
+        Reply::Yes => HistoryEvent::Answer(number, true),
+        Reply::No => HistoryEvent::Answer(number, false),
+        Reply::Full(_) => HistoryEvent::Refused(number, Refusal::Full),
+        Reply::Worn => HistoryEvent::Refused(number, Refusal::Worn),
+        Reply::OldFile => HistoryEvent::Refused(number, Refusal::OldFile),
+        Reply::Halted => HistoryEvent::Cut(number, Cut::Halted),
+        Reply::Device => HistoryEvent::Cut(number, Cut::Device),
     }
 }
 
 // A call's next event had this outcome: the call goes on, or it ends with its mark.
-pub(crate) fn take_outcome(call: &mut Option<OpenCall>, outcome: Outcome) -> Option<Mark>
+pub(crate) fn take_outcome(call: &mut Option<OpenCall>, outcome: Outcome) -> Option<HistoryEvent>
     requires { IfSome call.old (λ under_way. MayTake under_way.caller.progress outcome) }
     ensures call { call_shown call.new ≡ call_after call.old outcome }
     ensures on { (shape : _) → IsCallOn shape call.old → IsCallOn shape call.new }

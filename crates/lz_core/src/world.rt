@@ -11,11 +11,10 @@ use crate::open_calls::{OpenCall, next_of_call, no_calls, take_outcome};
 use crate::play::Step;
 use crate::reopening::{fault_told, open_again};
 use crate::shown::members_of;
-use lz_caller::Caller;
 use lz_disk::{MemoryDisk, Pick};
 use lz_machine::{Event, Kind, Outcome};
-use lz_slot::{Command, Format, Found, Key, MOST_ACTORS, Mark};
-use lz_yard::Yard;
+use lz_slot::{Command, Format, Found, HistoryEvent, Key, MOST_ACTORS};
+use lz_yard::{Caller, Yard};
 use std::alloc::{AllocError, Global};
 use std::marker::Model;
 
@@ -52,7 +51,7 @@ pub struct Turned {
     pub kind: Kind,
     pub outcome: Outcome,
     /// How its call ended, if it did.
-    pub mark: Option<Mark>,
+    pub mark: Option<HistoryEvent>,
 }
 
 /// A service over a fresh disk in memory, with the calls of 64 actors. What a device would do it does where the disk was
@@ -146,7 +145,7 @@ impl World {
 
     /// Plays the steps in their order, and answers their marks. After Memory the world is as after some of the first steps,
     /// the last of which may be an open that was refused for lack of memory, or a turn or an open whose device call found none.
-    pub fn play(&mut self, alloc: Global, steps: &[Step]) -> Result<Vec<Mark>, PlayFault>
+    pub fn play(&mut self, alloc: Global, steps: &[Step]) -> Result<Vec<HistoryEvent>, PlayFault>
         ensures ok { IfOk result (λ marks. PlaysOn self.old steps.now marks.items self.new) }
         ensures chain { IfOk result (λ marks. IsChain self.old marks.items self.new) }
         ensures not_now { (step : _) → IsErrOf result (PlayFault.NotNow step) → StopsAt self.old steps.now step self.new }
@@ -173,7 +172,7 @@ impl World {
         alloc: Global,
         step: Step,
         number: usize,
-    ) -> Result<Option<Mark>, PlayFault>
+    ) -> Result<Option<HistoryEvent>, PlayFault>
         ensures ok { IfOk result (λ mark. PlaysOn self.old (step ∷ []) (mark_list mark) self.new) }
         ensures not_now { (i : _) → IsErrOf result (PlayFault.NotNow i) → (i ≡ number) × (self.new ≡ self.old) × ¬ IsLawful self.old.state step }
         ensures memory { IsErrOf result PlayFault.Memory → StopsEarly self.old (step ∷ []) self.new }
@@ -191,7 +190,7 @@ impl World {
             }
             Step::Stop => {
                 self.stop();
-                Ok(Some(Mark::Stop))
+                Ok(Some(HistoryEvent::Stop))
             }
             Step::Crash(pick) => self.crash(pick),
             Step::Open => self.reopen(alloc, number),
@@ -205,7 +204,7 @@ impl World {
         actor: usize,
         command: Command,
         place: usize,
-    ) -> Result<Option<Mark>, PlayFault>
+    ) -> Result<Option<HistoryEvent>, PlayFault>
         ensures ok { IfOk result (λ mark. PlaysOn self.old (Step.Call actor command ∷ []) (mark_list mark) self.new) }
         ensures not_now { (i : _) → IsErrOf result (PlayFault.NotNow i) → (i ≡ place) × (self.new ≡ self.old) × ¬ IsLawful self.old.state (Step.Call actor command) }
         ensures memory { IsErrOf result PlayFault.Memory → StopsEarly self.old (Step.Call actor command ∷ []) self.new }
@@ -226,7 +225,7 @@ impl World {
             number: self.calls,
             caller: Caller::begun(command, self.buckets, ACTORS, outcome),
         });
-        Ok(Some(Mark::Call(self.calls, actor, told)))
+        Ok(Some(HistoryEvent::Call(self.calls, actor, told)))
     }
 
     // The next event of an actor's call, if it has one.
@@ -286,13 +285,13 @@ impl World {
     }
 
     fn stop(&mut self)
-        ensures { PlaysOn self.old (Step.Stop ∷ []) (Mark.Stop ∷ []) self.new }
+        ensures { PlaysOn self.old (Step.Stop ∷ []) (HistoryEvent.Stop ∷ []) self.new }
     {
         stop_disk(&mut self.yard, &mut self.disk);
         self.tripped = false;
     }
 
-    fn crash(&mut self, pick: Pick) -> Result<Option<Mark>, PlayFault>
+    fn crash(&mut self, pick: Pick) -> Result<Option<HistoryEvent>, PlayFault>
         ensures ok { IfOk result (λ mark. PlaysOn self.old (Step.Crash pick ∷ []) (mark_list mark) self.new) }
         ensures fault { IfErr result (λ fault. fault ≡ PlayFault.Memory) }
         ensures err { OnErr result (self.new ≡ self.old) }
@@ -300,7 +299,7 @@ impl World {
         match crash_disk(&mut self.yard, &mut self.disk, pick) {
             Ok(()) => {
                 self.tripped = false;
-                Ok(Some(Mark::Crash))
+                Ok(Some(HistoryEvent::Crash))
             }
             Err(_) => Err(PlayFault::Memory),
         }
@@ -309,7 +308,7 @@ impl World {
     // Opens the disk again, whose next call fails where it was tripped. Where there is no room for the keys that were found, the
     // open is refused.
     #[tactic(auto, using(crate::proofs::Runs::PlayedStep::early))]
-    fn reopen(&mut self, alloc: Global, number: usize) -> Result<Option<Mark>, PlayFault>
+    fn reopen(&mut self, alloc: Global, number: usize) -> Result<Option<HistoryEvent>, PlayFault>
         ensures ok { IfOk result (λ mark. PlaysOn self.old (Step.Open ∷ []) (mark_list mark) self.new) }
         ensures not_now { (i : _) → IsErrOf result (PlayFault.NotNow i) → (i ≡ number) × (self.new ≡ self.old) × ¬ IsLawful self.old.state Step.Open }
         ensures memory { IsErrOf result PlayFault.Memory → StopsEarly self.old (Step.Open ∷ []) self.new }
@@ -329,13 +328,13 @@ impl World {
             Ok(opened) => {
                 self.callers = callers;
                 self.yard = Some(opened.yard);
-                Ok(Some(Mark::Opened(Found::new(opened.keys))))
+                Ok(Some(HistoryEvent::Opened(Found::new(opened.keys))))
             }
             Err(refused) => {
                 self.disk = Some(refused.disk);
                 match fault_told(refused.fault, tripped) {
                     None => Err(PlayFault::Memory),
-                    Some(number) => Ok(Some(Mark::OpenFailed(number))),
+                    Some(number) => Ok(Some(HistoryEvent::OpenFailed(number))),
                 }
             }
         }

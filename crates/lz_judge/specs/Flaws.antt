@@ -1,6 +1,6 @@
 -- What is wrong with a history, and what its judge's yes means. Marks and points stand newest first, the calls of a list oldest first.
 use Rattle.std.specs.Prelude.{◌≡◌, ◌≢◌, ◌⊎◌, ◌↔◌, ℕ, suc, ◌<◌, ◌≤◌, Bool, List, [], ◌∷◌, map}
-use Rattle.lz_slot.specs.{declared.{command.Command.{Command}, history.Mark.TheVariants.{Call, Opened}}, Sets.{Keys, Same, members, key_of, after, reply}}
+use Rattle.lz_slot.specs.{declared.{command.Command.{Command}, history.HistoryEvent.TheVariants.{Call, Opened}}, Sets.{Keys, Same, members, key_of, after, reply}}
 use Rattle.lz_slot.specs.Histories.{History, Fits, IsAnswered, IsBefore, IsCalled, IsEarlier, IsListed, IsRefused, Life, count_of}
 use Rattle.lz_judge.specs.{Records.{IsMade, IsPoint, Record}, declared.flaw.Flaw.{Flaw}}
 use Rattle.lz_judge.specs.declared.flaw.Flaw.TheVariants.{Unlisted, NeverCalled, Misordered, WrongReply, WrongSet, ListedTwice, RefusedListed}

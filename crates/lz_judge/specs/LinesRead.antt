@@ -1,5 +1,5 @@
 -- What a line of a history says, by its words.
-use Rattle.lz_slot.specs.declared.history.Mark.TheVariants as mark
+use Rattle.lz_slot.specs.declared.history.HistoryEvent.TheVariants as mark
 use Rattle.std.specs.Prelude.{ℕ, ◌+◌, ◌==◌, Bool, true, false, nat_le, nat_eq, if◌then◌else◌, List, [], ◌∷◌, codes, Option, None, Some, option_map}
 use Rattle.std.specs.{Prelude.{option_and_then, Result, Ok, Err}, List.{slice_split}, Cmp.Lexicographic.{pointwise}}
 use denote.Ref.{Bor}

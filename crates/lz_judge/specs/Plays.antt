@@ -2,8 +2,8 @@
 use Rattle.std.specs.BTreeMap as tree
 use Rattle.std.specs.BTreeSet as set
 use Rattle.std.specs.{Prelude.{◌≡◌, ◌≢◌, ◌⊎◌, ℕ, ◌<◌, Bool, List, [], ◌∷◌, Option, None, Some}, BTreeMap.{BTreeMap}, BTreeSet.{BTreeSet}, Ordering.{nat_cmp}}
-use Rattle.lz_slot.specs.{Sets.{Keys, Same, after, key_of, members, reply}, declared.{command.Command.{Command}, history.Mark.{Mark}}}
-use Rattle.lz_slot.specs.declared.history.Mark.TheVariants.{Stop, Crash, Opened, OpenFailed}
+use Rattle.lz_slot.specs.{Sets.{Keys, Same, after, key_of, members, reply}, declared.{command.Command.{Command}, history.HistoryEvent.{HistoryEvent}}}
+use Rattle.lz_slot.specs.declared.history.HistoryEvent.TheVariants.{Stop, Crash, Opened, OpenFailed}
 use Rattle.lz_slot.specs.Histories.{IsAnswered, IsBefore, IsCalled, IsRefused, Life, lives}
 use Rattle.lz_judge.specs.{Records.{IsLawful, IsMade}, Flaws.{IsInOrder, IsLifeBefore, IsMadeBefore, IsReached, IsWrongSet, Leads, OrderedChain, opens}}
 use Rattle.lz_judge.specs.{Readings.{IsAt}, declared.playing.Listed.{Listed}}
@@ -19,7 +19,7 @@ Plays answers (l ∷ calls) S T =
     ((answer : Bool) → tree.get nat_cmp answers l.call ≡ Some answer → reply l.command (S (key_of l.command)) ≡ answer) × Plays answers calls (after l.command S) T
 
 -- the marks of the life that goes on, or that ended last
-abbrev pub this_life : List Mark → List Mark
+abbrev pub this_life : List HistoryEvent → List HistoryEvent
 this_life [] = []
 this_life (Opened keys ∷ M) = []
 this_life (Stop ∷ M) = this_life M
@@ -28,19 +28,19 @@ this_life (OpenFailed why ∷ M) = this_life M
 this_life (m ∷ M) = m ∷ this_life M
 
 -- the set with which it began
-abbrev pub this_start : List Mark → Keys
+abbrev pub this_start : List HistoryEvent → Keys
 this_start [] = members []
 this_start (Opened keys ∷ M) = members keys
 this_start (m ∷ M) = this_start M
 
 -- the lives before it
-abbrev pub lives_before : List Mark → List Life
+abbrev pub lives_before : List HistoryEvent → List Life
 lives_before [] = []
 lives_before (Opened keys ∷ M) = lives (members []) M
 lives_before (m ∷ M) = lives_before M
 
 -- the marks before it
-abbrev pub past_of : List Mark → List Mark
+abbrev pub past_of : List HistoryEvent → List HistoryEvent
 past_of [] = []
 past_of (Opened keys ∷ M) = M
 past_of (m ∷ M) = past_of M
@@ -58,12 +58,12 @@ WrongAt answers (l ∷ calls) S i =
     ⊎ WrongAt answers calls (after l.command S) i
 
 -- the map has the calls of a life that have a place, by their places
-pub record IsLife (places : BTreeMap ℕ ℕ) (H : List Mark) (life : BTreeMap ℕ Listed) : Type 0 where
+pub record IsLife (places : BTreeMap ℕ ℕ) (H : List HistoryEvent) (life : BTreeMap ℕ Listed) : Type 0 where
   pub listed : (p : ℕ) (l : Listed) → tree.get nat_cmp life p ≡ Some l → IsCalled H l.call l.command × IsAt places l.call p
   pub all : (i p : ℕ) → IsMade H i → IsAt places i p → (l : Listed) × (tree.get nat_cmp life p ≡ Some l) × (l.call ≡ i)
 
 -- what the readings before have found of the calls of M
-pub record IsKnown (places : BTreeMap ℕ ℕ) (answers : BTreeMap ℕ Bool) (M : List Mark) : Type 0 where
+pub record IsKnown (places : BTreeMap ℕ ℕ) (answers : BTreeMap ℕ Bool) (M : List HistoryEvent) : Type 0 where
   pub lawful : IsLawful M
   pub refused : (i : ℕ) → IsRefused M i → tree.get nat_cmp places i ≡ None
   pub answered : (i : ℕ) (answer : Bool) → IsAnswered M i answer → (p : ℕ) × IsAt places i p
@@ -74,7 +74,7 @@ pub record IsKnown (places : BTreeMap ℕ ℕ) (answers : BTreeMap ℕ Bool) (M 
 
 -- The run has come as far as M: the set is that after the lives that have ended, and, if nothing was wrong, these are a chain
 -- that leads to the set with which the life that goes on began.
-pub record Played (places : BTreeMap ℕ ℕ) (M : List Mark) (keys : BTreeSet ℕ) (life : BTreeMap ℕ Listed) (wrong_reply wrong_set : Option ℕ) : Type 0 where
+pub record Played (places : BTreeMap ℕ ℕ) (M : List HistoryEvent) (keys : BTreeSet ℕ) (life : BTreeMap ℕ Listed) (wrong_reply wrong_set : Option ℕ) : Type 0 where
   pub now : Keys
   pub is_set : IsSet keys now
   pub is_life : IsLife places (this_life M) life
@@ -95,7 +95,7 @@ pub record Finds (answers : BTreeMap ℕ Bool) (calls : List Listed) (S : Keys) 
   pub wrong_is : (i : ℕ) → wrong ≡ Some i → (was ≡ Some i) ⊎ WrongAt answers calls S i
 
 -- call i was answered otherwise than the calls of M below it in place say
-pub record IsWrong (places : BTreeMap ℕ ℕ) (answers : BTreeMap ℕ Bool) (M : List Mark) (i : ℕ) : Type 0 where
+pub record IsWrong (places : BTreeMap ℕ ℕ) (answers : BTreeMap ℕ Bool) (M : List HistoryEvent) (i : ℕ) : Type 0 where
   pub set_before : Keys
   pub reached : IsReached (IsAt places) M i set_before
   pub command : Command
@@ -106,7 +106,7 @@ pub record IsWrong (places : BTreeMap ℕ ℕ) (answers : BTreeMap ℕ Bool) (M 
 
 -- The run has come as far as M: the lives that have ended have a list in order that leads to the set, and a call of theirs that
 -- was found wrong is one.
-pub record Ran (places : BTreeMap ℕ ℕ) (answers : BTreeMap ℕ Bool) (M : List Mark) (keys : BTreeSet ℕ) (wrong_reply : Option ℕ) : Type 0 where
+pub record Ran (places : BTreeMap ℕ ℕ) (answers : BTreeMap ℕ Bool) (M : List HistoryEvent) (keys : BTreeSet ℕ) (wrong_reply : Option ℕ) : Type 0 where
   pub now : Keys
   pub is_set : IsSet keys now
   pub list : List ℕ
@@ -115,6 +115,6 @@ pub record Ran (places : BTreeMap ℕ ℕ) (answers : BTreeMap ℕ Bool) (M : Li
   pub wrong_is : (i : ℕ) → wrong_reply ≡ Some i → IsWrong places answers (past_of M) i
 
 -- The opens were counted, and one that was found wrong is one.
-pub record Compared (places : BTreeMap ℕ ℕ) (M : List Mark) (count : ℕ) (wrong_set : Option ℕ) : Type 0 where
+pub record Compared (places : BTreeMap ℕ ℕ) (M : List HistoryEvent) (count : ℕ) (wrong_set : Option ℕ) : Type 0 where
   pub counts : count ≡ opens M
   pub set_is : (n : ℕ) → wrong_set ≡ Some n → IsWrongSet (IsAt places) M n

@@ -1,11 +1,11 @@
 -- What reading the text of a history comes to. A line ends with a line feed.
 use Rattle.std.specs.Prelude.{◌≡◌, ◌≢◌, ◌⊎◌, ℕ, ◌+◌, ◌≤◌, ◌==◌, false, List, [], ◌∷◌, ◌++◌, All, length, Some}
-use Rattle.lz_slot.specs.declared.history.Mark.{Mark, TheVariants.{Call, Answer, Refused, Cut, Stop, Crash, Opened, OpenFailed}}
+use Rattle.lz_slot.specs.declared.history.HistoryEvent.{HistoryEvent, TheVariants.{Call, Answer, Refused, Cut, Stop, Crash, Opened, OpenFailed}}
 use Rattle.lz_judge.specs.{Limits.{most_calls, most_bytes}, declared.line.Line.{Line, TheVariants.{Seen, Placed, Other}}, Records.{MayFollow, Record}}
 use Rattle.lz_judge.specs.LinesRead.{line_read}
 
 -- how many calls a mark makes
-abbrev pub calls_in : Mark → ℕ
+abbrev pub calls_in : HistoryEvent → ℕ
 calls_in (Call i actor c) = 1
 calls_in (Answer i answer) = 0
 calls_in (Refused i why) = 0
@@ -16,12 +16,12 @@ calls_in (Opened keys) = 0
 calls_in (OpenFailed why) = 0
 
 -- how many calls were made
-abbrev pub calls_of : List Mark → ℕ
+abbrev pub calls_of : List HistoryEvent → ℕ
 calls_of [] = 0
 calls_of (m ∷ M) = calls_in m + calls_of M
 
 -- the mark may come next, and isn't one call too many
-abbrev pub MaySee : Mark → List Mark → Type 0
+abbrev pub MaySee : HistoryEvent → List HistoryEvent → Type 0
 MaySee m M = MayFollow m M × (calls_of (m ∷ M) ≤ most_calls)
 
 -- a line that says this may come next

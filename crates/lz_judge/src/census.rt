@@ -2,12 +2,12 @@
 ghost use Rattle.std.specs.Prelude.{◌≡◌, ℕ, OnOk, IfOk, ◌∷◌, [], reverse, List};
 ghost use Rattle.std.specs.BTreeMap as tree;
 ghost use Rattle.std.specs.Ordering.{nat_cmp};
-ghost use Rattle.lz_slot.specs.declared.history.Mark.{Mark as AMark};
+ghost use Rattle.lz_slot.specs.declared.history.HistoryEvent.{HistoryEvent as AMark};
 ghost use Rattle.lz_judge.specs.Readings.{IsCensus, HasPlaces};
 ghost use Rattle.lz_judge.specs.declared.history.Point.{Point as APoint};
 
 use crate::history::Point;
-use lz_slot::Mark;
+use lz_slot::HistoryEvent;
 use std::alloc::{AllocError, Global};
 use std::collections::{BTreeMap, BTreeSet};
 
@@ -19,7 +19,7 @@ pub struct Census {
 }
 
 /// Counts the calls of a history.
-pub fn take_census(alloc: Global, marks: &[Mark]) -> Result<Census, AllocError>
+pub fn take_census(alloc: Global, marks: &[HistoryEvent]) -> Result<Census, AllocError>
     ensures { IfOk result (λ census. IsCensus (reverse marks.now) census.calls census.answers) }
 {
     let mut census = Census {
@@ -33,14 +33,14 @@ pub fn take_census(alloc: Global, marks: &[Mark]) -> Result<Census, AllocError>
 }
 
 impl Census {
-    fn note(&mut self, mark: &Mark) -> Result<(), AllocError>
+    fn note(&mut self, mark: &HistoryEvent) -> Result<(), AllocError>
         ensures { (M : List AMark) → IsCensus M self.old.calls self.old.answers → OnOk result (IsCensus (mark.now ∷ M) self.new.calls self.new.answers) }
     {
         match mark {
-            Mark::Call(number, _, _) => {
+            HistoryEvent::Call(number, _, _) => {
                 self.calls.insert(*number)?;
             }
-            Mark::Answer(number, answer) => {
+            HistoryEvent::Answer(number, answer) => {
                 self.answers.insert(*number, *answer)?;
             }
             _ => {}

@@ -1,7 +1,7 @@
 //! A history, and the points that order its calls.
 ghost use Rattle.std.specs.Prelude.{◌≡◌, reverse};
 
-use lz_slot::Mark;
+use lz_slot::HistoryEvent;
 use std::marker::Model;
 
 /// A call's place in the order of calls.
@@ -14,7 +14,7 @@ pub struct Point {
 /// What was seen of a service, and the points that were given to its calls. Contracts see both newest first.
 #[derive(Drop)]
 pub struct History {
-    marks: Vec<Mark>,
+    marks: Vec<HistoryEvent>,
     points: Vec<Point>,
 }
 
@@ -33,7 +33,7 @@ impl History {
     ghost use Rattle.lz_judge.specs.Records.{IsLawful, ArePlaces};
 
     // A history of these marks and points, both in the order of the text.
-    pub(crate) fn new(marks: Vec<Mark>, points: Vec<Point>) -> History
+    pub(crate) fn new(marks: Vec<HistoryEvent>, points: Vec<Point>) -> History
         requires lawful { IsLawful (reverse marks.items) }
         requires places { ArePlaces (reverse points.items) }
         ensures marks { result.marks ≡ reverse marks.items }
@@ -43,7 +43,7 @@ impl History {
     }
 
     /// The marks in the order of the text.
-    pub fn marks(&self) -> &[Mark]
+    pub fn marks(&self) -> &[HistoryEvent]
         ensures marks { self.now.marks ≡ reverse result.now }
         ensures lawful { IsLawful self.now.marks }
     {

@@ -14,7 +14,7 @@ use crate::history::{History, Point};
 use crate::listing::{listed_twice, refused_listed, stranger, unlisted};
 use crate::ordering::misordered;
 use crate::playing::play_lives;
-use lz_slot::Mark;
+use lz_slot::HistoryEvent;
 use std::alloc::{AllocError, Global};
 use std::collections::BTreeMap;
 
@@ -41,7 +41,7 @@ pub fn judge(alloc: Global, history: &History) -> Result<Result<(), Flaw>, Alloc
 // The flaw that is told, if there is one.
 fn first_flaw(
     alloc: Global,
-    marks: &[Mark],
+    marks: &[HistoryEvent],
     points: &[Point],
     census: &Census,
     places: &BTreeMap<u64, u64>,
@@ -74,7 +74,7 @@ fn first_flaw(
 // What is wrong with which calls have points.
 fn flaw_of_points(
     alloc: Global,
-    marks: &[Mark],
+    marks: &[HistoryEvent],
     points: &[Point],
     census: &Census,
     places: &BTreeMap<u64, u64>,

@@ -2,12 +2,12 @@
 ghost use Rattle.std.specs.Prelude.{◌≡◌, ◌≢◌, ℕ, IfOk, OnOk, IsTrue, true, false, None, Some, [], ◌∷◌, List};
 ghost use Rattle.std.specs.BTreeMap as tree;
 ghost use Rattle.std.specs.BTreeSet as set;
-ghost use Rattle.lz_slot.specs.declared.history.Mark.{Mark as AMark};
+ghost use Rattle.lz_slot.specs.declared.history.HistoryEvent.{HistoryEvent as AMark};
 ghost use Rattle.lz_slot.specs.declared.command.Command.{Command as ACommand};
 ghost use Rattle.lz_judge.specs.Records.{IsMade, IsOpen, MayFollow, actor_of, is_living};
 ghost use Rattle.lz_judge.specs.Ledgers.{Ends, IsLedger};
 
-use lz_slot::Mark;
+use lz_slot::HistoryEvent;
 use std::alloc::{AllocError, Global};
 use std::collections::{BTreeMap, BTreeSet};
 
@@ -35,31 +35,31 @@ impl Ledger {
     }
 
     /// Takes the next mark, and tells whether it may come. The ledger is of no use after one that may not.
-    pub fn follow(&mut self, mark: &Mark) -> Result<bool, AllocError>
+    pub fn follow(&mut self, mark: &HistoryEvent) -> Result<bool, AllocError>
         ensures follows { (M : List AMark) → IsLedger M self.old.calls self.old.actors self.old.busy self.old.is_living
             → IfOk result (λ may. IsTrue may → MayFollow mark.now M × IsLedger (mark.now ∷ M) self.new.calls self.new.actors self.new.busy self.new.is_living) }
         ensures refuses { (M : List AMark) → IsLedger M self.old.calls self.old.actors self.old.busy self.old.is_living
             → IfOk result (λ may. may ≡ false → ¬ MayFollow mark.now M) }
     {
         match mark {
-            Mark::Call(call, actor, _) => self.begin(*call, *actor),
-            Mark::Answer(call, _) => Ok(self.end(*call)),
-            Mark::Refused(call, _) => Ok(self.end(*call)),
-            Mark::Cut(call, _) => Ok(self.end(*call)),
-            Mark::Stop => {
+            HistoryEvent::Call(call, actor, _) => self.begin(*call, *actor),
+            HistoryEvent::Answer(call, _) => Ok(self.end(*call)),
+            HistoryEvent::Refused(call, _) => Ok(self.end(*call)),
+            HistoryEvent::Cut(call, _) => Ok(self.end(*call)),
+            HistoryEvent::Stop => {
                 self.turn(false);
                 Ok(true)
             }
-            Mark::Crash => {
+            HistoryEvent::Crash => {
                 self.turn(false);
                 Ok(true)
             }
-            Mark::Opened(_) => {
+            HistoryEvent::Opened(_) => {
                 let may = !self.is_living;
                 self.turn(true);
                 Ok(may)
             }
-            Mark::OpenFailed(_) => Ok(true),
+            HistoryEvent::OpenFailed(_) => Ok(true),
         }
     }
 

@@ -6,14 +6,14 @@ ghost use Rattle.lz_judge.specs.LinesRead.{answer_read, at_end, command_named, f
 
 use crate::history::Point;
 use crate::limits::{MAX_PLACE, MOST_FAULTS};
-use lz_slot::{Command, Cut, Found, Key, MOST_ACTORS, Mark, Refusal, read_key};
+use lz_slot::{Command, Cut, Found, HistoryEvent, Key, MOST_ACTORS, Refusal, read_key};
 use memchr::memchr;
 use std::alloc::{AllocError, Global};
 
 /// What a line of a history says.
 #[derive(Drop)]
 pub enum Line {
-    Seen(Mark),
+    Seen(HistoryEvent),
     Placed(Point),
     /// A line that doesn't count.
     Other,
@@ -55,13 +55,13 @@ fn read_fields(kind: &[u8], text: Option<&[u8]>) -> Option<Line>
 {
     kinds! { kind, text;
         b"call", call: read_number(1, u64::MAX), actor: read_number(1, MOST_ACTORS), command: read_command()
-            => Line::Seen(Mark::Call(call, actor as usize, command));
-        b"answer", call: read_number(1, u64::MAX), answer: read_answer() => Line::Seen(Mark::Answer(call, answer));
-        b"refused", call: read_number(1, u64::MAX), why: read_refusal() => Line::Seen(Mark::Refused(call, why));
-        b"halted", call: read_number(1, u64::MAX) => Line::Seen(Mark::Cut(call, Cut::Halted));
-        b"device", call: read_number(1, u64::MAX) => Line::Seen(Mark::Cut(call, Cut::Device));
-        b"stop" => Line::Seen(Mark::Stop);
-        b"crash" => Line::Seen(Mark::Crash);
+            => Line::Seen(HistoryEvent::Call(call, actor as usize, command));
+        b"answer", call: read_number(1, u64::MAX), answer: read_answer() => Line::Seen(HistoryEvent::Answer(call, answer));
+        b"refused", call: read_number(1, u64::MAX), why: read_refusal() => Line::Seen(HistoryEvent::Refused(call, why));
+        b"halted", call: read_number(1, u64::MAX) => Line::Seen(HistoryEvent::Cut(call, Cut::Halted));
+        b"device", call: read_number(1, u64::MAX) => Line::Seen(HistoryEvent::Cut(call, Cut::Device));
+        b"stop" => Line::Seen(HistoryEvent::Stop);
+        b"crash" => Line::Seen(HistoryEvent::Crash);
         b"busy", _actor: read_number(1, MOST_ACTORS) => Line::Other;
         b"point", call: read_number(1, u64::MAX), place: read_number(0, MAX_PLACE) => Line::Placed(Point { call, place });
         _ => None
@@ -169,7 +169,7 @@ fn read_open(alloc: Global, text: Option<&[u8]>) -> Result<Option<Line>, AllocEr
         }
     }
     match read_keys(alloc, text)? {
-        Some(keys) => Ok(Some(Line::Seen(Mark::Opened(Found::new(keys))))),
+        Some(keys) => Ok(Some(Line::Seen(HistoryEvent::Opened(Found::new(keys))))),
         None => Ok(None),
     }
 }
@@ -179,7 +179,7 @@ fn read_fault(text: Option<&[u8]>) -> Option<Line>
     ensures says { result ≡ fault_read (words_behind text.entry) }
 {
     let (fault, text) = read_number(text, 1, MOST_FAULTS)?;
-    read_end(text, Line::Seen(Mark::OpenFailed(fault as u8)))
+    read_end(text, Line::Seen(HistoryEvent::OpenFailed(fault as u8)))
 }
 
 fn read_show(alloc: Global, text: Option<&[u8]>) -> Result<Option<Line>, AllocError>

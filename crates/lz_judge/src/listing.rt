@@ -5,12 +5,12 @@ ghost use Rattle.std.specs.BTreeSet as set;
 ghost use Rattle.std.specs.BTreeMap.{BTreeMap as Tree};
 ghost use Rattle.std.specs.BTreeSet.{BTreeSet as TreeSet};
 ghost use Rattle.std.specs.Ordering.{nat_cmp};
-ghost use Rattle.lz_slot.specs.declared.history.Mark.{Mark as AMark};
+ghost use Rattle.lz_slot.specs.declared.history.HistoryEvent.{HistoryEvent as AMark};
 ghost use Rattle.lz_judge.specs.declared.history.Point.{Point as APoint};
 ghost use Rattle.lz_judge.specs.Readings.{Strangers, Twice, RefusedOnes, UnlistedOnes};
 
 use crate::history::Point;
-use lz_slot::Mark;
+use lz_slot::HistoryEvent;
 use std::alloc::{AllocError, Global};
 use std::collections::{BTreeMap, BTreeSet};
 
@@ -74,7 +74,7 @@ fn with_point(
 }
 
 /// The least refused call that has a point.
-pub fn refused_listed(marks: &[Mark], places: &BTreeMap<u64, u64>) -> Option<u64>
+pub fn refused_listed(marks: &[HistoryEvent], places: &BTreeMap<u64, u64>) -> Option<u64>
     ensures { RefusedOnes (reverse marks.now) places.now result }
 {
     let mut least = None;
@@ -84,11 +84,11 @@ pub fn refused_listed(marks: &[Mark], places: &BTreeMap<u64, u64>) -> Option<u64
     least
 }
 
-fn with_refused(least: Option<u64>, mark: &Mark, places: &BTreeMap<u64, u64>) -> Option<u64>
+fn with_refused(least: Option<u64>, mark: &HistoryEvent, places: &BTreeMap<u64, u64>) -> Option<u64>
     ensures { (M : List AMark) → RefusedOnes M places.now least → RefusedOnes (mark.now ∷ M) places.now result }
 {
     match mark {
-        Mark::Refused(call, _) => {
+        HistoryEvent::Refused(call, _) => {
             if places.contains_key(call) {
                 lesser(least, *call)
             } else {
@@ -100,7 +100,7 @@ fn with_refused(least: Option<u64>, mark: &Mark, places: &BTreeMap<u64, u64>) ->
 }
 
 /// The least answered call that has no point.
-pub fn unlisted(marks: &[Mark], places: &BTreeMap<u64, u64>) -> Option<u64>
+pub fn unlisted(marks: &[HistoryEvent], places: &BTreeMap<u64, u64>) -> Option<u64>
     ensures { UnlistedOnes (reverse marks.now) places.now result }
 {
     let mut least = None;
@@ -110,11 +110,15 @@ pub fn unlisted(marks: &[Mark], places: &BTreeMap<u64, u64>) -> Option<u64>
     least
 }
 
-fn with_answered(least: Option<u64>, mark: &Mark, places: &BTreeMap<u64, u64>) -> Option<u64>
+fn with_answered(
+    least: Option<u64>,
+    mark: &HistoryEvent,
+    places: &BTreeMap<u64, u64>,
+) -> Option<u64>
     ensures { (M : List AMark) → UnlistedOnes M places.now least → UnlistedOnes (mark.now ∷ M) places.now result }
 {
     match mark {
-        Mark::Answer(call, _) => {
+        HistoryEvent::Answer(call, _) => {
             if places.contains_key(call) {
                 least
             } else {

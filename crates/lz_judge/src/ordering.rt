@@ -3,20 +3,20 @@ ghost use Rattle.std.specs.Prelude.{◌≡◌, ◌≢◌, ◌≤◌, ◌<◌, �
 ghost use Rattle.std.specs.BTreeMap as tree;
 ghost use Rattle.std.specs.Ordering.{nat_cmp};
 ghost use Rattle.lz_slot.specs.declared.command.Command.{Command as ACommand};
-ghost use Rattle.lz_slot.specs.declared.history.Mark.{Mark as AMark};
+ghost use Rattle.lz_slot.specs.declared.history.HistoryEvent.{HistoryEvent as AMark};
 ghost use Rattle.lz_judge.specs.Limits.{largest_place};
 ghost use Rattle.lz_judge.specs.Records.{IsLawful};
 ghost use Rattle.lz_judge.specs.Readings.{AreLow, Floored, IsAt, Ordered};
 
 use crate::listing::lesser;
-use lz_slot::Mark;
+use lz_slot::HistoryEvent;
 use std::alloc::{AllocError, Global};
 use std::collections::{BTreeMap, BTreeSet};
 
 /// The least call whose point an earlier call of the text forbids.
 pub fn misordered(
     alloc: Global,
-    marks: &[Mark],
+    marks: &[HistoryEvent],
     places: &BTreeMap<u64, u64>,
 ) -> Result<Option<u64>, AllocError>
     requires lawful { IsLawful (reverse marks.now) }
@@ -53,23 +53,23 @@ impl Floor {
         }
     }
 
-    fn note(&mut self, mark: &Mark, places: &BTreeMap<u64, u64>) -> Result<(), AllocError>
+    fn note(&mut self, mark: &HistoryEvent, places: &BTreeMap<u64, u64>) -> Result<(), AllocError>
         requires { AreLow places.now }
         ensures { (M : List AMark) → IsLawful (mark.now ∷ M) → Floored M places.now self.old.floor self.old.top self.old.used self.old.least
             → OnOk result (Floored (mark.now ∷ M) places.now self.new.floor self.new.top self.new.used self.new.least) }
     {
         match mark {
-            Mark::Call(call, _, _) => {
+            HistoryEvent::Call(call, _, _) => {
                 if let Some(place) = places.get(call) {
                     self.list(*call, *place)?;
                 }
             }
-            Mark::Answer(call, _) => {
+            HistoryEvent::Answer(call, _) => {
                 if let Some(place) = places.get(call) {
                     self.floor = self.floor.max(*place + 1);
                 }
             }
-            Mark::Opened(_) => self.floor = self.floor.max(self.top),
+            HistoryEvent::Opened(_) => self.floor = self.floor.max(self.top),
             _ => {}
         }
         Ok(())

@@ -4,7 +4,7 @@ ghost use Rattle.std.specs.BTreeMap as tree;
 ghost use Rattle.std.specs.BTreeSet as set;
 ghost use Rattle.std.specs.Ordering.{nat_cmp};
 ghost use Rattle.lz_slot.specs.Sets.{Keys, after, key_of, members, reply, Same};
-ghost use Rattle.lz_slot.specs.declared.history.Mark.{Mark as AMark};
+ghost use Rattle.lz_slot.specs.declared.history.HistoryEvent.{HistoryEvent as AMark};
 ghost use Rattle.lz_slot.specs.declared.command.Command.{Command as ACommand};
 ghost use Rattle.lz_judge.specs.Flaws.{IsWrongSet, OrderedChain, opens};
 ghost use Rattle.lz_judge.specs.Readings.{IsAt};
@@ -12,7 +12,7 @@ ghost use Rattle.lz_judge.specs.Plays.{Compared, Finds, Finishes, IsKnown, IsLif
 ghost use Rattle.lz_slot.specs.Histories.{lives};
 
 use crate::listing::lesser;
-use lz_slot::{Command, Key, Mark};
+use lz_slot::{Command, HistoryEvent, Key};
 use std::alloc::{AllocError, Global};
 use std::collections::{BTreeMap, BTreeSet};
 use std::mem;
@@ -41,7 +41,7 @@ pub struct Play {
 /// Runs the calls of each life after those of the lives before it.
 pub fn play_lives(
     alloc: Global,
-    marks: &[Mark],
+    marks: &[HistoryEvent],
     places: &BTreeMap<u64, u64>,
     answers: &BTreeMap<u64, bool>,
 ) -> Result<Play, AllocError>
@@ -77,7 +77,7 @@ impl Play {
     fn note(
         &mut self,
         alloc: Global,
-        mark: &Mark,
+        mark: &HistoryEvent,
         places: &BTreeMap<u64, u64>,
         answers: &BTreeMap<u64, bool>,
     ) -> Result<(), AllocError>
@@ -90,8 +90,8 @@ impl Play {
             → OnOk result (Played places.now (mark.now ∷ M) self.new.set self.new.life self.new.wrong_reply self.new.wrong_set) }
     {
         match mark {
-            Mark::Call(call, _, command) => self.list(*call, *command, places),
-            Mark::Opened(found) => {
+            HistoryEvent::Call(call, _, command) => self.list(*call, *command, places),
+            HistoryEvent::Opened(found) => {
                 self.finish(alloc, answers)?;
                 self.compare(alloc, found.keys())?;
                 Ok(())

@@ -9,7 +9,7 @@ use crate::history::{History, Point};
 use crate::ledger::Ledger;
 use crate::limits::{MOST_BYTES, MOST_CALLS};
 use crate::line::{Line, read_line};
-use lz_slot::Mark;
+use lz_slot::HistoryEvent;
 use memchr::memchr;
 use std::alloc::{AllocError, Global};
 
@@ -46,7 +46,7 @@ impl History {
 // What was read so far.
 #[derive(Drop)]
 struct Reader {
-    marks: Vec<Mark>,
+    marks: Vec<HistoryEvent>,
     points: Vec<Point>,
     ledger: Ledger,
     calls: usize,
@@ -83,7 +83,7 @@ impl Reader {
     }
 
     // Takes a mark, where it may come.
-    fn see(&mut self, mark: Mark) -> Result<bool, AllocError>
+    fn see(&mut self, mark: HistoryEvent) -> Result<bool, AllocError>
         requires { IsReader self.old }
         ensures reads { IfOk result (λ reads. IsTrue reads → IsReader self.new × MaySee mark (reverse self.old.marks.items) × (seen_by self.new ≡ with_line (ALine.Seen mark) (seen_by self.old))) }
         ensures refuses { IfOk result (λ reads. reads ≡ false → ¬ MaySee mark (reverse self.old.marks.items)) }
@@ -109,11 +109,11 @@ impl Reader {
 }
 
 // How many calls a mark makes.
-fn calls_in(mark: &Mark) -> usize
+fn calls_in(mark: &HistoryEvent) -> usize
     ensures { result ≡ calls_in mark.now }
 {
     match mark {
-        Mark::Call(..) => 1,
+        HistoryEvent::Call(..) => 1,
         _ => 0,
     }
 }

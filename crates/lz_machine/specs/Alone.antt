@@ -1,7 +1,7 @@
 -- One caller: each life is a plain set's, one command after the other.
 use Rattle.std.specs.Prelude.{◌≡◌, ◌⊎◌, ℕ, ◌<◌, Bool, true, false, List, [], ◌∷◌, None, Some}
 use Rattle.lz_slot.specs.declared.{command.Command.{Command, TheVariants.{Add}}, history.Refusal.TheVariants.{Full, Worn, OldFile}}
-use Rattle.lz_slot.specs.declared.{history.Mark.TheVariants.{Call, Answer, Refused, Cut}, format.Format.{Format}}
+use Rattle.lz_slot.specs.declared.{history.HistoryEvent.TheVariants.{Call, Answer, Refused, Cut}, format.Format.{Format}}
 use Rattle.lz_slot.specs.{Sets.{Keys, Same, key_of, after, reply, HasMembers}, Bytes.{Holds, format_of}, Histories.{History, Life, lives}}
 use Rattle.lz_disk.specs.Images.{Medium}
 use Rattle.lz_list.specs.Traces.{Trace, member}

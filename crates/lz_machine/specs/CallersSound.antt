@@ -7,7 +7,7 @@ use Rattle.lz_list.specs.Traces.{Trace, Begins, bucket_of, key_word, linking, li
 use Rattle.lz_list.specs.{Pinned.{Stood, IsQuiet}, Laws.{IsHigh}}
 use Rattle.lz_machine.specs.declared.event.Reply.{Reply, TheVariants.{Yes, No, Full, Worn as SaysWorn, OldFile as SaysOldFile, Halted, Device}}
 use Rattle.lz_machine.specs.declared.actor.Actor.{Actor}
-use Rattle.lz_machine.specs.declared.actor.Hold.TheVariants.{Nothing, Locks, Checked, GateOpened, Linked, GateClosed, Marked, Unlinked, Released}
+use Rattle.lz_machine.specs.declared.actor.LockPhase.TheVariants.{Nothing, Locks, Checked, GateOpened, Linked, GateClosed, Marked, Unlinked, Released}
 use Rattle.lz_machine.specs.declared.caller.Sequence.{Sequence, TheVariants.{Pinning, Resting, Writing, Adding, Removing, Releasing, Halting}}
 use Rattle.lz_machine.specs.declared.caller.Progress.{Progress, TheVariants.{Playing, LoadsHalt, Walking, Reserving, SeeingPins, Claiming, Checking, Answering}}
 use Rattle.lz_machine.specs.{Yards.{Shape, actor_in, cell_in, stage_in, pin_in, IsInside}, Table.{is_old, last_pin}, Runs.{Caller, caller_at}, Kept.{upto}}

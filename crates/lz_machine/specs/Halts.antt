@@ -1,6 +1,6 @@
 -- What the marks of a run tell of a halt, and of device calls that failed. Marks and steps stand newest first.
 use Rattle.std.specs.Prelude.{◌≡◌, ◌⊎◌, ℕ, suc, ◌+◌, ◌≤◌, Bool, true, false, List, [], ◌∷◌, Option, Some, None}
-use Rattle.lz_slot.specs.declared.history.{Cut.TheVariants.{Halted as cut_halted, Device as cut_device}, Mark.{Mark, TheVariants.{Call, Answer, Refused, Cut}}}
+use Rattle.lz_slot.specs.declared.history.{Cut.TheVariants.{Halted as cut_halted, Device as cut_device}, HistoryEvent.{HistoryEvent, TheVariants.{Call, Answer, Refused, Cut}}}
 use Rattle.lz_slot.specs.{declared.history.Refusal.TheVariants.{Full as refused_full}, Histories.{History}}
 use Rattle.lz_list.specs.Traces.{Trace}
 use Rattle.lz_machine.specs.declared.caller.{Progress.{Progress, TheVariants.{Playing, LoadsHalt, Answering}}, Sequence.TheVariants.{Pinning, Resting, Halting}}
@@ -22,7 +22,7 @@ IsMadeLate (Call j a c ∷ M) i = ((j ≡ i) × (was_cut M ≡ true)) ⊎ IsMade
 IsMadeLate (_ ∷ M) i = IsMadeLate M i
 
 -- what may be told of such a call: that its pass is worn, that the file is too old for its key, or that the service has halted
-abbrev pub MayTellLate : Mark → History → Type 0
+abbrev pub MayTellLate : HistoryEvent → History → Type 0
 MayTellLate (Answer i answer) M = ¬ IsMadeLate M i
 MayTellLate (Refused i refused_full) M = ¬ IsMadeLate M i
 MayTellLate (Cut i cut_device) M = ¬ IsMadeLate M i

@@ -2,11 +2,11 @@
 use Rattle.std.specs.Prelude.{◌≡◌, ◌⊎◌, ℕ, Bool, true, false, List, [], ◌∷◌, length, Option, Some}
 use Rattle.lz_list.specs.{declared.place.Place.{Place}, Words.{place_number, link_to}, Traces.{Trace, key_word, is_marked}}
 use Rattle.lz_list.specs.Locks.{NodeLocks, claimed_places, owner}
-use Rattle.lz_machine.specs.declared.actor.{Actor.{Actor}, Hold.{Hold, TheVariants.{Nothing, Checked, GateOpened, GateClosed, Marked, Released}}}
+use Rattle.lz_machine.specs.declared.actor.{Actor.{Actor}, LockPhase.{LockPhase, TheVariants.{Nothing, Checked, GateOpened, GateClosed, Marked, Released}}}
 use Rattle.lz_machine.specs.{Yards.{Shape, actor_in}, Stands.{IsLinkable, IsRound, InBucket, FacesNode}}
 
 -- An actor has the locks of what it claimed from Claim to Release.
-abbrev pub has_locks : Hold → Bool
+abbrev pub has_locks : LockPhase → Bool
 has_locks Nothing = false
 has_locks Released = false
 has_locks _ = true
@@ -46,7 +46,7 @@ pub record HasClosed (buckets : ℕ) (mark : Bool) (actor : Actor) (P : Trace) :
   pub before : IsRightBefore buckets actor.pred node P
   pub marked : is_marked node P ≡ mark
 
-abbrev pub RestsOn : ℕ → Hold → Actor → Trace → Type 0
+abbrev pub RestsOn : ℕ → LockPhase → Actor → Trace → Type 0
 RestsOn buckets Checked actor P = IsChecked buckets actor P
 RestsOn buckets GateOpened actor P = HasOpened buckets actor P
 RestsOn buckets GateClosed actor P = HasClosed buckets false actor P

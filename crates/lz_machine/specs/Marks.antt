@@ -1,6 +1,6 @@
 -- What the marks of a run tell: each call has a number of its own, an actor has one call open at most, and a call ends once.
 use Rattle.std.specs.Prelude.{◌≡◌, ◌≢◌, ◌⊎◌, ℕ, [], ◌∷◌}
-use Rattle.lz_slot.specs.{declared.{command.Command.{Command}, history.Mark.{Mark, TheVariants.{Call, Answer, Refused, Cut}}}, Histories.{History, IsCalled}}
+use Rattle.lz_slot.specs.{declared.{command.Command.{Command}, history.HistoryEvent.{HistoryEvent, TheVariants.{Call, Answer, Refused, Cut}}}, Histories.{History, IsCalled}}
 use Rattle.lz_list.specs.Traces.{Trace}
 use Rattle.lz_machine.specs.Runs.{Start, State, Reached}
 
@@ -14,7 +14,7 @@ IsOpenCall (Cut j why ∷ M) i actor = (j ≢ i) × IsOpenCall M i actor
 IsOpenCall (_ ∷ M) i actor = ⊥
 
 -- the mark may follow: a call has a new number, and its actor none that is open; what ends a call ends one that is open
-abbrev pub MayFollow : Mark → History → Type 0
+abbrev pub MayFollow : HistoryEvent → History → Type 0
 MayFollow (Call i actor c) M = ((d : Command) → ¬ IsCalled M i d) × ((j : ℕ) → ¬ IsOpenCall M j actor)
 MayFollow (Answer i answer) M = (actor : ℕ) × IsOpenCall M i actor
 MayFollow (Refused i why) M = (actor : ℕ) × IsOpenCall M i actor

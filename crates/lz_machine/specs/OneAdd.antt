@@ -1,6 +1,6 @@
 -- The machine running: one adding to a freshly made set of one slot, in each format. And what a crash may leave.
 use Rattle.std.specs.Prelude.{◌≡◌, ℕ, Bool, true, false, List, [], ◌∷◌, ◌++◌, replicate, Some, None}
-use Rattle.lz_slot.specs.declared.{command.Command.TheVariants.{Add}, format.Format.{Format, TheVariants.{Four}}, history.Mark.TheVariants.{Call, Answer}}
+use Rattle.lz_slot.specs.declared.{command.Command.TheVariants.{Add}, format.Format.{Format, TheVariants.{Four}}, history.HistoryEvent.TheVariants.{Call, Answer}}
 use Rattle.lz_slot.specs.{Bytes.{open_byte, slot_body}, Whole.{whole_slot}, Histories.{History}}
 use Rattle.lz_vault.specs.Vaults.{DeviceCall, NoCall, WriteAt, SyncAll}
 use Rattle.lz_list.specs.Traces.{Trace}

@@ -3,8 +3,8 @@ use Rattle.std.specs.Prelude.{◌≡◌, ◌≢◌, ◌⊎◌, ℕ, suc, ◌+◌
 use Rattle.std.specs.Prelude.{IsSomeAnd}
 use Rattle.lz_slot.specs.declared.{command.Command.{Command}, format.Format.{Format}}
 use Rattle.lz_slot.specs.declared.history.Refusal.TheVariants.{Full as refused_full, Worn as refused_worn, OldFile as refused_old_file}
-use Rattle.lz_slot.specs.declared.history.{Cut.TheVariants.{Halted as cut_halted, Device as cut_device}, Mark.{Mark}}
-use Rattle.lz_slot.specs.declared.history.Mark.TheVariants.{Call, Answer, Refused, Cut, Stop, Crash, Opened, OpenFailed}
+use Rattle.lz_slot.specs.declared.history.{Cut.TheVariants.{Halted as cut_halted, Device as cut_device}, HistoryEvent.{HistoryEvent}}
+use Rattle.lz_slot.specs.declared.history.HistoryEvent.TheVariants.{Call, Answer, Refused, Cut, Stop, Crash, Opened, OpenFailed}
 use Rattle.lz_slot.specs.{Limits.{largest_key, most_buckets, most_passes}, Sets.{Keys, members, key_of}, Counted.{of_pass, set_of_pass}, Histories.{History}}
 use Rattle.lz_slot.specs.Bytes.{open_byte, header_body, Holds, format_of, held}
 use Rattle.lz_disk.specs.Images.{Medium, IsImage, AreBytes, at_rest, synced}
@@ -184,7 +184,7 @@ MayStep (Down shape disk) Opens = Holds disk.seen shape.slots (members (keys_fou
 MayStep (Down shape disk) (OpenFails why done) = IsOpenFailure why
 
 -- the mark of a reply
-abbrev pub mark_of : ℕ → Reply → Mark
+abbrev pub mark_of : ℕ → Reply → HistoryEvent
 mark_of i Yes = Answer i true
 mark_of i No = Answer i false
 mark_of i (Full counts) = Refused i refused_full
@@ -193,16 +193,16 @@ mark_of i OldFile = Refused i refused_old_file
 mark_of i Halted = Cut i cut_halted
 mark_of i Device = Cut i cut_device
 
-abbrev pub mark_of_turn : ℕ → Option Reply → List Mark
+abbrev pub mark_of_turn : ℕ → Option Reply → List HistoryEvent
 mark_of_turn i None = []
 mark_of_turn i (Some reply) = mark_of i reply ∷ []
 
-abbrev pub marks_of_turn : Option Caller → List Mark
+abbrev pub marks_of_turn : Option Caller → List HistoryEvent
 marks_of_turn None = []
 marks_of_turn (Some caller) = mark_of_turn caller.number (reply_at caller.progress)
 
 -- the mark of a step, if it has one
-abbrev pub marks_of : ℕ → State → Transition → List Mark
+abbrev pub marks_of : ℕ → State → Transition → List HistoryEvent
 marks_of n (Up service disk) (Calls a c) = Call n a c ∷ []
 marks_of n (Up service disk) (Turn a) = marks_of_turn (caller_at service.callers a)
 marks_of n w Stops = Stop ∷ []

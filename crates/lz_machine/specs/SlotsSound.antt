@@ -3,7 +3,7 @@ use Rattle.std.specs.Prelude.{◌≡◌, ◌≢◌, ◌⊎◌, ℕ, suc, ◌<◌
 use Rattle.lz_vault.specs.{declared.vault.Stage.{Stage, TheVariants.{Closed, Opening, Open, Closing}}, Stages.{Cell, IsFree}}
 use Rattle.lz_allot.specs.{declared.sight.Sight.{Sight}, Uses.{Use, Free, Taken, Limbo, use_of}}
 use Rattle.lz_list.specs.Traces.{Trace, IsLoose, halt_word, on, chain_of, key_word, linking, is_settled, is_removed, is_marked}
-use Rattle.lz_machine.specs.declared.actor.{Actor.{Actor}, Hold.{Hold, TheVariants.{Checked, GateOpened, GateClosed, Marked, Unlinked, Released}}}
+use Rattle.lz_machine.specs.declared.actor.{Actor.{Actor}, LockPhase.{LockPhase, TheVariants.{Checked, GateOpened, GateClosed, Marked, Unlinked, Released}}}
 use Rattle.lz_machine.specs.Yards.{Shape, actor_in, cell_in, stage_in}
 
 -- Where a slot stands: its stage, its use and who has it.
@@ -14,30 +14,30 @@ abbrev pub IsGateWritten : Stage → Type 0
 IsGateWritten stage = (stage ≡ Closing) ⊎ (stage ≡ Closed)
 
 -- The actor has closed the gate of the node that it claimed, or, in a vault that is dead, may have tried to.
-abbrev pub closes : Bool → Hold → Bool
+abbrev pub closes : Bool → LockPhase → Bool
 closes dead Checked = dead
 closes dead GateClosed = true
 closes dead Marked = true
 closes dead _ = false
 
 -- it has closed it for sure
-abbrev pub shuts : Hold → Bool
+abbrev pub shuts : LockPhase → Bool
 shuts GateClosed = true
 shuts Marked = true
 shuts _ = false
 
 -- it has opened the gate of its slot for sure
-abbrev pub unlocks : Hold → Bool
+abbrev pub unlocks : LockPhase → Bool
 unlocks GateOpened = true
 unlocks _ = false
 
 -- it has opened the gate of its slot, or may have tried to
-abbrev pub opens : Bool → Hold → Bool
+abbrev pub opens : Bool → LockPhase → Bool
 opens dead Checked = dead
 opens dead GateOpened = true
 opens dead _ = false
 
-abbrev pub has_removed_node : Hold → Bool
+abbrev pub has_removed_node : LockPhase → Bool
 has_removed_node Unlinked = true
 has_removed_node Released = true
 has_removed_node _ = false

@@ -17,7 +17,7 @@ use Rattle.lz_flush.specs.Settling.{settle}
 use Rattle.lz_machine.specs.declared.event.Event.{Event, TheVariants.{Invoke, Pin, Hop, Reserve, WriteKey, Claim, Check, WriteOpen, Link, WriteClose, Mark}}
 use Rattle.lz_machine.specs.declared.event.{Event.TheVariants.{Release, Sync, Settle, Unlink, Retire, SeePin, Answer, Halt}, Outcome.{Outcome}}
 use Rattle.lz_machine.specs.declared.event.Outcome.TheVariants.{Done, Value, Slot, NoSlot, Taken, Busy, True, False, Early, Worn, OldFile, NotNow, Fault, Dead}
-use Rattle.lz_machine.specs.declared.actor.Hold.{Hold, TheVariants.{Nothing, Locks, Checked, GateOpened, Linked, GateClosed, Marked, Unlinked, Released}}
+use Rattle.lz_machine.specs.declared.actor.LockPhase.{LockPhase, TheVariants.{Nothing, Locks, Checked, GateOpened, Linked, GateClosed, Marked, Unlinked, Released}}
 use Rattle.lz_machine.specs.{declared.{actor.Actor.{Actor}, course.Course.{Course, TheVariants.{Refused, Dies, Plays}}}, Yards.{Yard, actor_at, cell_at}}
 
 abbrev pub last_pin : ℕ
@@ -47,41 +47,41 @@ has_stage Keyed stage = is_keyed stage
 has_stage _ stage = false
 
 -- What an actor may do, by how far it has come since its claim.
-abbrev pub may_claim : Hold → Bool
+abbrev pub may_claim : LockPhase → Bool
 may_claim Nothing = true
 may_claim Released = true
 may_claim _ = false
 
 -- nothing may have been done under the locks yet, so that a test can't be made again after a gate
-abbrev pub may_check : Hold → Bool
+abbrev pub may_check : LockPhase → Bool
 may_check Locks = true
 may_check Checked = true
 may_check _ = false
 
-abbrev pub has_checked : Hold → Bool
+abbrev pub has_checked : LockPhase → Bool
 has_checked Checked = true
 has_checked _ = false
 
-abbrev pub has_opened : Hold → Bool
+abbrev pub has_opened : LockPhase → Bool
 has_opened GateOpened = true
 has_opened _ = false
 
-abbrev pub has_closed : Hold → Bool
+abbrev pub has_closed : LockPhase → Bool
 has_closed GateClosed = true
 has_closed _ = false
 
-abbrev pub has_marked : Hold → Bool
+abbrev pub has_marked : LockPhase → Bool
 has_marked Marked = true
 has_marked _ = false
 
-abbrev pub may_release : Hold → Bool
+abbrev pub may_release : LockPhase → Bool
 may_release Locks = true
 may_release Checked = true
 may_release Linked = true
 may_release Unlinked = true
 may_release _ = false
 
-abbrev pub may_retire : Hold → Bool
+abbrev pub may_retire : LockPhase → Bool
 may_retire Released = true
 may_retire _ = false
 
@@ -198,10 +198,10 @@ locks_after y actor a (Claim pred curr) = if is_pair_free y.locks pred curr then
 locks_after y actor a Release = pair_owned y.locks actor.pred actor.curr 0
 locks_after y actor a _ = y.locks
 
-abbrev pub with_hold : Actor → Hold → Actor
+abbrev pub with_hold : Actor → LockPhase → Actor
 with_hold actor hold = record actor { hold = hold }
 
-abbrev pub released : Hold → Hold
+abbrev pub released : LockPhase → LockPhase
 released Unlinked = Released
 released _ = Nothing
 

@@ -5,7 +5,7 @@ use Rattle.lz_slot.specs.{declared.slot.SlotRead.{SlotRead, TheVariants.{Member}
 use Rattle.lz_vault.specs.{declared.vault.Stage.{Stage, TheVariants.{Torn, Open}}, Stages.{Cell}, Vaults.{Vaulted}, Members.{no_cell}}
 use Rattle.lz_allot.specs.Uses.{Use, Free, Taken}
 use Rattle.lz_list.specs.{declared.place.Place.TheVariants.{Bucket}, Words.{Words}, Locks.{NodeLocks}, Traces.{words_of_trace, opening, Trace}}
-use Rattle.lz_machine.specs.declared.actor.{Actor.{Actor}, Hold.TheVariants.{Nothing}}
+use Rattle.lz_machine.specs.declared.actor.{Actor.{Actor}, LockPhase.TheVariants.{Nothing}}
 
 pub record Shape : Type 0 where
   pub slots : ℕ

@@ -4,7 +4,7 @@ use lz_slot::Slot;
 
 /// How far an actor has come between a claim and its release.
 #[derive(Clone, Copy, Debug, PartialEq, Eq)]
-pub enum Hold {
+pub enum LockPhase {
     Nothing,
     Locks,
     Checked,
@@ -22,7 +22,7 @@ pub enum Hold {
 #[derive(Clone, Copy, Debug, PartialEq, Eq)]
 pub struct Actor {
     pub slot: Option<Slot>,
-    pub hold: Hold,
+    pub hold: LockPhase,
     pub pred: Place,
     pub curr: Option<Slot>,
     pub refused: bool,

@@ -12,7 +12,7 @@ mod event;
 mod kind;
 pub mod laws;
 
-pub use actor::{Actor, Hold};
+pub use actor::{Actor, LockPhase};
 pub use caller::{Progress, Sequence};
 pub use course::Course;
 pub use event::{Event, Outcome, Reply};

@@ -2,7 +2,7 @@
 use Rattle.lz_machine.specs.Marks as told
 use Rattle.std.proofs.Common.{◌≡◌, ◌≢◌, ⊎_elim, inl, inr, ℕ, suc, true, false, ◌==◌, if◌then◌else◌, List, [], ◌∷◌, ◌++◌, Option, Some, None, refl}
 use Rattle.std.proofs.lemmas.{Bool.Decides.{eqb_tells}, Option.{same_Some, none-some}}
-use Rattle.lz_slot.specs.{Histories.{History}, declared.{command.Command.{Command}, history.Mark.TheVariants.{Call, Answer, Refused, Cut}}}
+use Rattle.lz_slot.specs.{Histories.{History}, declared.{command.Command.{Command}, history.HistoryEvent.TheVariants.{Call, Answer, Refused, Cut}}}
 use Rattle.lz_disk.specs.Images.{Medium}
 use Rattle.lz_judge.specs.Records.{IsLawful, IsOpen, MayFollow, actor_of, is_living}
 use Rattle.lz_machine.specs.{declared.event.Reply.{Reply, TheVariants.{Yes}}, Marks.{IsOpenCall, IsTold}, Yards.{Shape}, Runs.{Caller, Service, State, Up}}

@@ -4,7 +4,7 @@ use Rattle.std.proofs.Common.{◌≡◌, inl, inr, ◌≤◌, ◌<◌, ◌+◌, 
 use Rattle.std.proofs.{Common.{is_some, unwrap_or, Result, Ok, Err, OnOk, IfOk, refl, sym, ap, subst, ◌∙◌, arith}, lemmas.Bool.{false≢true}}
 use Rattle.std.proofs.{lemmas.List.{append-nil, length-take-le, take_more}, Math.Seq.{split_at}, KnownBytes.{Appends-nil, Appends-trans}}
 use Rattle.std.specs.Io.KnownBytes.{Appends}
-use Rattle.lz_slot.specs.{declared.history.Mark.{Mark}, MarkTexts.{marks_text}}
+use Rattle.lz_slot.specs.{declared.history.HistoryEvent.{HistoryEvent}, MarkTexts.{marks_text}}
 use Rattle.lz_machine.specs.declared.{event.Outcome.{Outcome}, kind.Kind.{Kind}}
 use Rattle.lz_core.specs.{declared.{play.Step.{Step as PlayStep}, world.Turned.{Turned}}, Worlds.{IsLawful, IsTold, PlaysOn, StopsAt, WorldOver, mark_list}}
 use Rattle.lz_core.proofs.Runs.{PlayedStep.{stays}, JoinedPlays.{chains, joins}}
@@ -13,10 +13,10 @@ use Rattle.lz_rehearsal.specs.Rehearsals.{Adds, AddsPart, Does, EndsAt, EndsCutS
 use Rattle.lz_rehearsal.specs.{Rehearsals.{busy, met, again, nothing, more}, Rehearsing.{EndsTurns, GoesOn, PlaysStep, TakesTurns}}
 
 -- what lines do is the play of some steps
-abbrev pub IsPlay : WorldOver → List Mark → WorldOver → Type 0
+abbrev pub IsPlay : WorldOver → List HistoryEvent → WorldOver → Type 0
 IsPlay old marks new = (plays : List PlayStep) × PlaysOn old plays marks new
 
-play_of_turns : (a : ℕ) (awaited : Option Kind) (n : ℕ) (old new : WorldOver) (marks : List Mark) (text : List ℕ) → Turns a awaited n old marks text new → IsPlay old marks new
+play_of_turns : (a : ℕ) (awaited : Option Kind) (n : ℕ) (old new : WorldOver) (marks : List HistoryEvent) (text : List ℕ) → Turns a awaited n old marks text new → IsPlay old marks new
 play_of_turns a awaited _ old _ _ _ (enough w) = ([], stays w)
 play_of_turns a awaited _ _ _ _ _ (ended n old new kind outcome mark is) = (step.Turn a ∷ [], is.0)
 play_of_turns a awaited _ _ _ _ _ (busy n old new kind is) = (step.Turn a ∷ [], is.0)
@@ -25,7 +25,7 @@ play_of_turns a awaited _ _ _ _ _ (again n old mid new kind outcome marks text i
     let later = play_of_turns a awaited n mid new marks text rest in
     (step.Turn a ∷ later.0, joins old mid new (step.Turn a ∷ []) later.0 [] marks is.0 later.1)
 
-play_of_line : (old new : WorldOver) (line : Line) (marks : List Mark) (text : List ℕ) → Does old line marks text new → IsPlay old marks new
+play_of_line : (old new : WorldOver) (line : Line) (marks : List HistoryEvent) (text : List ℕ) → Does old line marks text new → IsPlay old marks new
 play_of_line old new (Call a c) marks text does = (step.Call a c ∷ [], does.0)
 play_of_line old new (Turn a n) marks text does = play_of_turns a None n old new marks text does
 play_of_line old new (Until a kind) marks text does = play_of_turns a (Some kind) most_turns old new marks text does
@@ -35,9 +35,9 @@ play_of_line old new Stop marks text does = (step.Stop ∷ [], does.0)
 play_of_line old new (Crash pick) marks text does = (step.Crash pick ∷ [], does.0)
 play_of_line old new Open marks text does = (step.Open ∷ [], does.0)
 play_of_line old new Show marks text does =
-    ([], subst (λ (ms : List Mark). PlaysOn old [] ms new) (sym does.none) (subst (λ (w : WorldOver). PlaysOn old [] [] w) (sym does.same) (stays old)))
+    ([], subst (λ (ms : List HistoryEvent). PlaysOn old [] ms new) (sym does.none) (subst (λ (w : WorldOver). PlaysOn old [] [] w) (sym does.same) (stays old)))
 
-pub play_of : (old new : WorldOver) (lines : List Line) (marks : List Mark) (text : List ℕ) → Rehearsed old lines marks text new → IsPlay old marks new
+pub play_of : (old new : WorldOver) (lines : List Line) (marks : List HistoryEvent) (text : List ℕ) → Rehearsed old lines marks text new → IsPlay old marks new
 play_of old _ _ _ _ nothing = ([], stays old)
 play_of old _ _ _ _ (more lines line marks seen text written mid new before does) =
     let first = play_of old mid lines marks text before in
@@ -47,7 +47,7 @@ play_of old _ _ _ _ (more lines line marks seen text written mid new before does
 abbrev Text : Type 0
 Text = Option (List ℕ)
 
-rehearses : (old new : WorldOver) (lines : List Line) (marks : List Mark) (text : List ℕ) (b a : Text) → Rehearsed old lines marks text new → Appends b a text → Rehearses old lines new b a
+rehearses : (old new : WorldOver) (lines : List Line) (marks : List HistoryEvent) (text : List ℕ) (b a : Text) → Rehearsed old lines marks text new → Appends b a text → Rehearses old lines new b a
 rehearses old new lines marks text b a h written =
     let play = play_of old new lines marks text h in
     record { marks = marks; text = text; rehearsed = h; written = written; chain = chains old new play.0 marks play.1; of_run = (play.1 (record { state = old.state; marks = []; trace = []; calls = old.calls }) (record { state = refl; calls = refl })).of_run }
@@ -115,7 +115,7 @@ ends_cut_short old mid new lines i line b m a within at before cut = record {
 
 -- Turns of a line, the last of which comes later: what ends them there ends them.
 abbrev pub IsGoing : ℕ → Option Kind → ℕ → WorldOver → ℕ → WorldOver → Type 0
-IsGoing a awaited most start left here = (marks : List Mark) (text : List ℕ) (new : WorldOver) → Turns a awaited left here marks text new → Turns a awaited most start marks text new
+IsGoing a awaited most start left here = (marks : List HistoryEvent) (text : List ℕ) (new : WorldOver) → Turns a awaited left here marks text new → Turns a awaited most start marks text new
 
 pub record Going (a : ℕ) (awaited : Option Kind) (most : ℕ) (start : WorldOver) (played : ℕ) (here : WorldOver) : Type 0 where
   pub going : IsGoing a awaited most start (most - played) here
@@ -135,7 +135,7 @@ going_on a awaited most played start here new turned low h plays told lawful goe
   going = λ marks text end rest.
       h.going marks text end (subst (λ (n : ℕ). Turns a awaited n here marks text end) (left_one most played low)
       (again (most - (played + 1)) here new end turned.kind turned.outcome marks text
-      (subst (λ (mark : Option Mark). PlaysOn here (step.Turn a ∷ []) (mark_list mark) new) goes.0 plays, told) goes.1 goes.2 rest));
+      (subst (λ (mark : Option HistoryEvent). PlaysOn here (step.Turn a ∷ []) (mark_list mark) new) goes.0 plays, told) goes.1 goes.2 rest));
   still = λ none. absurd (omega (arith, none));
   lawful = λ some. lawful goes.0;
 }
@@ -146,17 +146,17 @@ last_turn : (a : ℕ) (awaited : Option Kind) (n : ℕ) (here new : WorldOver) (
 last_turn a awaited n here new turned text plays told (inl over) = (
   over.0 ∷ [],
   subst (λ (t : List ℕ). Turns a awaited (suc n) here (over.0 ∷ []) t new) (sym over.2)
-      (ended n here new turned.kind turned.outcome over.0 (subst (λ (mark : Option Mark). PlaysOn here (step.Turn a ∷ []) (mark_list mark) new) over.1 plays, told)),
+      (ended n here new turned.kind turned.outcome over.0 (subst (λ (mark : Option HistoryEvent). PlaysOn here (step.Turn a ∷ []) (mark_list mark) new) over.1 plays, told)),
 )
 last_turn a awaited n here new turned text plays told (inr (inl found)) = (
   [],
   subst (λ (t : List ℕ). Turns a awaited (suc n) here [] t new) (sym found.2)
-      (busy n here new turned.kind (subst (λ (mark : Option Mark). PlaysOn here (step.Turn a ∷ []) (mark_list mark) new) found.0 plays, subst (λ (o : Outcome). IsTold here.state a turned.kind o new.state) found.1 told)),
+      (busy n here new turned.kind (subst (λ (mark : Option HistoryEvent). PlaysOn here (step.Turn a ∷ []) (mark_list mark) new) found.0 plays, subst (λ (o : Outcome). IsTold here.state a turned.kind o new.state) found.1 told)),
 )
 last_turn a awaited n here new turned text plays told (inr (inr came)) = (
   [],
   subst (λ (t : List ℕ). Turns a awaited (suc n) here [] t new) (sym came.3)
-      (met n here new turned.kind turned.outcome (subst (λ (mark : Option Mark). PlaysOn here (step.Turn a ∷ []) (mark_list mark) new) came.0 plays, told) came.1 came.2),
+      (met n here new turned.kind turned.outcome (subst (λ (mark : Option HistoryEvent). PlaysOn here (step.Turn a ∷ []) (mark_list mark) new) came.0 plays, told) came.1 came.2),
 )
 
 -- a turn that is the last of its line
@@ -188,7 +188,7 @@ pub stopped : (old new : WorldOver) (play : PlayStep) (i : ℕ) → StopsAt old 
 stopped old new play i h still = grind (arith, first_place, still, slice_get, unwrap_or)
 
 -- what was played has the text that was put together
-pub step_put : {V E F : Type 0} (r : Result V F) (told : Result Unit E) (items : V → List ℕ) (old : WorldOver) (play : PlayStep) (marks : List Mark) (text : List ℕ) (new : WorldOver)
+pub step_put : {V E F : Type 0} (r : Result V F) (told : Result Unit E) (items : V → List ℕ) (old : WorldOver) (play : PlayStep) (marks : List HistoryEvent) (text : List ℕ) (new : WorldOver)
     → PlaysOn old (play ∷ []) marks new → IfOk r (λ whole. (told ≡ Ok tt) × (items whole ≡ text)) → OnOk told (text ≡ marks_text marks) → IfOk r (λ whole. PlaysStep old play (items whole) new)
 step_put {E = E} (Ok whole) told items old play marks text new plays put written = (marks, (plays, put.1 ∙ subst (λ (r : Result Unit E). OnOk r (text ≡ marks_text marks)) put.0 written))
 step_put (Err fault) told items old play marks text new plays put written = tt

@@ -3,7 +3,7 @@ use Rattle.lz_core.specs.declared.play.Step.TheVariants as step
 use Rattle.lz_rehearsal.proofs.SaidText as said
 use Rattle.std.proofs.Common.{◌≡◌, ℕ, ◌≤◌, List, [], ◌∷◌, ◌++◌, length, reverse, codes, decimal, Option, None, Some, IsSomeAnd, refl, sym, ap, subst, ◌∙◌}
 use Rattle.std.proofs.{Common.{arith}, lemmas.List.{append-nil}}
-use Rattle.lz_slot.specs.{Limits.{most_actors}, MarkTexts.{keys_text}, declared.history.Mark.{Mark}}
+use Rattle.lz_slot.specs.{Limits.{most_actors}, MarkTexts.{keys_text}, declared.history.HistoryEvent.{HistoryEvent}}
 use Rattle.lz_judge.specs.{MarkLines.{AreMarksOfRun, AscendFrom}, Records.{IsLawful}}
 use Rattle.lz_machine.specs.{declared.{event.{Event.{Event}, Outcome.{Outcome, TheVariants.{Busy}}}, kind.Kind.{Kind}}, Points.{IsReached}, Sound.{IsSound}}
 use Rattle.lz_machine.specs.{Yards.{Shape}, Runs.{Caller, Service, State, Up, Down, Start, Point, caller_at, first_point, run, shape_of}}
@@ -46,15 +46,15 @@ record IsOn (start : Start) (w : WorldOver) : Type 0 where
   at : IsAt w.state w.calls point
 
 module _ (start : Start) (most : start.shape.passes ≤ most_actors) where
-  on_after : (old new : WorldOver) (plays : List PlayStep) (marks : List Mark) → IsOn start old → PlaysOn old plays marks new → IsOn start new
+  on_after : (old new : WorldOver) (plays : List PlayStep) (marks : List HistoryEvent) → IsOn start old → PlaysOn old plays marks new → IsOn start new
   on_after old new plays marks on goes =
       let leads = goes on.point on.at in
       record { point = run on.point leads.played.steps; reached = leads.reached start on.reached; at = record { state = leads.played.state; calls = leads.calls } }
 
-  of_run : (old new : WorldOver) (plays : List PlayStep) (marks : List Mark) → IsOn start old → PlaysOn old plays marks new → AreMarksOfRun marks
+  of_run : (old new : WorldOver) (plays : List PlayStep) (marks : List HistoryEvent) → IsOn start old → PlaysOn old plays marks new → AreMarksOfRun marks
   of_run old new plays marks on goes = (goes on.point on.at).of_run
 
-  turns_say : (a : ℕ) (awaited : Option Kind) (n : ℕ) (old new : WorldOver) (marks : List Mark) (text : List ℕ) → IsOn start old → Turns a awaited n old marks text new → Says marks text
+  turns_say : (a : ℕ) (awaited : Option Kind) (n : ℕ) (old new : WorldOver) (marks : List HistoryEvent) (text : List ℕ) → IsOn start old → Turns a awaited n old marks text new → Says marks text
   turns_say a awaited _ _ _ _ _ on (enough w) = said.nothing
   turns_say a awaited _ _ _ _ _ on (ended n old new kind outcome mark is) = says_one mark (of_run old new (step.Turn a ∷ []) (mark ∷ []) on is.0).0
   turns_say a awaited _ _ _ _ _ on (busy n old new kind is) =
@@ -64,16 +64,16 @@ module _ (start : Start) (most : start.shape.passes ≤ most_actors) where
   turns_say a awaited _ _ _ _ _ on (again n old mid new kind outcome marks text is free other rest) =
       turns_say a awaited n mid new marks text (on_after old mid (step.Turn a ∷ []) [] on is.0) rest
 
-  step_says : (old new : WorldOver) (play : PlayStep) (marks : List Mark) (text : List ℕ) → IsOn start old → IsStep old play marks text new → Says marks text
+  step_says : (old new : WorldOver) (play : PlayStep) (marks : List HistoryEvent) (text : List ℕ) → IsOn start old → IsStep old play marks text new → Says marks text
   step_says old new play marks text on is = subst (Says marks) (sym is.1) (says_marks marks (of_run old new (play ∷ []) marks on is.0))
 
-  show_says : (old new : WorldOver) (marks : List Mark) (text : List ℕ) → IsOn start old → IsShow old marks text new → Says marks text
+  show_says : (old new : WorldOver) (marks : List HistoryEvent) (text : List ℕ) → IsOn start old → IsShow old marks text new → Says marks text
   show_says old new marks text on is =
       let ascend = keys_ascend start on.point old.state is.keys on.reached on.at.state is.up is.members is.ascend in
       let written = says_silence (codes "show" ++ keys_text is.keys) (show_silent is.keys ascend) in
-      subst (λ (ms : List Mark). Says ms text) (sym is.none) (subst (Says []) (sym is.shown) written)
+      subst (λ (ms : List HistoryEvent). Says ms text) (sym is.none) (subst (Says []) (sym is.shown) written)
 
-  line_says : (old new : WorldOver) (line : Line) (marks : List Mark) (text : List ℕ) → IsOn start old → Does old line marks text new → Says marks text
+  line_says : (old new : WorldOver) (line : Line) (marks : List HistoryEvent) (text : List ℕ) → IsOn start old → Does old line marks text new → Says marks text
   line_says old new (Call a c) marks text on does = step_says old new (step.Call a c) marks text on does
   line_says old new (Turn a n) marks text on does = turns_say a None n old new marks text on does
   line_says old new (Until a kind) marks text on does = turns_say a (Some kind) most_turns old new marks text on does
@@ -84,7 +84,7 @@ module _ (start : Start) (most : start.shape.passes ≤ most_actors) where
   line_says old new Open marks text on does = step_says old new step.Open marks text on does
   line_says old new Show marks text on does = show_says old new marks text on does
 
-  rehearsal_says : (first last : WorldOver) (lines : List Line) (marks : List Mark) (text : List ℕ) → IsOn start first → Rehearsed first lines marks text last → Says marks text
+  rehearsal_says : (first last : WorldOver) (lines : List Line) (marks : List HistoryEvent) (text : List ℕ) → IsOn start first → Rehearsed first lines marks text last → Says marks text
   rehearsal_says first _ _ _ _ on nothing = said.nothing
   rehearsal_says first _ _ _ _ on (more lines line marks seen text written mid new before does) =
       let play = play_of first mid lines marks text before in

@@ -1,9 +1,9 @@
 -- What a rehearsal writes.
 use Rattle.std.specs.Prelude.{ℕ, List, [], ◌∷◌, ◌++◌, codes, decimal}
-use Rattle.lz_slot.specs.{MarkTexts.{keys_text, mark_text}, declared.history.Mark.{Mark}}
+use Rattle.lz_slot.specs.{MarkTexts.{keys_text, mark_text}, declared.history.HistoryEvent.{HistoryEvent}}
 
 -- the line of what is seen of a service
-abbrev pub mark_line : Mark → List ℕ
+abbrev pub mark_line : HistoryEvent → List ℕ
 mark_line m = mark_text m ++ 10 ∷ []
 
 -- the line of the members

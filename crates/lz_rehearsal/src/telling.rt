@@ -5,12 +5,12 @@ ghost use Rattle.lz_slot.specs.Sets.{key_of};
 ghost use Rattle.lz_slot.specs.MarkTexts.{answer_word, command_word, cut_word, keys_text, marks_text, refusal_word};
 ghost use Rattle.lz_rehearsal.specs.Tellings.{busy_text, mark_line, show_text};
 
-use lz_slot::{Command, Cut, Found, Key, Mark, Refusal};
+use lz_slot::{Command, Cut, Found, HistoryEvent, Key, Refusal};
 use std::io;
 use std::io::Write;
 
 /// The lines of what was seen, in order.
-pub fn write_marks<W: Write + Drop>(writer: &mut W, marks: &[Mark]) -> io::Result<()>
+pub fn write_marks<W: Write + Drop>(writer: &mut W, marks: &[HistoryEvent]) -> io::Result<()>
     ensures { OnOk result (Appends (W.contents writer.old) (W.contents writer.new) (marks_text marks.now)) }
 {
     for mark in marks {
@@ -20,18 +20,18 @@ pub fn write_marks<W: Write + Drop>(writer: &mut W, marks: &[Mark]) -> io::Resul
 }
 
 /// The line of what was seen.
-pub fn write_mark<W: Write + Drop>(writer: &mut W, mark: &Mark) -> io::Result<()>
+pub fn write_mark<W: Write + Drop>(writer: &mut W, mark: &HistoryEvent) -> io::Result<()>
     ensures { OnOk result (Appends (W.contents writer.old) (W.contents writer.new) (mark_line mark.now)) }
 {
     match mark {
-        Mark::Call(number, actor, command) => write_call(writer, *number, *actor, *command),
-        Mark::Answer(number, answer) => write_answer(writer, *number, *answer),
-        Mark::Refused(number, why) => write_refused(writer, *number, *why),
-        Mark::Cut(number, why) => write_cut(writer, *number, *why),
-        Mark::Stop => writeln!(writer, "stop"),
-        Mark::Crash => writeln!(writer, "crash"),
-        Mark::Opened(found) => write_opened(writer, found),
-        Mark::OpenFailed(why) => write_open_fault(writer, *why),
+        HistoryEvent::Call(number, actor, command) => write_call(writer, *number, *actor, *command),
+        HistoryEvent::Answer(number, answer) => write_answer(writer, *number, *answer),
+        HistoryEvent::Refused(number, why) => write_refused(writer, *number, *why),
+        HistoryEvent::Cut(number, why) => write_cut(writer, *number, *why),
+        HistoryEvent::Stop => writeln!(writer, "stop"),
+        HistoryEvent::Crash => writeln!(writer, "crash"),
+        HistoryEvent::Opened(found) => write_opened(writer, found),
+        HistoryEvent::OpenFailed(why) => write_open_fault(writer, *why),
     }
 }
 
@@ -41,7 +41,7 @@ fn write_call<W: Write + Drop>(
     actor: usize,
     command: Command,
 ) -> io::Result<()>
-    ensures { OnOk result (Appends (W.contents writer.old) (W.contents writer.new) (mark_line (Mark.Call number actor command))) }
+    ensures { OnOk result (Appends (W.contents writer.old) (W.contents writer.new) (mark_line (HistoryEvent.Call number actor command))) }
 {
     let named = command;
     let word = command_word(command);
@@ -50,28 +50,28 @@ fn write_call<W: Write + Drop>(
 }
 
 fn write_answer<W: Write + Drop>(writer: &mut W, number: u64, answer: bool) -> io::Result<()>
-    ensures { OnOk result (Appends (W.contents writer.old) (W.contents writer.new) (mark_line (Mark.Answer number answer))) }
+    ensures { OnOk result (Appends (W.contents writer.old) (W.contents writer.new) (mark_line (HistoryEvent.Answer number answer))) }
 {
     let word = answer_word(answer);
     writeln!(writer, "answer {number} {word}")
 }
 
 fn write_refused<W: Write + Drop>(writer: &mut W, number: u64, why: Refusal) -> io::Result<()>
-    ensures { OnOk result (Appends (W.contents writer.old) (W.contents writer.new) (mark_line (Mark.Refused number why))) }
+    ensures { OnOk result (Appends (W.contents writer.old) (W.contents writer.new) (mark_line (HistoryEvent.Refused number why))) }
 {
     let word = refusal_word(why);
     writeln!(writer, "refused {number} {word}")
 }
 
 fn write_cut<W: Write + Drop>(writer: &mut W, number: u64, why: Cut) -> io::Result<()>
-    ensures { OnOk result (Appends (W.contents writer.old) (W.contents writer.new) (mark_line (Mark.Cut number why))) }
+    ensures { OnOk result (Appends (W.contents writer.old) (W.contents writer.new) (mark_line (HistoryEvent.Cut number why))) }
 {
     let word = cut_word(why);
     writeln!(writer, "{word} {number}")
 }
 
 fn write_opened<W: Write + Drop>(writer: &mut W, found: &Found) -> io::Result<()>
-    ensures { OnOk result (Appends (W.contents writer.old) (W.contents writer.new) (mark_line (Mark.Opened found.now))) }
+    ensures { OnOk result (Appends (W.contents writer.old) (W.contents writer.new) (mark_line (HistoryEvent.Opened found.now))) }
 {
     write!(writer, "open")?;
     write_keys(writer, found.keys())?;
@@ -79,7 +79,7 @@ fn write_opened<W: Write + Drop>(writer: &mut W, found: &Found) -> io::Result<()
 }
 
 fn write_open_fault<W: Write + Drop>(writer: &mut W, why: u8) -> io::Result<()>
-    ensures { OnOk result (Appends (W.contents writer.old) (W.contents writer.new) (mark_line (Mark.OpenFailed why))) }
+    ensures { OnOk result (Appends (W.contents writer.old) (W.contents writer.new) (mark_line (HistoryEvent.OpenFailed why))) }
 {
     writeln!(writer, "open fault {why}")
 }

@@ -3,8 +3,8 @@ use Rattle.std.proofs.Common.{◌≡◌, ℕ, suc, ◌+◌, ◌-◌, ◌<◌, �
 use Rattle.std.{proofs.{Common.{sym, ap, ◌∙◌, arith, append_assoc}, lemmas.{List.{drop_more}, Bool.{eqb-true, Decides.{nat_tests}}}}, specs.List.{list_any}}
 use Rattle.memchr.specs.Find.{IsFirstByte, is_byte}
 use Rattle.lz_slot.proofs.Texts.Cuts.{lacks_all, parted_at, parted_none}
-use Rattle.lz_resp.specs.{Frames.{fits, is_quote, words_of}, Limits.{most_frame}}
-use Rattle.lz_resp.specs.Reading.{Front, StopsBy, and_then, end_at, first_by, first_of, frame_at, inline_at, inline_of, line_at, line_of, word_at, words_at}
+use Rattle.lz_resp.specs.{Frames.{fits, is_quote, arguments_of}, Limits.{most_frame}}
+use Rattle.lz_resp.specs.Reading.{Front, StopsBy, and_then, end_at, first_by, first_of, frame_at, inline_at, inline_of, line_at, line_of, argument_at, arguments_at}
 use Rattle.lz_resp.specs.declared.fault.{Fault.{Fault, TheVariants.{Quotes, TooLong}}, Stop.{Stop, TheVariants.{Memory, Faulty}}}
 
 -- a text that has no CR has no line
@@ -16,27 +16,27 @@ pub line_found : (fault : Fault) (text line ended : List ℕ) (e : ℕ) (r : Fro
     → and_then r (λ _ rest. Ok (Some (line, rest))) ≡ line_at fault text
 line_found fault text line ended e r first front back is = grind (arith, get_or, eqb-true, drop_more, parted_at)
 
--- a text that has no LF has no line of words
-pub words_none : (text : List ℕ) → IsFirstByte (is_byte 10) text None → inline_at text ≡ Ok None
-words_none text none = ap inline_of (parted_none 10 text (lacks_all 10 text none))
+-- a text that has no LF has no line of arguments
+pub arguments_none : (text : List ℕ) → IsFirstByte (is_byte 10) text None → inline_at text ≡ Ok None
+arguments_none text none = ap inline_of (parted_none 10 text (lacks_all 10 text none))
 
 line_first : (text line : List ℕ) (e : ℕ) → IsFirstByte (is_byte 10) text (Some e) → line ≡ take e text → inline_at text ≡ inline_of (Some (line, drop (e + 1) text))
 line_first text line e first front = ap inline_of (parted_at 10 text e first) ∙ ap (λ (x : List ℕ). inline_of (Some (x, drop (e + 1) text))) (sym front)
 
-pub words_quoted : (text line : List ℕ) (e : ℕ) → IsFirstByte (is_byte 10) text (Some e) → line ≡ take e text → list_any is_quote line ≡ true → inline_at text ≡ Err Quotes
-words_quoted text line e first front quoted = line_first text line e first front ∙ rw quoted refl
+pub arguments_quoted : (text line : List ℕ) (e : ℕ) → IsFirstByte (is_byte 10) text (Some e) → line ≡ take e text → list_any is_quote line ≡ true → inline_at text ≡ Err Quotes
+arguments_quoted text line e first front quoted = line_first text line e first front ∙ rw quoted refl
 
-pub words_unfit : (text line : List ℕ) (e : ℕ) → IsFirstByte (is_byte 10) text (Some e) → line ≡ take e text → list_any is_quote line ≡ false → fits (words_of line) ≡ false
+pub arguments_unfit : (text line : List ℕ) (e : ℕ) → IsFirstByte (is_byte 10) text (Some e) → line ≡ take e text → list_any is_quote line ≡ false → fits (arguments_of line) ≡ false
     → inline_at text ≡ Err TooLong
-words_unfit text line e first front plain unfit = line_first text line e first front ∙ rw (plain, unfit) refl
+arguments_unfit text line e first front plain unfit = line_first text line e first front ∙ rw (plain, unfit) refl
 
-pub words_found : (text line rest : List ℕ) (words : List (List ℕ)) (e : ℕ) → IsFirstByte (is_byte 10) text (Some e) → line ≡ take e text → list_any is_quote line ≡ false → words ≡ words_of line
-    → fits words ≡ true → rest ≡ drop (e + 1) text → inline_at text ≡ Ok (Some (words, rest))
-words_found text line rest words e first front plain its fit back =
-    let fits_so : fits (words_of line) ≡ true = ap fits (sym its) ∙ fit in
+pub arguments_found : (text line rest : List ℕ) (arguments : List (List ℕ)) (e : ℕ) → IsFirstByte (is_byte 10) text (Some e) → line ≡ take e text → list_any is_quote line ≡ false → arguments ≡ arguments_of line
+    → fits arguments ≡ true → rest ≡ drop (e + 1) text → inline_at text ≡ Ok (Some (arguments, rest))
+arguments_found text line rest arguments e first front plain its fit back =
+    let fits_so : fits (arguments_of line) ≡ true = ap fits (sym its) ∙ fit in
     line_first text line e first front ∙ rw (plain, fits_so) (cc (its, back))
 
--- words or numbers before those that were read
+-- arguments or numbers before those that were read
 abbrev pub with_front : {A : Type 0} → List A → Front (List A) → Front (List A)
 with_front front r = and_then r (λ items after. Ok (Some (front ++ items, after)))
 
@@ -47,22 +47,22 @@ front_more front item _ = refl
 pub one_less : (n k : ℕ) → k < n → n - k ≡ suc (n - (k + 1))
 one_less n k h = omega (arith, h)
 
-pub words_next : (n k : ℕ) (front : List (List ℕ)) (word text rest : List ℕ) → k < n → word_at text ≡ Ok (Some (word, rest))
-    → with_front front (words_at (n - k) text) ≡ with_front (front ++ word ∷ []) (words_at (n - (k + 1)) rest)
-words_next n k front word text rest low is = grind (arith, one_less, front_more)
+pub arguments_next : (n k : ℕ) (front : List (List ℕ)) (argument text rest : List ℕ) → k < n → argument_at text ≡ Ok (Some (argument, rest))
+    → with_front front (arguments_at (n - k) text) ≡ with_front (front ++ argument ∷ []) (arguments_at (n - (k + 1)) rest)
+arguments_next n k front argument text rest low is = grind (arith, one_less, front_more)
 
-pub words_wait : (n k : ℕ) (front : List (List ℕ)) (text : List ℕ) → k < n → word_at text ≡ Ok None → with_front front (words_at (n - k) text) ≡ Ok None
-words_wait n k front text low is = grind (arith, one_less)
+pub arguments_wait : (n k : ℕ) (front : List (List ℕ)) (text : List ℕ) → k < n → argument_at text ≡ Ok None → with_front front (arguments_at (n - k) text) ≡ Ok None
+arguments_wait n k front text low is = grind (arith, one_less)
 
-pub words_fail : (n k : ℕ) (front : List (List ℕ)) (text : List ℕ) (f : Fault) → k < n → word_at text ≡ Err f → with_front front (words_at (n - k) text) ≡ Err f
-words_fail n k front text f low is = grind (arith, one_less)
+pub arguments_fail : (n k : ℕ) (front : List (List ℕ)) (text : List ℕ) (f : Fault) → k < n → argument_at text ≡ Err f → with_front front (arguments_at (n - k) text) ≡ Err f
+arguments_fail n k front text f low is = grind (arith, one_less)
 
 -- what is found within the bytes that a frame may have
-pub first_found : (text window : List ℕ) (words : List (List ℕ)) (after : List ℕ) → window ≡ take most_frame text → frame_at window ≡ Ok (Some (words, after))
-    → first_of text ≡ Ok (Some (words, drop (length window - length after) text))
+pub first_found : (text window : List ℕ) (arguments : List (List ℕ)) (after : List ℕ) → window ≡ take most_frame text → frame_at window ≡ Ok (Some (arguments, after))
+    → first_of text ≡ Ok (Some (arguments, drop (length window - length after) text))
 unfolding first_of
-first_found text window words after is h =
-    ap (first_by text) (ap frame_at (sym is) ∙ h) ∙ ap (λ (w : List ℕ). Ok (Some (words, drop (length w - length after) text))) (sym is)
+first_found text window arguments after is h =
+    ap (first_by text) (ap frame_at (sym is) ∙ h) ∙ ap (λ (w : List ℕ). Ok (Some (arguments, drop (length w - length after) text))) (sym is)
 
 pub first_long : (text window : List ℕ) → window ≡ take most_frame text → frame_at window ≡ Ok None → most_frame < length text → first_of text ≡ Err TooLong
 unfolding first_of

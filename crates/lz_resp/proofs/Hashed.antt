@@ -2,9 +2,9 @@
 use Rattle.std.proofs.{Common.{◌≡◌, ◌∙◌, ◌≤◌, ℕ, List, ◌++◌, length, take, drop, sym, ap, arith}, lemmas.List.{append_cancel_left}}
 use Rattle.std.proofs.Math.Seq.{drop-append_seam, take-append_seam}
 use Rattle.byteorder.specs.{Endian.{big_bytes, big_number}, Numbers.{big_number-reads_back}}
-use Rattle.lz_resp.specs.{Limits.{most_word}, Keys.{HashedOnce, hashed}}
+use Rattle.lz_resp.specs.{Limits.{most_argument}, Keys.{HashedOnce, hashed}}
 
-length_read : (name member : List ℕ) → length name ≤ most_word → big_number 8 (hashed name member) ≡ length name
+length_read : (name member : List ℕ) → length name ≤ most_argument → big_number 8 (hashed name member) ≡ length name
 length_read name member short = big_number-reads_back 8 (length name) (name ++ member) (omega (arith, short))
 
 pub hashed_once : HashedOnce

@@ -1,8 +1,8 @@
 -- Worked keys of texts, by Python's hashlib.
-use Rattle.std.proofs.Common.{◌≡◌, ◌∙◌, [], ◌∷◌, refl, sym, codes, arith}
+use Rattle.std.proofs.Common.{◌≡◌, ◌≢◌, ◌∙◌, [], ◌∷◌, refl, sym, codes, arith}
 use Rattle.sha2.specs.Sha256.{compress, digest_bytes, first_words, hash_after, rounds, schedule, sha256}
 use Rattle.lz_proto.specs.declared.request.Request.TheVariants.{Add, Remove, Has}
-use Rattle.lz_resp.specs.{Keys.{at_first, text_number}, Commands.{item_of, selected_after, ok_text, no_room}, declared.naming.Naming.TheVariants.{Rooms, Texts}}
+use Rattle.lz_resp.specs.{Keys.{selected_first, text_number}, Commands.{item_of, selected_after, ok_text, one_database}, declared.naming.Naming.TheVariants.{Rooms, Texts}}
 use Rattle.lz_resp.specs.declared.{naming.Selected.TheVariants.{Room, Nameless}, form.Form.TheVariants.{Added, Removed, Found, Each, Stored}}
 use Rattle.lz_resp.specs.declared.item.Item.TheVariants.{Asks, Says}
 
@@ -43,9 +43,17 @@ unnamed :
     × (item_of Nameless (codes "SET" ∷ codes "x" ∷ codes "1" ∷ codes "NX" ∷ []) ≡ Asks Stored (Add (text_number [] (codes "x")) ∷ []))
 unnamed = (refl, refl, refl, refl)
 
--- rooms are told apart no more
+-- rooms are told apart no more, and a client that selects another one is told so
 no_rooms :
-    (item_of Nameless (codes "SELECT" ∷ codes "3" ∷ []) ≡ Says ok_text) × (selected_after Nameless (codes "SELECT" ∷ codes "3" ∷ []) ≡ Nameless)
-    × (item_of Nameless (codes "SELECT" ∷ codes "16" ∷ []) ≡ Says no_room) × (selected_after Nameless (codes "RESET" ∷ []) ≡ Nameless)
-    × (at_first Texts ≡ Nameless) × (at_first Rooms ≡ Room 0)
-no_rooms = (refl, refl, refl, refl, refl, refl)
+    (item_of Nameless (codes "SELECT" ∷ codes "0" ∷ []) ≡ Says ok_text) × (selected_after Nameless (codes "SELECT" ∷ codes "0" ∷ []) ≡ Nameless)
+    × (item_of Nameless (codes "SELECT" ∷ codes "3" ∷ []) ≡ Says one_database) × (selected_after Nameless (codes "SELECT" ∷ codes "3" ∷ []) ≡ Nameless)
+    × (item_of Nameless (codes "SELECT" ∷ codes "16" ∷ []) ≡ Says one_database) × (item_of Nameless (codes "SELECT" ∷ codes "00" ∷ []) ≡ Says one_database)
+    × (item_of (Room 5) (codes "SELECT" ∷ codes "3" ∷ []) ≡ Says ok_text) × (selected_after Nameless (codes "RESET" ∷ []) ≡ Nameless)
+    × (selected_first Texts ≡ Nameless) × (selected_first Rooms ≡ Room 0)
+no_rooms = (refl, refl, refl, refl, refl, refl, refl, refl, refl, refl)
+
+-- What must not hold.
+
+-- a room that isn't there is told to be selected, and one that is there isn't
+not_selected : (item_of Nameless (codes "SELECT" ∷ codes "1" ∷ []) ≢ Says ok_text) × (item_of (Room 0) (codes "SELECT" ∷ codes "1" ∷ []) ≢ Says one_database)
+not_selected = (λ e. cc, λ e. cc)

@@ -14,3 +14,5 @@ pub mod ScanRows
 pub mod ShortLines
 pub mod Spellings
 pub mod Texts
+pub mod TransactionRows
+pub mod InTransactions

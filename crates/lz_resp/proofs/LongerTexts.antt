@@ -4,8 +4,8 @@ use Rattle.std.proofs.{Common.{Some, None, Ok, Err, refl, sym, ap, subst, ◌∙
 use Rattle.std.proofs.lemmas.{List.{take-append-le, drop-append-le, take_all, length-take}, Bool.{cond_both, Decides.{nat_tests}}}
 use Rattle.std.specs.Prelude.{◌==◌, option_map, if◌then◌else◌}
 use Rattle.lz_slot.specs.{Numerals.{number_in}, Texts.{parted}}
-use Rattle.lz_resp.specs.{Limits.{most_frame, most_word}, Frames.{star, dollar}, Reading.{Front, and_then, array_at, array_of, bulk_at, count_of, end_at}}
-use Rattle.lz_resp.specs.Reading.{first_by, first_of, frame_at, inline_at, inline_of, line_at, line_of, word_at, word_of, words_at}
+use Rattle.lz_resp.specs.{Limits.{most_frame, most_argument}, Frames.{star, dollar}, Reading.{Front, and_then, array_at, array_of, bulk_at, count_of, end_at}}
+use Rattle.lz_resp.specs.Reading.{first_by, first_of, frame_at, inline_at, inline_of, line_at, line_of, argument_at, argument_of, arguments_at}
 use Rattle.lz_resp.specs.declared.fault.Fault.{Fault, TheVariants.{Count, Length, NoBulk, NoEnd, TooLong}}
 use Rattle.lz_proto.specs.Lines.{carriage_return, line_feed}
 
@@ -131,10 +131,10 @@ stays_cut n text more inside = (take-append-le n text more inside, drop-append-l
 long_enough : (n : ℕ) (text more : List ℕ) → nat_lt (length text) n ≡ false → (n ≤ length text) × (nat_lt (length (text ++ more)) n ≡ false)
 long_enough n text more h = (grind (arith, nat_tests), grind (arith, nat_tests, length-append text more))
 
-word_value : (n : ℕ) (text more x rest : List ℕ) → word_of (Some n) text ≡ Ok (Some (x, rest)) → (word_of (Some n) (text ++ more) ≡ Ok (Some (x, rest ++ more))) × (length rest ≤ length text)
-word_value n text more x rest =
+argument_value : (n : ℕ) (text more x rest : List ℕ) → argument_of (Some n) text ≡ Ok (Some (x, rest)) → (argument_of (Some n) (text ++ more) ≡ Ok (Some (x, rest ++ more))) × (length rest ≤ length text)
+argument_value n text more x rest =
     cond_both (nat_lt (length text) n) (Ok None) (and_then (end_at NoEnd (drop n text)) (λ _ after. Ok (Some (take n text, after))))
-    (λ r. r ≡ Ok (Some (x, rest)) → (word_of (Some n) (text ++ more) ≡ Ok (Some (x, rest ++ more))) × (length rest ≤ length text))
+    (λ r. r ≡ Ok (Some (x, rest)) → (argument_of (Some n) (text ++ more) ≡ Ok (Some (x, rest ++ more))) × (length rest ≤ length text))
     (λ _ h. absurd (cc))
     (λ enough_left h.
     let enough = long_enough n text more enough_left in
@@ -142,22 +142,22 @@ word_value n text more x rest =
     let so = (stays_ended NoEnd (take n text)).value (drop n text) more x rest h in
     (rw (enough.1, cut.0, cut.1) so.0, omega (arith, so.1, length-drop n text)))
 
-word_fault : (n : ℕ) (text more : List ℕ) (f : Fault) → word_of (Some n) text ≡ Err f → word_of (Some n) (text ++ more) ≡ Err f
-word_fault n text more f =
+argument_fault : (n : ℕ) (text more : List ℕ) (f : Fault) → argument_of (Some n) text ≡ Err f → argument_of (Some n) (text ++ more) ≡ Err f
+argument_fault n text more f =
     cond_both (nat_lt (length text) n) (Ok None) (and_then (end_at NoEnd (drop n text)) (λ _ after. Ok (Some (take n text, after))))
-    (λ r. r ≡ Err f → word_of (Some n) (text ++ more) ≡ Err f)
+    (λ r. r ≡ Err f → argument_of (Some n) (text ++ more) ≡ Err f)
     (λ _ h. absurd (cc))
     (λ enough_left h.
     let enough = long_enough n text more enough_left in
     let cut = stays_cut n text more enough.0 in
     rw (enough.1, cut.0, cut.1) ((stays_ended NoEnd (take n text)).fault (drop n text) more f h))
 
-stays_word_of : (n : Option ℕ) → Stays (word_of n)
-stays_word_of None = stays_wrong Length
-stays_word_of (Some n) = record { value = word_value n; fault = word_fault n }
+stays_argument_of : (n : Option ℕ) → Stays (argument_of n)
+stays_argument_of None = stays_wrong Length
+stays_argument_of (Some n) = record { value = argument_value n; fault = argument_fault n }
 
 stays_bulk : Stays bulk_at
-stays_bulk = stays_then (line_at Length) (λ digits rest. word_of (number_in 0 most_word digits) rest) (stays_line Length) (λ digits. stays_word_of (number_in 0 most_word digits))
+stays_bulk = stays_then (line_at Length) (λ digits rest. argument_of (number_in 0 most_argument digits) rest) (stays_line Length) (λ digits. stays_argument_of (number_in 0 most_argument digits))
 
 -- what is read after a first byte of one kind
 module _ {A : Type 0} (c : ℕ) (other : ℕ → Fault) (read whole : List ℕ → Front A) (none : whole [] ≡ Ok None) (some : (b : ℕ) (t : List ℕ) → whole (b ∷ t) ≡ (if b == c then read t else Err (other b))) (stays : Stays read) where
@@ -176,26 +176,26 @@ module _ {A : Type 0} (c : ℕ) (other : ℕ → Fault) (read whole : List ℕ �
   pub stays_after : Stays whole
   stays_after = record { value = after_value; fault = after_fault }
 
-pub stays_word : Stays word_at
-stays_word = stays_after dollar NoBulk bulk_at word_at refl (λ b t. refl) stays_bulk
+pub stays_argument : Stays argument_at
+stays_argument = stays_after dollar NoBulk bulk_at argument_at refl (λ b t. refl) stays_bulk
 
-pub stays_words : (n : ℕ) → Stays (words_at n)
-stays_words zero = stays_given []
-stays_words (suc n) =
-    stays_then word_at (λ word rest. and_then (words_at n rest) (λ words after. Ok (Some (word ∷ words, after)))) stays_word
-    (λ word. stays_then (words_at n) (λ words after. Ok (Some (word ∷ words, after))) (stays_words n) (λ words. stays_given (word ∷ words)))
+pub stays_arguments : (n : ℕ) → Stays (arguments_at n)
+stays_arguments zero = stays_given []
+stays_arguments (suc n) =
+    stays_then argument_at (λ argument rest. and_then (arguments_at n rest) (λ arguments after. Ok (Some (argument ∷ arguments, after)))) stays_argument
+    (λ argument. stays_then (arguments_at n) (λ arguments after. Ok (Some (argument ∷ arguments, after))) (stays_arguments n) (λ arguments. stays_given (argument ∷ arguments)))
 
 stays_array_of : (n : Option ℕ) → Stays (array_of n)
 stays_array_of None = stays_wrong Count
-stays_array_of (Some n) = stays_words n
+stays_array_of (Some n) = stays_arguments n
 
 pub stays_array : Stays array_at
 stays_array = stays_then (line_at Count) (λ digits rest. array_of (count_of digits) rest) (stays_line Count) (λ digits. stays_array_of (count_of digits))
 
--- a line's words, or why there are none, don't change with what follows the line
-line_words : (line rest more : List ℕ) (x : List (List ℕ)) (after : List ℕ) → inline_of (Some (line, rest)) ≡ Ok (Some (x, after))
+-- a line's arguments, or why there are none, don't change with what follows the line
+line_arguments : (line rest more : List ℕ) (x : List (List ℕ)) (after : List ℕ) → inline_of (Some (line, rest)) ≡ Ok (Some (x, after))
     → (inline_of (Some (line, rest ++ more)) ≡ Ok (Some (x, after ++ more))) × (rest ≡ after)
-line_words line rest more x after = grind (arith, cond_both, same_read)
+line_arguments line rest more x after = grind (arith, cond_both, same_read)
 
 line_wrong : (line rest more : List ℕ) (f : Fault) → inline_of (Some (line, rest)) ≡ Err f → inline_of (Some (line, rest ++ more)) ≡ Err f
 line_wrong line rest more f = grind (arith, cond_both)
@@ -205,7 +205,7 @@ inline_value : (text more : List ℕ) (x : List (List ℕ)) (rest : List ℕ) (q
 inline_value text more x rest None is h = absurd (cc)
 inline_value text more x rest (Some p) is h =
     let parts = parts_stay line_feed text more p is in
-    let so = line_words p.0 p.1 more x rest h in
+    let so = line_arguments p.0 p.1 more x rest h in
     (ap inline_of parts.still ∙ so.0, omega (arith, parts.shorter, ap length so.1))
 
 inline_fault : (text more : List ℕ) (f : Fault) (q : Option (List ℕ × List ℕ)) → parted line_feed text ≡ q → inline_of q ≡ Err f → inline_at (text ++ more) ≡ Err f
@@ -232,59 +232,59 @@ take_more n text more small = ap (λ (k : ℕ). take k (text ++ more)) (omega ar
 short_or_long : (text : List ℕ) → (length text ≤ most_frame) ⊎ (most_frame < length text)
 short_or_long text = cond_both (nat_lt most_frame (length text)) true false (λ _. (length text ≤ most_frame) ⊎ (most_frame < length text)) (λ far. inr (grind (arith, nat_tests))) (λ near. inl (grind (arith, nat_tests)))
 
-pub record FirstStays (text more : List ℕ) (words : List (List ℕ)) (rest : List ℕ) : Type 0 where
-  pub still : first_of (text ++ more) ≡ Ok (Some (words, rest ++ more))
+pub record FirstStays (text more : List ℕ) (arguments : List (List ℕ)) (rest : List ℕ) : Type 0 where
+  pub still : first_of (text ++ more) ≡ Ok (Some (arguments, rest ++ more))
   pub shorter : length rest < length text
 
 -- what the reader of a window found
-pub first_told : (text : List ℕ) (words : List (List ℕ)) (rest : List ℕ) (r : Front (List (List ℕ))) → first_by text r ≡ Ok (Some (words, rest))
-    → (after : List ℕ) × (r ≡ Ok (Some (words, after))) × (rest ≡ drop (length (take most_frame text) - length after) text)
-first_told text words rest (Ok None) h =
+pub first_told : (text : List ℕ) (arguments : List (List ℕ)) (rest : List ℕ) (r : Front (List (List ℕ))) → first_by text r ≡ Ok (Some (arguments, rest))
+    → (after : List ℕ) × (r ≡ Ok (Some (arguments, after))) × (rest ≡ drop (length (take most_frame text) - length after) text)
+first_told text arguments rest (Ok None) h =
     cond_both (nat_lt most_frame (length text)) (Err TooLong) (Ok None)
-    (λ r. r ≡ given words rest → (after : List ℕ) × (nothing ≡ given words after) × (rest ≡ drop (length (take most_frame text) - length after) text))
+    (λ r. r ≡ given arguments rest → (after : List ℕ) × (nothing ≡ given arguments after) × (rest ≡ drop (length (take most_frame text) - length after) text))
     (λ _ h. absurd (cc)) (λ _ h. absurd (cc)) h
-first_told text words rest (Ok (Some p)) h = grind (arith, same_read)
-first_told text words rest (Err f) h = absurd (cc)
+first_told text arguments rest (Ok (Some p)) h = grind (arith, same_read)
+first_told text arguments rest (Err f) h = absurd (cc)
 
-first_short : (text more : List ℕ) (words : List (List ℕ)) (after : List ℕ) → length text ≤ most_frame → frame_at text ≡ Ok (Some (words, after))
-    → FirstStays text more words (drop (length text - length after) text)
+first_short : (text more : List ℕ) (arguments : List (List ℕ)) (after : List ℕ) → length text ≤ most_frame → frame_at text ≡ Ok (Some (arguments, after))
+    → FirstStays text more arguments (drop (length text - length after) text)
 unfolding first_of
-first_short text more words after small h =
+first_short text more arguments after small h =
     let some = take (most_frame - length text) more in
-    let so = frame_value text some words after h in
+    let so = frame_value text some arguments after h in
     let window : take most_frame (text ++ more) ≡ text ++ some = take_more most_frame text more small in
     let count : length (text ++ some) - length (after ++ some) ≡ length text - length after = omega (arith, length-append text some, length-append after some, so.1) in
     record {
       still = ap (λ w. first_by (text ++ more) (frame_at w)) window ∙ ap (first_by (text ++ more)) so.0
-          ∙ ap (λ (t : List ℕ). Ok (Some (words, t))) (ap (λ (w : List ℕ). drop (length w - length (after ++ some)) (text ++ more)) window ∙ ap (λ (k : ℕ). drop k (text ++ more)) count
+          ∙ ap (λ (t : List ℕ). Ok (Some (arguments, t))) (ap (λ (w : List ℕ). drop (length w - length (after ++ some)) (text ++ more)) window ∙ ap (λ (k : ℕ). drop k (text ++ more)) count
           ∙ drop-append-le (length text - length after) text more (omega arith));
       shorter = omega (arith, length-drop (length text - length after) text, so.1);
     }
 
-first_long : (text more : List ℕ) (words : List (List ℕ)) (after : List ℕ) → most_frame < length text → frame_at (take most_frame text) ≡ Ok (Some (words, after))
-    → FirstStays text more words (drop (length (take most_frame text) - length after) text)
+first_long : (text more : List ℕ) (arguments : List (List ℕ)) (after : List ℕ) → most_frame < length text → frame_at (take most_frame text) ≡ Ok (Some (arguments, after))
+    → FirstStays text more arguments (drop (length (take most_frame text) - length after) text)
 unfolding first_of
-first_long text more words after far h =
+first_long text more arguments after far h =
     let window : take most_frame (text ++ more) ≡ take most_frame text = take-append-le most_frame text more (omega arith) in
-    let shorter = (frame_value (take most_frame text) [] words after h).1 in
+    let shorter = (frame_value (take most_frame text) [] arguments after h).1 in
     record {
       still = ap (λ w. first_by (text ++ more) (frame_at w)) window ∙ ap (first_by (text ++ more)) h
-          ∙ ap (λ (t : List ℕ). Ok (Some (words, t))) (ap (λ (w : List ℕ). drop (length w - length after) (text ++ more)) window
+          ∙ ap (λ (t : List ℕ). Ok (Some (arguments, t))) (ap (λ (w : List ℕ). drop (length w - length after) (text ++ more)) window
           ∙ drop-append-le (length (take most_frame text) - length after) text more (omega (arith, length-take most_frame text)));
       shorter = omega (arith, length-drop (length (take most_frame text) - length after) text, length-take most_frame text, shorter);
     }
 
 -- the first frame of a text is that of a longer text
-pub first_value : (text more : List ℕ) (words : List (List ℕ)) (rest : List ℕ) → first_of text ≡ Ok (Some (words, rest)) → FirstStays text more words rest
+pub first_value : (text more : List ℕ) (arguments : List (List ℕ)) (rest : List ℕ) → first_of text ≡ Ok (Some (arguments, rest)) → FirstStays text more arguments rest
 unfolding first_of
-first_value text more words rest h =
-    let told = first_told text words rest (frame_at (take most_frame text)) h in
-    subst (FirstStays text more words) (sym told.2) (elim (short_or_long text) [
+first_value text more arguments rest h =
+    let told = first_told text arguments rest (frame_at (take most_frame text)) h in
+    subst (FirstStays text more arguments) (sym told.2) (elim (short_or_long text) [
       | inl small ↦
           let whole : take most_frame text ≡ text = take_all most_frame text small in
-          subst (λ (w : List ℕ). FirstStays text more words (drop (length w - length told.0) text)) (sym whole)
-          (first_short text more words told.0 small (ap frame_at (sym whole) ∙ told.1))
-      | inr far ↦ first_long text more words told.0 far told.1
+          subst (λ (w : List ℕ). FirstStays text more arguments (drop (length w - length told.0) text)) (sym whole)
+          (first_short text more arguments told.0 small (ap frame_at (sym whole) ∙ told.1))
+      | inr far ↦ first_long text more arguments told.0 far told.1
     ])
 
 -- a fault of a window is the text's, or the text is too long for its first frame

@@ -1,4 +1,4 @@
--- Texts of one kind, one after another: words, and numbers.
+-- Texts of one kind, one after another: arguments, and numbers.
 use Rattle.std.proofs.Common.{◌≡◌, ℕ, zero, suc, Bool, true, List, [], ◌∷◌, ◌++◌, length, Some, Ok, refl, sym, ap, subst, ◌∙◌, arith, append_assoc}
 use Rattle.std.{proofs.lemmas.Bool.Decides.{nat_tests}, specs.List.{flat_map, list_all}}
 use Rattle.lz_resp.{specs.Reading.{Front, and_then}, proofs.LongerTexts.{given, same_read, then_value}}

@@ -1,11 +1,11 @@
 -- Worked pages, as a client asks for them and reads them.
 use Rattle.std.{proofs.Common.{◌≡◌, ◌≢◌, ℕ, List, [], ◌∷◌, Ok, Err, Some, None, refl, ap, codes}, specs.Fmt.{digits}}
-use Rattle.lz_resp.specs.{Frames.{words_of}, Commands.{item_of}, Reading.{Front}, Pages.{page_at, request_text}}
+use Rattle.lz_resp.specs.{Frames.{arguments_of}, Commands.{item_of}, Reading.{Front}, Pages.{page_at, request_text}}
 use Rattle.lz_resp.specs.declared.{fault.Fault.TheVariants.{Count, NoBulk}, item.Item.TheVariants.{Lists}, naming.Selected.TheVariants.{Room}}
 
 asked :
     (request_text 3 512 ≡ codes "SSCAN 3 512 COUNT 256\r\n")
-    × (item_of (Room 0) (words_of (codes "SSCAN 3 512 COUNT 256\r")) ≡ Lists (record { room = 3; from = 512; most = 256 }))
+    × (item_of (Room 0) (arguments_of (codes "SSCAN 3 512 COUNT 256\r")) ≡ Lists (record { room = 3; from = 512; most = 256 }))
 unfolding digits
 asked = (refl, refl)
 

@@ -4,21 +4,21 @@ use Rattle.std.proofs.{Common.{ap, ◌∙◌, arith, append_assoc}, lemmas.{Bool
 use Rattle.std.specs.{Prelude.{◌==◌, if◌then◌else◌}, Fmt.{digits}, List.{flat_map, list_all}}
 use Rattle.lz_slot.{specs.{Limits.{largest_number, most_slots}, Numerals.{number_in}}, proofs.Texts.Numerals.{decimal_read, number_told_of}}
 use Rattle.lz_slot.proofs.Texts.Spellings.{decimal_lacks}
-use Rattle.lz_resp.specs.{Frames.{bulk, star}, Limits.{most_word, most_words}, Pages.{FaultsHaveNoPage, IsPage, PagesAreRead, PagesAreSpelled, counted}}
+use Rattle.lz_resp.specs.{Frames.{bulk, star}, Limits.{most_argument, most_arguments}, Pages.{FaultsHaveNoPage, IsPage, PagesAreRead, PagesAreSpelled, counted}}
 use Rattle.lz_resp.specs.Pages.{count_at, heading_at, members_at, number_at, number_text, numbers_at, page_at, page_of, parts_at, told_text}
-use Rattle.lz_resp.{specs.{Reading.{and_then, line_at, word_at}, declared.fault.Fault.TheVariants.{Count}}, proofs.Many.{AreMany, many_read, many_spelled}}
-use Rattle.lz_resp.proofs.LongerTexts.{Stays, given, same_read, stays_after, stays_given, stays_line, stays_then, stays_word, stays_wrong, then_value}
-use Rattle.lz_resp.proofs.Spellings.{line_read, line_spelled, word_read, word_spelled}
+use Rattle.lz_resp.{specs.{Reading.{and_then, line_at, argument_at}, declared.fault.Fault.TheVariants.{Count}}, proofs.Many.{AreMany, many_read, many_spelled}}
+use Rattle.lz_resp.proofs.LongerTexts.{Stays, given, same_read, stays_after, stays_given, stays_line, stays_then, stays_argument, stays_wrong, then_value}
+use Rattle.lz_resp.proofs.Spellings.{line_read, line_spelled, argument_read, argument_spelled}
 
-heading_read : (n : ℕ) (more : List ℕ) → n ≤ most_words → heading_at (42 ∷ (decimal n ++ 13 ∷ 10 ∷ more)) ≡ given n more
+heading_read : (n : ℕ) (more : List ℕ) → n ≤ most_arguments → heading_at (42 ∷ (decimal n ++ 13 ∷ 10 ∷ more)) ≡ given n more
 heading_read n more few = grind (arith, decimal, decimal_lacks, line_read, decimal_read)
 
 -- a number that a page may have is short
-number_short : (n : ℕ) → n ≤ largest_number → length (decimal n) ≤ most_word
+number_short : (n : ℕ) → n ≤ largest_number → length (decimal n) ≤ most_argument
 number_short n small = let short : length (decimal n) ≤ 18 = length-decimal-le 18 n (omega arith) (omega arith) (omega arith) in omega (arith, short)
 
 number_read : (high n : ℕ) (more : List ℕ) → high ≤ largest_number → n ≤ high → number_at high (number_text n ++ more) ≡ given n more
-number_read high n more within small = grind (arith, word_read, decimal, number_short, decimal_read, small)
+number_read high n more within small = grind (arith, argument_read, decimal, number_short, decimal_read, small)
 
 numbers_read : (numbers more : List ℕ) → list_all (λ number. nat_le number largest_number) numbers ≡ true → numbers_at (length numbers) (flat_map number_text numbers ++ more) ≡ given numbers more
 numbers_read = many_read number_text (λ number. nat_le number largest_number) (number_at largest_number) numbers_at (λ text. refl) (λ n text. refl)
@@ -42,22 +42,22 @@ counted_told : (high : ℕ) (digits rest : List ℕ) (n : ℕ) (after : List ℕ
 counted_told high digits rest n after None is h = absurd (cc)
 counted_told high digits rest n after (Some m) is h = grind (arith, number_told_of, same_read, decimal)
 
-count_spelled : (text : List ℕ) (n : ℕ) (rest : List ℕ) → count_at text ≡ given n rest → (n ≤ most_words) × (text ≡ decimal n ++ 13 ∷ 10 ∷ rest)
+count_spelled : (text : List ℕ) (n : ℕ) (rest : List ℕ) → count_at text ≡ given n rest → (n ≤ most_arguments) × (text ≡ decimal n ++ 13 ∷ 10 ∷ rest)
 count_spelled text n rest h =
-    let t = then_value (line_at Count text) (λ digits rest. counted (number_in 0 most_words digits) rest) n rest h in
-    let told = counted_told most_words t.x t.rest n rest (number_in 0 most_words t.x) refl t.second in
+    let t = then_value (line_at Count text) (λ digits rest. counted (number_in 0 most_arguments digits) rest) n rest h in
+    let told = counted_told most_arguments t.x t.rest n rest (number_in 0 most_arguments t.x) refl t.second in
     (told.0, line_spelled Count text t.x t.rest t.first ∙ ap (λ (d : List ℕ). d ++ 13 ∷ 10 ∷ t.rest) told.1 ∙ ap (λ (r : List ℕ). decimal n ++ 13 ∷ 10 ∷ r) told.2)
 
-heading_spelled : (text : List ℕ) (n : ℕ) (rest : List ℕ) → heading_at text ≡ given n rest → (n ≤ most_words) × (text ≡ 42 ∷ (decimal n ++ 13 ∷ 10 ∷ rest))
+heading_spelled : (text : List ℕ) (n : ℕ) (rest : List ℕ) → heading_at text ≡ given n rest → (n ≤ most_arguments) × (text ≡ 42 ∷ (decimal n ++ 13 ∷ 10 ∷ rest))
 heading_spelled [] n rest h = absurd (cc)
 heading_spelled (b ∷ text) n rest h = grind (arith, cond_both, nat_tests, count_spelled text n rest) steps 100000
 
 number_spelled : (high : ℕ) (text : List ℕ) (n : ℕ) (rest : List ℕ) → number_at high text ≡ given n rest → (n ≤ high) × (text ≡ number_text n ++ rest)
 number_spelled high text n rest h =
-    let t = then_value (word_at text) (λ word rest. counted (number_in 0 high word) rest) n rest h in
+    let t = then_value (argument_at text) (λ argument rest. counted (number_in 0 high argument) rest) n rest h in
     let told = counted_told high t.x t.rest n rest (number_in 0 high t.x) refl t.second in
-    let word = word_spelled text t.x t.rest t.first in
-    (told.0, word.whole ∙ ap (λ (w : List ℕ). bulk w ++ t.rest) told.1 ∙ ap (λ (r : List ℕ). number_text n ++ r) told.2)
+    let argument = argument_spelled text t.x t.rest t.first in
+    (told.0, argument.whole ∙ ap (λ (w : List ℕ). bulk w ++ t.rest) told.1 ∙ ap (λ (r : List ℕ). number_text n ++ r) told.2)
 
 numbers_spelled : (n : ℕ) (text numbers rest : List ℕ) → numbers_at n text ≡ given numbers rest → AreMany number_text (λ number. nat_le number largest_number) n text numbers rest
 numbers_spelled = many_spelled number_text (λ number. nat_le number largest_number) (number_at largest_number) numbers_at (λ text. refl) (λ n text. refl) (λ text n rest h.
@@ -70,7 +70,7 @@ record AreParts (text : List ℕ) (next : ℕ) (numbers rest : List ℕ) : Type 
   pub page : IsPage next numbers
 
 members_spelled : (text numbers rest : List ℕ) → members_at text ≡ given numbers rest
-    → (length numbers ≤ most_words) × (list_all (λ number. nat_le number largest_number) numbers ≡ true) × (text ≡ 42 ∷ (decimal (length numbers) ++ 13 ∷ 10 ∷ (flat_map number_text numbers ++ rest)))
+    → (length numbers ≤ most_arguments) × (list_all (λ number. nat_le number largest_number) numbers ≡ true) × (text ≡ 42 ∷ (decimal (length numbers) ++ 13 ∷ 10 ∷ (flat_map number_text numbers ++ rest)))
 members_spelled text numbers rest h =
     let t = then_value (heading_at text) numbers_at numbers rest h in
     let first = heading_spelled text t.x t.rest t.first in
@@ -114,13 +114,13 @@ stays_counted None = stays_wrong Count
 stays_counted (Some n) = stays_given n
 
 stays_count : Stays count_at
-stays_count = stays_then (line_at Count) (λ digits rest. counted (number_in 0 most_words digits) rest) (stays_line Count) (λ digits. stays_counted (number_in 0 most_words digits))
+stays_count = stays_then (line_at Count) (λ digits rest. counted (number_in 0 most_arguments digits) rest) (stays_line Count) (λ digits. stays_counted (number_in 0 most_arguments digits))
 
 stays_heading : Stays heading_at
 stays_heading = stays_after star (λ _. Count) count_at heading_at refl (λ b t. refl) stays_count
 
 stays_number : (high : ℕ) → Stays (number_at high)
-stays_number high = stays_then word_at (λ word rest. counted (number_in 0 high word) rest) stays_word (λ word. stays_counted (number_in 0 high word))
+stays_number high = stays_then argument_at (λ argument rest. counted (number_in 0 high argument) rest) stays_argument (λ argument. stays_counted (number_in 0 high argument))
 
 stays_numbers : (n : ℕ) → Stays (numbers_at n)
 stays_numbers zero = stays_given []

@@ -37,6 +37,7 @@ seen = record {
   format = 2;
   slots = 10;
   members = 3;
+  marks = 0;
   buckets = 16;
   passes = 4;
   loops = 1;

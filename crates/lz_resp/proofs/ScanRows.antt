@@ -1,6 +1,6 @@
 -- Worked scans.
 use Rattle.std.{proofs.Common.{◌≡◌, ◌≢◌, [], ◌∷◌, Some, None, refl, codes}, specs.Fmt.{digits}}
-use Rattle.lz_resp.specs.{Commands.{bad_cursor, bad_syntax, item_of, no_key, no_room, no_texts}, Scans.{page_text}}
+use Rattle.lz_resp.specs.{Commands.{bad_cursor, bad_syntax, item_of, no_database, no_number, no_room, no_texts}, Scans.{page_text}}
 use Rattle.lz_resp.specs.declared.{item.Item.TheVariants.{Lists, Says}, naming.Selected.TheVariants.{Room, Nameless}}
 
 -- the room is the one that is named, and not the one that is selected
@@ -16,7 +16,7 @@ refused :
     × (item_of (Room 0) (codes "SSCAN" ∷ codes "0" ∷ codes "0" ∷ codes "MATCH" ∷ codes "1*" ∷ []) ≡ Says bad_syntax)
     × (item_of (Room 0) (codes "SSCAN" ∷ codes "0" ∷ codes "0" ∷ codes "COUNT" ∷ []) ≡ Says bad_syntax)
     × (item_of (Room 0) (codes "SSCAN" ∷ codes "0" ∷ codes "0" ∷ codes "COUNT" ∷ codes "0" ∷ []) ≡ Says bad_syntax)
-    × (item_of (Room 0) (codes "SSCAN" ∷ codes "0" ∷ codes "0" ∷ codes "COUNT" ∷ codes "ten" ∷ []) ≡ Says no_key)
+    × (item_of (Room 0) (codes "SSCAN" ∷ codes "0" ∷ codes "0" ∷ codes "COUNT" ∷ codes "ten" ∷ []) ≡ Says no_number)
     × (item_of (Room 0) (codes "SSCAN" ∷ codes "0" ∷ []) ≡ Says (codes "-ERR wrong number of arguments for 'sscan' command\r\n"))
 refused = (refl, refl, refl, refl, refl, refl, refl, refl, refl)
 
@@ -28,6 +28,10 @@ unfolding digits
 told = (refl, refl, refl)
 
 -- What must not hold.
+
+-- a set's name told as a database
+not_refused : item_of (Room 0) (codes "SSCAN" ∷ codes "seen" ∷ codes "0" ∷ []) ≢ Says no_database
+not_refused e = cc
 
 -- a key of another room, and a cursor that goes on where all slots were looked at
 not_told : (page_text 0 (3000000000000000017 ∷ []) None ≢ codes "*2\r\n$1\r\n0\r\n*1\r\n$2\r\n17\r\n") × (page_text 0 [] None ≢ codes "*2\r\n$2\r\n10\r\n*0\r\n")

@@ -1,4 +1,4 @@
--- Lines of one or two digits, and frames of three words that have such lines.
+-- Lines of one or two digits, and frames of three arguments that have such lines.
 use Rattle.std.proofs.Common.{◌≡◌, ℕ, suc, ◌+◌, ◌-◌, ◌*◌, ◌/◌, ◌%◌, ◌<◌, ◌≤◌, List, [], ◌∷◌, ◌++◌, length, take, drop, get_or, true, false, nat_lt, decimal}
 use Rattle.std.proofs.{Common.{Some, Ok, refl, sym, ap, ◌∙◌, arith, append_assoc}, Math.Seq.{take-length}, lemmas.Bool.Decides.{nat_tests}}
 use Rattle.std.{proofs.lemmas.Fmt.{decimal_digit}, specs.Prelude.{◌==◌, ◌&&◌}}
@@ -6,13 +6,13 @@ use Rattle.itoa.proofs.Decimal.{decimal_two}
 use Rattle.lz_slot.proofs.Texts.{Numerals.{decimal_read}, Spellings.{decimal_lacks}}
 use Rattle.lz_proto.specs.Lines.{carriage_return, line_feed}
 use Rattle.lz_resp.specs.{Digits.{digit_of}, Limits.{most_frame}, Frames.{dollar, line_end}}
-use Rattle.lz_resp.specs.{Reading.{Front, and_then, bulk_at, end_at, first_of, frame_at, line_at, word_at, word_of, words_at}, declared.fault.Fault.{Fault}}
+use Rattle.lz_resp.specs.{Reading.{Front, and_then, bulk_at, end_at, first_of, frame_at, line_at, argument_at, argument_of, arguments_at}, declared.fault.Fault.{Fault}}
 use Rattle.lz_resp.{specs.declared.fault.Fault.TheVariants.{NoEnd}, proofs.{Fronts.{first_found}, LongerTexts.{given}, Spellings.{line_read}}}
 
 short_line : (fault : Fault) (n : ℕ) (text rest : List ℕ) → n < 100 → text ≡ decimal n ++ line_end ++ rest → line_at fault text ≡ given (decimal n) rest
 short_line fault n text rest low is = grind (arith, decimal, decimal_lacks, append_assoc, line_read)
 
-short_bulk : (n : ℕ) (text rest : List ℕ) → n < 100 → text ≡ decimal n ++ line_end ++ rest → bulk_at text ≡ word_of (Some n) rest
+short_bulk : (n : ℕ) (text rest : List ℕ) → n < 100 → text ≡ decimal n ++ line_end ++ rest → bulk_at text ≡ argument_of (Some n) rest
 short_bulk n text rest low is = grind (arith, short_line, decimal_read)
 
 -- the byte is the digit of the number
@@ -58,44 +58,44 @@ ended_found (a ∷ b ∷ rest) long cr lf =
     rw test (ap (λ (t : List ℕ). Ok (Some (tt, t))) tail)
 ended_found _ long cr lf = absurd (omega (arith, long))
 
-word_cut : (n : ℕ) (front word ended : List ℕ) → n ≤ length front → word ≡ take n front → ended ≡ drop n front → 2 ≤ length ended → get_or ended 0 0 ≡ 13 → get_or ended 1 0 ≡ 10
-    → word_of (Some n) front ≡ Ok (Some (word, take (length ended - 2) (drop 2 ended)))
-word_cut n front word ended inside first back long cr lf =
+argument_cut : (n : ℕ) (front argument ended : List ℕ) → n ≤ length front → argument ≡ take n front → ended ≡ drop n front → 2 ≤ length ended → get_or ended 0 0 ≡ 13 → get_or ended 1 0 ≡ 10
+    → argument_of (Some n) front ≡ Ok (Some (argument, take (length ended - 2) (drop 2 ended)))
+argument_cut n front argument ended inside first back long cr lf =
     let enough : nat_lt (length front) n ≡ false = grind (arith, nat_tests) in
     rw enough
     (ap (λ (e : List ℕ). and_then (end_at NoEnd e) (λ _ rest. Ok (Some (take n front, rest)))) (sym back)
     ∙ ap (λ (r : Front (Unit {0})). and_then r (λ _ rest. Ok (Some (take n front, rest)))) (ended_found ended long cr lf)
     ∙ ap (λ (w : List ℕ). Ok (Some (w, take (length ended - 2) (drop 2 ended)))) (sym first))
 
--- a word whose length has one or two digits
-pub short_word : (text : List ℕ) (n : ℕ) (front word ended : List ℕ) → 1 ≤ length text → get_or text 0 0 ≡ 36 → Begins (take (length text - 1) (drop 1 text)) n front → n ≤ length front
-    → word ≡ take n front → ended ≡ drop n front → 2 ≤ length ended → get_or ended 0 0 ≡ 13 → get_or ended 1 0 ≡ 10 → word_at text ≡ Ok (Some (word, take (length ended - 2) (drop 2 ended)))
-short_word [] n front word ended some mark line inside first back long cr lf = absurd (omega (arith, some))
-short_word (b ∷ t) n front word ended some mark line inside first back long cr lf =
+-- an argument whose length has one or two digits
+pub short_argument : (text : List ℕ) (n : ℕ) (front argument ended : List ℕ) → 1 ≤ length text → get_or text 0 0 ≡ 36 → Begins (take (length text - 1) (drop 1 text)) n front → n ≤ length front
+    → argument ≡ take n front → ended ≡ drop n front → 2 ≤ length ended → get_or ended 0 0 ≡ 13 → get_or ended 1 0 ≡ 10 → argument_at text ≡ Ok (Some (argument, take (length ended - 2) (drop 2 ended)))
+short_argument [] n front argument ended some mark line inside first back long cr lf = absurd (omega (arith, some))
+short_argument (b ∷ t) n front argument ended some mark line inside first back long cr lf =
     let test : (b == dollar) ≡ true = grind (arith, nat_tests) in
     let tail : t ≡ take (length (b ∷ t) - 1) t = sym (ap (λ (k : ℕ). take k t) (omega arith) ∙ take-length t) in
-    rw test (short_bulk n t front line.1 (tail ∙ line.0) ∙ word_cut n front word ended inside first back long cr lf)
+    rw test (short_bulk n t front line.1 (tail ∙ line.0) ∙ argument_cut n front argument ended inside first back long cr lf)
 
-one_more : (n : ℕ) (text rest after word : List ℕ) (words : List (List ℕ)) → word_at text ≡ Ok (Some (word, rest)) → words_at n rest ≡ Ok (Some (words, after))
-    → words_at (suc n) text ≡ Ok (Some (word ∷ words, after))
-one_more n text rest after word words h k = grind arith
+one_more : (n : ℕ) (text rest after argument : List ℕ) (arguments : List (List ℕ)) → argument_at text ≡ Ok (Some (argument, rest)) → arguments_at n rest ≡ Ok (Some (arguments, after))
+    → arguments_at (suc n) text ≡ Ok (Some (argument ∷ arguments, after))
+one_more n text rest after argument arguments h k = grind arith
 
-three_words : (a b c first second third rest : List ℕ) → word_at a ≡ Ok (Some (first, b)) → word_at b ≡ Ok (Some (second, c)) → word_at c ≡ Ok (Some (third, rest))
-    → words_at 3 a ≡ Ok (Some (first ∷ second ∷ third ∷ [], rest))
-three_words a b c first second third rest h k l = one_more 2 a b rest first (second ∷ third ∷ []) h (one_more 1 b c rest second (third ∷ []) k (one_more 0 c rest rest third [] l refl))
+three_arguments : (a b c first second third rest : List ℕ) → argument_at a ≡ Ok (Some (first, b)) → argument_at b ≡ Ok (Some (second, c)) → argument_at c ≡ Ok (Some (third, rest))
+    → arguments_at 3 a ≡ Ok (Some (first ∷ second ∷ third ∷ [], rest))
+three_arguments a b c first second third rest h k l = one_more 2 a b rest first (second ∷ third ∷ []) h (one_more 1 b c rest second (third ∷ []) k (one_more 0 c rest rest third [] l refl))
 
-frame_of_three : (text : List ℕ) (words : List (List ℕ)) (rest : List ℕ) → 4 ≤ length text → get_or text 0 0 ≡ 42 → get_or text 1 0 ≡ 51 → get_or text 2 0 ≡ 13 → get_or text 3 0 ≡ 10
-    → words_at 3 (take (length text - 4) (drop 4 text)) ≡ Ok (Some (words, rest)) → frame_at text ≡ Ok (Some (words, rest))
-frame_of_three (a ∷ b ∷ c ∷ d ∷ t) words rest long star three cr lf is =
+frame_of_three : (text : List ℕ) (arguments : List (List ℕ)) (rest : List ℕ) → 4 ≤ length text → get_or text 0 0 ≡ 42 → get_or text 1 0 ≡ 51 → get_or text 2 0 ≡ 13 → get_or text 3 0 ≡ 10
+    → arguments_at 3 (take (length text - 4) (drop 4 text)) ≡ Ok (Some (arguments, rest)) → frame_at text ≡ Ok (Some (arguments, rest))
+frame_of_three (a ∷ b ∷ c ∷ d ∷ t) arguments rest long star three cr lf is =
     let whole : a ∷ b ∷ c ∷ d ∷ t ≡ 42 ∷ 51 ∷ 13 ∷ 10 ∷ t = cc (star, three, cr, lf) in
     let tail : t ≡ take (length (a ∷ b ∷ c ∷ d ∷ t) - 4) t = sym (ap (λ (k : ℕ). take k t) (omega arith) ∙ take-length t) in
-    ap frame_at whole ∙ ap (words_at 3) tail ∙ is
-frame_of_three _ words rest long star three cr lf is = absurd (omega (arith, long))
+    ap frame_at whole ∙ ap (arguments_at 3) tail ∙ is
+frame_of_three _ arguments rest long star three cr lf is = absurd (omega (arith, long))
 
--- a frame of three words
+-- a frame of three arguments
 pub three_found : (text window a b first second third rest : List ℕ) → window ≡ take most_frame text → 4 ≤ length window → get_or window 0 0 ≡ 42 → get_or window 1 0 ≡ 51 → get_or window 2 0 ≡ 13
-    → get_or window 3 0 ≡ 10 → word_at (take (length window - 4) (drop 4 window)) ≡ Ok (Some (first, a)) → word_at a ≡ Ok (Some (second, b)) → word_at b ≡ Ok (Some (third, rest))
+    → get_or window 3 0 ≡ 10 → argument_at (take (length window - 4) (drop 4 window)) ≡ Ok (Some (first, a)) → argument_at a ≡ Ok (Some (second, b)) → argument_at b ≡ Ok (Some (third, rest))
     → first_of text ≡ Ok (Some (first ∷ second ∷ third ∷ [], drop (length window - length rest) text))
 three_found text window a b first second third rest is long star three cr lf h k l =
     first_found text window (first ∷ second ∷ third ∷ []) rest is
-    (frame_of_three window (first ∷ second ∷ third ∷ []) rest long star three cr lf (three_words (take (length window - 4) (drop 4 window)) a b first second third rest h k l))
+    (frame_of_three window (first ∷ second ∷ third ∷ []) rest long star three cr lf (three_arguments (take (length window - 4) (drop 4 window)) a b first second third rest h k l))

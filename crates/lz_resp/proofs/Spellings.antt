@@ -6,10 +6,10 @@ use Rattle.std.{proofs.lemmas.{Bool.Decides.{nat_tests, Decides-eqb}, Slice.Eq.{
 use Rattle.std.specs.List.{flat_map, list_all, list_any, starts_with}
 use Rattle.lz_slot.{specs.{Numerals.{is_number, largest_read, number_in}, Texts.{parted}}, proofs.Texts.Cuts.{AreParts, Lacks, parted_clear, parted_whole}}
 use Rattle.lz_slot.proofs.Texts.{Numerals.{decimal_number, decimal_read, number_told_of}, Spellings.{decimal_lacks}}
-use Rattle.lz_resp.specs.Limits.{most_frame, most_word, most_words}
-use Rattle.lz_resp.specs.{Frames.{IsFrame, IsInline, array, bulk, dollar, fits, is_quote, less_than_none, line_end, star, words_of}, Reading.{Front, and_then}}
-use Rattle.lz_resp.specs.Reading.{array_at, array_of, bulk_at, count_of, end_at, first_by, first_of, frame_at, inline_at, inline_of, line_at, line_of, word_at}
-use Rattle.lz_resp.specs.{Reading.{word_of, words_at}, Pieces.{FaultsHaveNoFrame, FramesAreRead, FramesAreSpelled}, declared.fault.Fault.{Fault}}
+use Rattle.lz_resp.specs.Limits.{most_frame, most_argument, most_arguments}
+use Rattle.lz_resp.specs.{Frames.{IsFrame, IsInline, array, bulk, dollar, fits, is_quote, less_than_none, line_end, star, arguments_of}, Reading.{Front, and_then}}
+use Rattle.lz_resp.specs.Reading.{array_at, array_of, bulk_at, count_of, end_at, first_by, first_of, frame_at, inline_at, inline_of, line_at, line_of, argument_at}
+use Rattle.lz_resp.specs.{Reading.{argument_of, arguments_at}, Pieces.{FaultsHaveNoFrame, FramesAreRead, FramesAreSpelled}, declared.fault.Fault.{Fault}}
 use Rattle.lz_resp.{specs.declared.fault.Fault.TheVariants.{Count, Length, NoBulk, NoEnd, Quotes, TooLong}, proofs.Many.{AreMany, many_read, many_spelled}}
 use Rattle.lz_resp.proofs.LongerTexts.{first_fault, first_told, given, same_read, take_more, then_value}
 
@@ -20,34 +20,34 @@ line_read fault line tail lacks = ap (line_of fault) (parted_clear 13 line (10 �
 ended_line : (line tail more : List ℕ) → ((line ++ line_end) ++ tail) ++ more ≡ line ++ 13 ∷ 10 ∷ (tail ++ more)
 ended_line line tail more = append_assoc (line ++ line_end) tail more ∙ append_assoc line line_end (tail ++ more)
 
--- a word's text is read as the word
-pub word_read : (word more : List ℕ) → length word ≤ most_word → word_at (bulk word ++ more) ≡ given word more
-word_read word more short =
-    let digits = decimal (length word) in
-    let lacks : Lacks 13 digits = decimal_lacks 13 (length word) refl (omega (arith, short)) in
-    let tail = word ++ 13 ∷ 10 ∷ more in
-    let regroup : (((digits ++ line_end) ++ word) ++ line_end) ++ more ≡ digits ++ 13 ∷ 10 ∷ tail =
-    append_assoc ((digits ++ line_end) ++ word) line_end more ∙ append_assoc (digits ++ line_end) word (13 ∷ 10 ∷ more) ∙ append_assoc digits line_end tail in
-    let long : nat_lt (length tail) (length word) ≡ false = grind (arith, nat_tests, length-append word (13 ∷ 10 ∷ more)) in
-    ap bulk_at regroup ∙ ap (λ (r : Front (List ℕ)). and_then r (λ digits rest. word_of (number_in 0 most_word digits) rest)) (line_read Length digits tail lacks)
-    ∙ ap (λ (n : Option ℕ). word_of n tail) (decimal_read 0 most_word (length word) (omega arith) (omega arith) short)
-    ∙ rw (long, drop-append_seam word (13 ∷ 10 ∷ more), take-append_seam word (13 ∷ 10 ∷ more)) refl
+-- an argument's text is read as the argument
+pub argument_read : (argument more : List ℕ) → length argument ≤ most_argument → argument_at (bulk argument ++ more) ≡ given argument more
+argument_read argument more short =
+    let digits = decimal (length argument) in
+    let lacks : Lacks 13 digits = decimal_lacks 13 (length argument) refl (omega (arith, short)) in
+    let tail = argument ++ 13 ∷ 10 ∷ more in
+    let regroup : (((digits ++ line_end) ++ argument) ++ line_end) ++ more ≡ digits ++ 13 ∷ 10 ∷ tail =
+    append_assoc ((digits ++ line_end) ++ argument) line_end more ∙ append_assoc (digits ++ line_end) argument (13 ∷ 10 ∷ more) ∙ append_assoc digits line_end tail in
+    let long : nat_lt (length tail) (length argument) ≡ false = grind (arith, nat_tests, length-append argument (13 ∷ 10 ∷ more)) in
+    ap bulk_at regroup ∙ ap (λ (r : Front (List ℕ)). and_then r (λ digits rest. argument_of (number_in 0 most_argument digits) rest)) (line_read Length digits tail lacks)
+    ∙ ap (λ (n : Option ℕ). argument_of n tail) (decimal_read 0 most_argument (length argument) (omega arith) (omega arith) short)
+    ∙ rw (long, drop-append_seam argument (13 ∷ 10 ∷ more), take-append_seam argument (13 ∷ 10 ∷ more)) refl
 
-words_read : (words : List (List ℕ)) (more : List ℕ) → list_all (λ word. nat_le (length word) most_word) words ≡ true → words_at (length words) (flat_map bulk words ++ more) ≡ given words more
-words_read = many_read bulk (λ word. nat_le (length word) most_word) word_at words_at (λ text. refl) (λ n text. refl) (λ word rest short. word_read word rest (grind (arith, nat_tests)))
+arguments_read : (arguments : List (List ℕ)) (more : List ℕ) → list_all (λ argument. nat_le (length argument) most_argument) arguments ≡ true → arguments_at (length arguments) (flat_map bulk arguments ++ more) ≡ given arguments more
+arguments_read = many_read bulk (λ argument. nat_le (length argument) most_argument) argument_at arguments_at (λ text. refl) (λ n text. refl) (λ argument rest short. argument_read argument rest (grind (arith, nat_tests)))
 
 no_minus : (t : List ℕ) → is_number t ≡ true → starts_with nat_eq t (codes "-") ≡ false
 no_minus [] h = absurd (cc)
 no_minus (b ∷ t) h = grind (arith, nat_tests)
 
-count_read : (n : ℕ) → n ≤ most_words → count_of (decimal n) ≡ Some n
+count_read : (n : ℕ) → n ≤ most_arguments → count_of (decimal n) ≡ Some n
 count_read n few = grind (arith, nat_eq, decimal, codes, no_minus, decimal_number, decimal_read)
 
-fits_told : (words : List (List ℕ)) → fits words ≡ true → (length words ≤ most_words) × (list_all (λ word. nat_le (length word) most_word) words ≡ true)
-fits_told words h = (grind (arith, nat_tests), grind (arith, nat_tests))
+fits_told : (arguments : List (List ℕ)) → fits arguments ≡ true → (length arguments ≤ most_arguments) × (list_all (λ argument. nat_le (length argument) most_argument) arguments ≡ true)
+fits_told arguments h = (grind (arith, nat_tests), grind (arith, nat_tests))
 
-array_read : (words : List (List ℕ)) (more : List ℕ) → fits words ≡ true → frame_at (array words ++ more) ≡ given words more
-array_read words more fit = grind (arith, fits_told, fit, decimal, decimal_lacks, ended_line, line_read, count_read, words_read)
+array_read : (arguments : List (List ℕ)) (more : List ℕ) → fits arguments ≡ true → frame_at (array arguments ++ more) ≡ given arguments more
+array_read arguments more fit = grind (arith, fits_told, fit, decimal, decimal_lacks, ended_line, line_read, count_read, arguments_read)
 
 none_read : (n : ℕ) (more : List ℕ) → 1 ≤ n → n ≤ largest_read → frame_at (less_than_none n ++ more) ≡ given [] more
 none_read n more some small =
@@ -64,22 +64,22 @@ line_frame : (line tail : List ℕ) → starts_with nat_eq line (codes "*") ≡ 
 line_frame [] tail other = refl
 line_frame (b ∷ line) tail other = rw (other_first b line other) refl
 
-inline_read : (text more : List ℕ) (words : List (List ℕ)) → IsInline text words → fits words ≡ true → frame_at (text ++ more) ≡ given words more
-inline_read text more words i fit = grind (arith, append_assoc, fit, line_frame, parted_clear)
+inline_read : (text more : List ℕ) (arguments : List (List ℕ)) → IsInline text arguments → fits arguments ≡ true → frame_at (text ++ more) ≡ given arguments more
+inline_read text more arguments i fit = grind (arith, append_assoc, fit, line_frame, parted_clear)
 
-frame_read : (text more : List ℕ) (words : List (List ℕ)) → IsFrame text words → fits words ≡ true → frame_at (text ++ more) ≡ given words more
-frame_read text more words (inl is) fit = ap (λ (t : List ℕ). frame_at (t ++ more)) is ∙ array_read words more fit
-frame_read text more words (inr (inl (none, (n, some, small, is)))) fit = grind (arith, none_read)
-frame_read text more words (inr (inr i)) fit = inline_read text more words i fit
+frame_read : (text more : List ℕ) (arguments : List (List ℕ)) → IsFrame text arguments → fits arguments ≡ true → frame_at (text ++ more) ≡ given arguments more
+frame_read text more arguments (inl is) fit = ap (λ (t : List ℕ). frame_at (t ++ more)) is ∙ array_read arguments more fit
+frame_read text more arguments (inr (inl (none, (n, some, small, is)))) fit = grind (arith, none_read)
+frame_read text more arguments (inr (inr i)) fit = inline_read text more arguments i fit
 
 pub frames_are_read : FramesAreRead
 unfolding first_of
-frames_are_read text rest words is within =
+frames_are_read text rest arguments is within =
     let some = take (most_frame - length text) rest in
     let window : take most_frame (text ++ rest) ≡ text ++ some = take_more most_frame text rest within.1 in
     let count : length (text ++ some) - length some ≡ length text = omega (arith, length-append text some) in
-    ap (λ (w : List ℕ). first_by (text ++ rest) (frame_at w)) window ∙ ap (first_by (text ++ rest)) (frame_read text some words is within.0)
-    ∙ ap (λ (t : List ℕ). given words t)
+    ap (λ (w : List ℕ). first_by (text ++ rest) (frame_at w)) window ∙ ap (first_by (text ++ rest)) (frame_read text some arguments is within.0)
+    ∙ ap (λ (t : List ℕ). given arguments t)
     (ap (λ (w : List ℕ). drop (length w - length some) (text ++ rest)) window ∙ ap (λ (k : ℕ). drop k (text ++ rest)) count ∙ drop-append_seam text rest)
 
 -- where CR and LF are read they stand
@@ -95,87 +95,87 @@ line_parts fault text line rest (Some p) is h = grind (arith, then_value, end_sp
 pub line_spelled : (fault : Fault) (text line rest : List ℕ) → line_at fault text ≡ Ok (Some (line, rest)) → text ≡ line ++ 13 ∷ 10 ∷ rest
 line_spelled fault text line rest h = line_parts fault text line rest (parted 13 text) (parted_whole 13 text) h
 
-pub record CutOff (n : ℕ) (text word rest : List ℕ) : Type 0 where
-  pub whole : text ≡ word ++ 13 ∷ 10 ∷ rest
-  pub long : length word ≡ n
+pub record CutOff (n : ℕ) (text argument rest : List ℕ) : Type 0 where
+  pub whole : text ≡ argument ++ 13 ∷ 10 ∷ rest
+  pub long : length argument ≡ n
 
-cut_spelled : (n : ℕ) (text word rest : List ℕ) → word_of (Some n) text ≡ Ok (Some (word, rest)) → CutOff n text word rest
-cut_spelled n text word rest h =
-    cond_both (nat_lt (length text) n) (Ok None) (and_then (end_at NoEnd (drop n text)) (λ _ after. Ok (Some (take n text, after)))) (λ r. r ≡ Ok (Some (word, rest)) → CutOff n text word rest)
+cut_spelled : (n : ℕ) (text argument rest : List ℕ) → argument_of (Some n) text ≡ Ok (Some (argument, rest)) → CutOff n text argument rest
+cut_spelled n text argument rest h =
+    cond_both (nat_lt (length text) n) (Ok None) (and_then (end_at NoEnd (drop n text)) (λ _ after. Ok (Some (take n text, after)))) (λ r. r ≡ Ok (Some (argument, rest)) → CutOff n text argument rest)
     (λ _ h. absurd (cc))
     (λ enough h.
-    let t = then_value (end_at NoEnd (drop n text)) (λ _ after. Ok (Some (take n text, after))) word rest h in
+    let t = then_value (end_at NoEnd (drop n text)) (λ _ after. Ok (Some (take n text, after))) argument rest h in
     let ended = end_spelled NoEnd (drop n text) t.x t.rest t.first in
-    let same = same_read (take n text) word t.rest rest t.second in
+    let same = same_read (take n text) argument t.rest rest t.second in
     let inside : n ≤ length text = grind (arith, nat_tests) in
     record {
       whole = sym (take-append-drop n text) ∙ ap (λ (t : List ℕ). take n text ++ t) ended ∙ cc (same.0, same.1);
       long = ap length (sym same.0) ∙ omega (arith, length-take n text, inside);
     }) h
 
-pub record IsBulk (text word rest : List ℕ) : Type 0 where
-  pub whole : text ≡ bulk word ++ rest
-  pub short : length word ≤ most_word
+pub record IsBulk (text argument rest : List ℕ) : Type 0 where
+  pub whole : text ≡ bulk argument ++ rest
+  pub short : length argument ≤ most_argument
 
-bulk_by : (digits text mid word rest : List ℕ) (n : Option ℕ) → number_in 0 most_word digits ≡ n → text ≡ digits ++ 13 ∷ 10 ∷ mid → word_of n mid ≡ Ok (Some (word, rest)) → IsBulk (36 ∷ text) word rest
-bulk_by digits text mid word rest None is spelled h = absurd (cc)
-bulk_by digits text mid word rest (Some n) is spelled h =
-    let number = number_told_of 0 most_word n digits is in
-    let cut = cut_spelled n mid word rest h in
-    let length_is : digits ≡ decimal (length word) = number.2 ∙ ap decimal (sym cut.long) in
-    let regroup : (((decimal (length word) ++ line_end) ++ word) ++ line_end) ++ rest ≡ decimal (length word) ++ 13 ∷ 10 ∷ (word ++ 13 ∷ 10 ∷ rest) =
-    append_assoc ((decimal (length word) ++ line_end) ++ word) line_end rest ∙ append_assoc (decimal (length word) ++ line_end) word (13 ∷ 10 ∷ rest)
-    ∙ append_assoc (decimal (length word)) line_end (word ++ 13 ∷ 10 ∷ rest) in
+bulk_by : (digits text mid argument rest : List ℕ) (n : Option ℕ) → number_in 0 most_argument digits ≡ n → text ≡ digits ++ 13 ∷ 10 ∷ mid → argument_of n mid ≡ Ok (Some (argument, rest)) → IsBulk (36 ∷ text) argument rest
+bulk_by digits text mid argument rest None is spelled h = absurd (cc)
+bulk_by digits text mid argument rest (Some n) is spelled h =
+    let number = number_told_of 0 most_argument n digits is in
+    let cut = cut_spelled n mid argument rest h in
+    let length_is : digits ≡ decimal (length argument) = number.2 ∙ ap decimal (sym cut.long) in
+    let regroup : (((decimal (length argument) ++ line_end) ++ argument) ++ line_end) ++ rest ≡ decimal (length argument) ++ 13 ∷ 10 ∷ (argument ++ 13 ∷ 10 ∷ rest) =
+    append_assoc ((decimal (length argument) ++ line_end) ++ argument) line_end rest ∙ append_assoc (decimal (length argument) ++ line_end) argument (13 ∷ 10 ∷ rest)
+    ∙ append_assoc (decimal (length argument)) line_end (argument ++ 13 ∷ 10 ∷ rest) in
     record {
-      whole = ap (λ (t : List ℕ). 36 ∷ t) (spelled ∙ ap (λ (t : List ℕ). digits ++ 13 ∷ 10 ∷ t) cut.whole ∙ ap (λ (t : List ℕ). t ++ 13 ∷ 10 ∷ (word ++ 13 ∷ 10 ∷ rest)) length_is ∙ sym regroup);
+      whole = ap (λ (t : List ℕ). 36 ∷ t) (spelled ∙ ap (λ (t : List ℕ). digits ++ 13 ∷ 10 ∷ t) cut.whole ∙ ap (λ (t : List ℕ). t ++ 13 ∷ 10 ∷ (argument ++ 13 ∷ 10 ∷ rest)) length_is ∙ sym regroup);
       short = omega (arith, number.1, cut.long);
     }
 
-pub word_spelled : (text word rest : List ℕ) → word_at text ≡ Ok (Some (word, rest)) → IsBulk text word rest
-word_spelled [] word rest h = absurd (cc)
-word_spelled (b ∷ text) word rest h =
-    cond_both (b == dollar) (bulk_at text) (Err (NoBulk b)) (λ r. r ≡ Ok (Some (word, rest)) → IsBulk (b ∷ text) word rest)
+pub argument_spelled : (text argument rest : List ℕ) → argument_at text ≡ Ok (Some (argument, rest)) → IsBulk text argument rest
+argument_spelled [] argument rest h = absurd (cc)
+argument_spelled (b ∷ text) argument rest h =
+    cond_both (b == dollar) (bulk_at text) (Err (NoBulk b)) (λ r. r ≡ Ok (Some (argument, rest)) → IsBulk (b ∷ text) argument rest)
     (λ yes h.
     let first : b ≡ 36 = grind (arith, nat_tests) in
-    let t = then_value (line_at Length text) (λ digits rest. word_of (number_in 0 most_word digits) rest) word rest h in
-    subst (λ (x : ℕ). IsBulk (x ∷ text) word rest) (sym first)
-    (bulk_by t.x text t.rest word rest (number_in 0 most_word t.x) refl (line_spelled Length text t.x t.rest t.first) t.second))
+    let t = then_value (line_at Length text) (λ digits rest. argument_of (number_in 0 most_argument digits) rest) argument rest h in
+    subst (λ (x : ℕ). IsBulk (x ∷ text) argument rest) (sym first)
+    (bulk_by t.x text t.rest argument rest (number_in 0 most_argument t.x) refl (line_spelled Length text t.x t.rest t.first) t.second))
     (λ _ h. absurd (cc)) h
 
-words_spelled : (n : ℕ) (text : List ℕ) (words : List (List ℕ)) (rest : List ℕ) → words_at n text ≡ Ok (Some (words, rest)) → AreMany bulk (λ word. nat_le (length word) most_word) n text words rest
-words_spelled = many_spelled bulk (λ word. nat_le (length word) most_word) word_at words_at (λ text. refl) (λ n text. refl) (λ text word rest h.
-    let its = word_spelled text word rest h in
+arguments_spelled : (n : ℕ) (text : List ℕ) (arguments : List (List ℕ)) (rest : List ℕ) → arguments_at n text ≡ Ok (Some (arguments, rest)) → AreMany bulk (λ argument. nat_le (length argument) most_argument) n text arguments rest
+arguments_spelled = many_spelled bulk (λ argument. nat_le (length argument) most_argument) argument_at arguments_at (λ text. refl) (λ n text. refl) (λ text argument rest h.
+    let its = argument_spelled text argument rest h in
     (grind (arith, nat_tests, its.short), its.whole))
 
 -- a frame within its limits stands at the front of a text
-pub record Stands (text : List ℕ) (words : List (List ℕ)) (rest : List ℕ) : Type 0 where
+pub record Stands (text : List ℕ) (arguments : List (List ℕ)) (rest : List ℕ) : Type 0 where
   pub frame : List ℕ
   pub whole : text ≡ frame ++ rest
-  pub its : IsFrame frame words
-  pub fit : fits words ≡ true
+  pub its : IsFrame frame arguments
+  pub fit : fits arguments ≡ true
 
-fits_tells : (words : List (List ℕ)) → length words ≤ most_words → list_all (λ word. nat_le (length word) most_word) words ≡ true → fits words ≡ true
-fits_tells words few short = let count : nat_le (length words) most_words ≡ true = grind (arith, nat_tests, few) in rw count short
+fits_tells : (arguments : List (List ℕ)) → length arguments ≤ most_arguments → list_all (λ argument. nat_le (length argument) most_argument) arguments ≡ true → fits arguments ≡ true
+fits_tells arguments few short = let count : nat_le (length arguments) most_arguments ≡ true = grind (arith, nat_tests, few) in rw count short
 
-array_stands : (digits text mid : List ℕ) (words : List (List ℕ)) (rest : List ℕ) (n : ℕ) → number_in 0 most_words digits ≡ Some n → text ≡ digits ++ 13 ∷ 10 ∷ mid
-    → words_at n mid ≡ Ok (Some (words, rest)) → Stands (42 ∷ text) words rest
-array_stands digits text mid words rest n is spelled h =
-    let number = number_told_of 0 most_words n digits is in
-    let bulks = words_spelled n mid words rest h in
-    let length_is : digits ≡ decimal (length words) = number.2 ∙ ap decimal (sym bulks.count) in
+array_stands : (digits text mid : List ℕ) (arguments : List (List ℕ)) (rest : List ℕ) (n : ℕ) → number_in 0 most_arguments digits ≡ Some n → text ≡ digits ++ 13 ∷ 10 ∷ mid
+    → arguments_at n mid ≡ Ok (Some (arguments, rest)) → Stands (42 ∷ text) arguments rest
+array_stands digits text mid arguments rest n is spelled h =
+    let number = number_told_of 0 most_arguments n digits is in
+    let bulks = arguments_spelled n mid arguments rest h in
+    let length_is : digits ≡ decimal (length arguments) = number.2 ∙ ap decimal (sym bulks.count) in
     record {
-      frame = array words;
+      frame = array arguments;
       whole = ap (λ (t : List ℕ). 42 ∷ t) (spelled ∙ ap (λ (t : List ℕ). digits ++ 13 ∷ 10 ∷ t) bulks.whole
-          ∙ ap (λ (t : List ℕ). t ++ 13 ∷ 10 ∷ (flat_map bulk words ++ rest)) length_is ∙ sym (ended_line (decimal (length words)) (flat_map bulk words) rest));
+          ∙ ap (λ (t : List ℕ). t ++ 13 ∷ 10 ∷ (flat_map bulk arguments ++ rest)) length_is ∙ sym (ended_line (decimal (length arguments)) (flat_map bulk arguments) rest));
       its = inl refl;
-      fit = fits_tells words (omega (arith, number.1, bulks.count)) bulks.each;
+      fit = fits_tells arguments (omega (arith, number.1, bulks.count)) bulks.each;
     }
 
-none_stands : (digits text mid : List ℕ) (words : List (List ℕ)) (rest : List ℕ) (m : ℕ) → number_in 1 largest_read (drop 1 digits) ≡ Some m → digits ≡ 45 ∷ drop 1 digits
-    → text ≡ digits ++ 13 ∷ 10 ∷ mid → words_at 0 mid ≡ Ok (Some (words, rest)) → Stands (42 ∷ text) words rest
-none_stands digits text mid words rest m is minus spelled h =
+none_stands : (digits text mid : List ℕ) (arguments : List (List ℕ)) (rest : List ℕ) (m : ℕ) → number_in 1 largest_read (drop 1 digits) ≡ Some m → digits ≡ 45 ∷ drop 1 digits
+    → text ≡ digits ++ 13 ∷ 10 ∷ mid → arguments_at 0 mid ≡ Ok (Some (arguments, rest)) → Stands (42 ∷ text) arguments rest
+none_stands digits text mid arguments rest m is minus spelled h =
     let number = number_told_of 1 largest_read m (drop 1 digits) is in
-    let same = same_read [] words mid rest h in
+    let same = same_read [] arguments mid rest h in
     record {
       frame = less_than_none m;
       whole = ap (λ (t : List ℕ). 42 ∷ t) (spelled ∙ ap (λ (t : List ℕ). t ++ 13 ∷ 10 ∷ mid) (minus ∙ ap (λ (t : List ℕ). 45 ∷ t) number.2)
@@ -184,30 +184,30 @@ none_stands digits text mid words rest m is minus spelled h =
       fit = ap fits (sym same.0);
     }
 
-begins_with : (text word : List ℕ) → starts_with nat_eq text word ≡ true → text ≡ word ++ drop (length word) text
-begins_with text word h = (starts_is Decides-eqb text word (starts_with nat_eq text word) refl).0 h
+begins_with : (text argument : List ℕ) → starts_with nat_eq text argument ≡ true → text ≡ argument ++ drop (length argument) text
+begins_with text argument h = (starts_is Decides-eqb text argument (starts_with nat_eq text argument) refl).0 h
 
-none_by : (digits text mid : List ℕ) (words : List (List ℕ)) (rest : List ℕ) (m : Option ℕ) → number_in 1 largest_read (drop 1 digits) ≡ m → digits ≡ 45 ∷ drop 1 digits
-    → text ≡ digits ++ 13 ∷ 10 ∷ mid → array_of (option_map (λ _. 0) m) mid ≡ Ok (Some (words, rest)) → Stands (42 ∷ text) words rest
-none_by digits text mid words rest None is minus spelled h = absurd (cc)
-none_by digits text mid words rest (Some m) is minus spelled h = none_stands digits text mid words rest m is minus spelled h
+none_by : (digits text mid : List ℕ) (arguments : List (List ℕ)) (rest : List ℕ) (m : Option ℕ) → number_in 1 largest_read (drop 1 digits) ≡ m → digits ≡ 45 ∷ drop 1 digits
+    → text ≡ digits ++ 13 ∷ 10 ∷ mid → array_of (option_map (λ _. 0) m) mid ≡ Ok (Some (arguments, rest)) → Stands (42 ∷ text) arguments rest
+none_by digits text mid arguments rest None is minus spelled h = absurd (cc)
+none_by digits text mid arguments rest (Some m) is minus spelled h = none_stands digits text mid arguments rest m is minus spelled h
 
-array_by : (digits text mid : List ℕ) (words : List (List ℕ)) (rest : List ℕ) (n : Option ℕ) → number_in 0 most_words digits ≡ n → text ≡ digits ++ 13 ∷ 10 ∷ mid
-    → array_of n mid ≡ Ok (Some (words, rest)) → Stands (42 ∷ text) words rest
-array_by digits text mid words rest None is spelled h = absurd (cc)
-array_by digits text mid words rest (Some n) is spelled h = array_stands digits text mid words rest n is spelled h
+array_by : (digits text mid : List ℕ) (arguments : List (List ℕ)) (rest : List ℕ) (n : Option ℕ) → number_in 0 most_arguments digits ≡ n → text ≡ digits ++ 13 ∷ 10 ∷ mid
+    → array_of n mid ≡ Ok (Some (arguments, rest)) → Stands (42 ∷ text) arguments rest
+array_by digits text mid arguments rest None is spelled h = absurd (cc)
+array_by digits text mid arguments rest (Some n) is spelled h = array_stands digits text mid arguments rest n is spelled h
 
-count_by : (digits text mid : List ℕ) (words : List (List ℕ)) (rest : List ℕ) → text ≡ digits ++ 13 ∷ 10 ∷ mid → array_of (count_of digits) mid ≡ Ok (Some (words, rest)) → Stands (42 ∷ text) words rest
-count_by digits text mid words rest spelled h =
-    cond_both (starts_with nat_eq digits (codes "-")) (option_map (λ _. 0) (number_in 1 largest_read (drop 1 digits))) (number_in 0 most_words digits)
-    (λ n. array_of n mid ≡ Ok (Some (words, rest)) → Stands (42 ∷ text) words rest)
-    (λ minus h. none_by digits text mid words rest (number_in 1 largest_read (drop 1 digits)) refl (begins_with digits (codes "-") minus) spelled h)
-    (λ _ h. array_by digits text mid words rest (number_in 0 most_words digits) refl spelled h) h
+count_by : (digits text mid : List ℕ) (arguments : List (List ℕ)) (rest : List ℕ) → text ≡ digits ++ 13 ∷ 10 ∷ mid → array_of (count_of digits) mid ≡ Ok (Some (arguments, rest)) → Stands (42 ∷ text) arguments rest
+count_by digits text mid arguments rest spelled h =
+    cond_both (starts_with nat_eq digits (codes "-")) (option_map (λ _. 0) (number_in 1 largest_read (drop 1 digits))) (number_in 0 most_arguments digits)
+    (λ n. array_of n mid ≡ Ok (Some (arguments, rest)) → Stands (42 ∷ text) arguments rest)
+    (λ minus h. none_by digits text mid arguments rest (number_in 1 largest_read (drop 1 digits)) refl (begins_with digits (codes "-") minus) spelled h)
+    (λ _ h. array_by digits text mid arguments rest (number_in 0 most_arguments digits) refl spelled h) h
 
-array_spelled : (text : List ℕ) (words : List (List ℕ)) (rest : List ℕ) → array_at text ≡ Ok (Some (words, rest)) → Stands (42 ∷ text) words rest
-array_spelled text words rest h =
-    let t = then_value (line_at Count text) (λ digits rest. array_of (count_of digits) rest) words rest h in
-    count_by t.x text t.rest words rest (line_spelled Count text t.x t.rest t.first) t.second
+array_spelled : (text : List ℕ) (arguments : List (List ℕ)) (rest : List ℕ) → array_at text ≡ Ok (Some (arguments, rest)) → Stands (42 ∷ text) arguments rest
+array_spelled text arguments rest h =
+    let t = then_value (line_at Count text) (λ digits rest. array_of (count_of digits) rest) arguments rest h in
+    count_by t.x text t.rest arguments rest (line_spelled Count text t.x t.rest t.first) t.second
 
 -- the part before the first of a byte lacks it
 parts_lack : (c : ℕ) (text : List ℕ) (p : List ℕ × List ℕ) → parted c text ≡ Some p → Lacks c p.0
@@ -226,14 +226,14 @@ no_star : (b : ℕ) (t line after : List ℕ) → (b == star) ≡ false → b �
 no_star b t [] after other is = refl
 no_star b t (c ∷ line) after other is = let same : b ≡ c = cc in grind (arith, nat_tests)
 
-inline_told : (b : ℕ) (t : List ℕ) (words : List (List ℕ)) (rest : List ℕ) (p : List ℕ × List ℕ) → (b == star) ≡ false → b ∷ t ≡ p.0 ++ 10 ∷ p.1 → Lacks 10 p.0
-    → inline_of (Some p) ≡ Ok (Some (words, rest)) → Stands (b ∷ t) words rest
-inline_told b t words rest p other is lacks h =
-    cond_both (list_any is_quote p.0) (Err Quotes) (if fits (words_of p.0) then Ok (Some (words_of p.0, p.1)) else Err TooLong) (λ r. r ≡ Ok (Some (words, rest)) → Stands (b ∷ t) words rest)
+inline_told : (b : ℕ) (t : List ℕ) (arguments : List (List ℕ)) (rest : List ℕ) (p : List ℕ × List ℕ) → (b == star) ≡ false → b ∷ t ≡ p.0 ++ 10 ∷ p.1 → Lacks 10 p.0
+    → inline_of (Some p) ≡ Ok (Some (arguments, rest)) → Stands (b ∷ t) arguments rest
+inline_told b t arguments rest p other is lacks h =
+    cond_both (list_any is_quote p.0) (Err Quotes) (if fits (arguments_of p.0) then Ok (Some (arguments_of p.0, p.1)) else Err TooLong) (λ r. r ≡ Ok (Some (arguments, rest)) → Stands (b ∷ t) arguments rest)
     (λ _ h. absurd (cc))
-    (λ plain h. cond_both (fits (words_of p.0)) (Ok (Some (words_of p.0, p.1))) (Err TooLong) (λ r. r ≡ Ok (Some (words, rest)) → Stands (b ∷ t) words rest)
+    (λ plain h. cond_both (fits (arguments_of p.0)) (Ok (Some (arguments_of p.0, p.1))) (Err TooLong) (λ r. r ≡ Ok (Some (arguments, rest)) → Stands (b ∷ t) arguments rest)
     (λ fit h.
-    let same = same_read (words_of p.0) words p.1 rest h in
+    let same = same_read (arguments_of p.0) arguments p.1 rest h in
     record {
       frame = p.0 ++ 10 ∷ [];
       whole = is ∙ ap (λ (t : List ℕ). p.0 ++ 10 ∷ t) same.1 ∙ sym (append_assoc p.0 (10 ∷ []) rest);
@@ -241,23 +241,23 @@ inline_told b t words rest p other is lacks h =
       fit = ap fits (sym same.0) ∙ fit;
     }) (λ _ h. absurd (cc)) h) h
 
-inline_by : (b : ℕ) (t : List ℕ) (words : List (List ℕ)) (rest : List ℕ) (q : Option (List ℕ × List ℕ)) → (b == star) ≡ false → parted 10 (b ∷ t) ≡ q → AreParts 10 (b ∷ t) q
-    → inline_of q ≡ Ok (Some (words, rest)) → Stands (b ∷ t) words rest
-inline_by b t words rest None other from is h = absurd (cc)
-inline_by b t words rest (Some p) other from is h = inline_told b t words rest p other is (parts_lack 10 (b ∷ t) p from) h
+inline_by : (b : ℕ) (t : List ℕ) (arguments : List (List ℕ)) (rest : List ℕ) (q : Option (List ℕ × List ℕ)) → (b == star) ≡ false → parted 10 (b ∷ t) ≡ q → AreParts 10 (b ∷ t) q
+    → inline_of q ≡ Ok (Some (arguments, rest)) → Stands (b ∷ t) arguments rest
+inline_by b t arguments rest None other from is h = absurd (cc)
+inline_by b t arguments rest (Some p) other from is h = inline_told b t arguments rest p other is (parts_lack 10 (b ∷ t) p from) h
 
-frame_spelled : (text : List ℕ) (words : List (List ℕ)) (rest : List ℕ) → frame_at text ≡ Ok (Some (words, rest)) → Stands text words rest
-frame_spelled [] words rest h = absurd (cc)
-frame_spelled (b ∷ t) words rest h =
-    cond_both (b == star) (array_at t) (inline_at (b ∷ t)) (λ r. r ≡ Ok (Some (words, rest)) → Stands (b ∷ t) words rest)
-    (λ yes h. let first : b ≡ 42 = grind (arith, nat_tests) in subst (λ (x : ℕ). Stands (x ∷ t) words rest) (sym first) (array_spelled t words rest h))
-    (λ other h. inline_by b t words rest (parted 10 (b ∷ t)) other refl (parted_whole 10 (b ∷ t)) h) h
+frame_spelled : (text : List ℕ) (arguments : List (List ℕ)) (rest : List ℕ) → frame_at text ≡ Ok (Some (arguments, rest)) → Stands text arguments rest
+frame_spelled [] arguments rest h = absurd (cc)
+frame_spelled (b ∷ t) arguments rest h =
+    cond_both (b == star) (array_at t) (inline_at (b ∷ t)) (λ r. r ≡ Ok (Some (arguments, rest)) → Stands (b ∷ t) arguments rest)
+    (λ yes h. let first : b ≡ 42 = grind (arith, nat_tests) in subst (λ (x : ℕ). Stands (x ∷ t) arguments rest) (sym first) (array_spelled t arguments rest h))
+    (λ other h. inline_by b t arguments rest (parted 10 (b ∷ t)) other refl (parted_whole 10 (b ∷ t)) h) h
 
 pub frames_are_spelled : FramesAreSpelled
 unfolding first_of
-frames_are_spelled text rest words h =
-    let told = first_told text words rest (frame_at (take most_frame text)) h in
-    let s = frame_spelled (take most_frame text) words told.0 told.1 in
+frames_are_spelled text rest arguments h =
+    let told = first_told text arguments rest (frame_at (take most_frame text)) h in
+    let s = frame_spelled (take most_frame text) arguments told.0 told.1 in
     let count : length (take most_frame text) - length told.0 ≡ length s.frame = omega (arith, ap length s.whole, length-append s.frame told.0) in
     let whole : text ≡ s.frame ++ (told.0 ++ drop most_frame text) =
     sym (take-append-drop most_frame text) ∙ ap (λ (t : List ℕ). t ++ drop most_frame text) s.whole ∙ append_assoc s.frame told.0 (drop most_frame text) in
@@ -266,8 +266,8 @@ frames_are_spelled text rest words h =
     (s.frame, whole ∙ ap (λ (t : List ℕ). s.frame ++ t) (sym after), s.its, (s.fit, omega (arith, ap length s.whole, length-append s.frame told.0, length-take most_frame text)))
 
 pub faults_have_no_frame : FaultsHaveNoFrame
-faults_have_no_frame text rest frame others words fault h same is within =
+faults_have_no_frame text rest frame others arguments fault h same is within =
     let wrong : first_of (text ++ rest) ≡ Err fault = first_fault text rest fault h in
-    let right : first_of (text ++ rest) ≡ Ok (Some (words, others)) = ap first_of same ∙ frames_are_read frame others words is within in
-    let both : Ok (Some (words, others)) ≡ Err fault = sym right ∙ wrong in
+    let right : first_of (text ++ rest) ≡ Ok (Some (arguments, others)) = ap first_of same ∙ frames_are_read frame others arguments is within in
+    let both : Ok (Some (arguments, others)) ≡ Err fault = sym right ∙ wrong in
     absurd (cc)

@@ -1,20 +1,20 @@
 -- What frames ask for.
 use Rattle.lz_resp.specs.declared.query.Query.TheVariants as query
-use Rattle.std.specs.Prelude.{ℕ, ◌-◌, ◌+◌, ◌==◌, ◌&&◌, ◌||◌, min, nat_lt, Bool, if◌then◌else◌, List, [], ◌∷◌, ◌++◌, length, take, drop, codes, map, is_some}
+use Rattle.std.specs.Prelude.{ℕ, ◌-◌, ◌+◌, ◌==◌, ◌&&◌, ◌||◌, min, nat_lt, Bool, if◌then◌else◌, List, [], ◌∷◌, ◌++◌, length, take, drop, codes, map}
 use Rattle.std.specs.{Prelude.{Option, None, Some, option_map, option_and_then, slice_index_or, unwrap_or}, Char.{to_ascii_uppercase}}
 use Rattle.lz_slot.specs.{Limits.{most_slots}, Numerals.{largest_read, number_in}}
 use Rattle.lz_proto.specs.{declared.request.Request.{Request, TheVariants.{Add, Remove, Has}}, Lines.{carriage_return, line_feed}}
 use Rattle.lz_resp.specs.{Limits.{few_listed, most_listed, most_value}, Frames.{bulk, line_end}, Keys.{Subset, key_of, of_name, room_of, unnamed}}
-use Rattle.lz_resp.specs.{Names.{command_of, is_word, name_of, sections_of, subcommand_of, subname_of, subtakes, takes}, declared.command.Command.{Command}}
+use Rattle.lz_resp.specs.{Names.{command_of, is_name, name_of, sections_of, subcommand_of, subname_of, subtakes, takes}, declared.command.Command.{Command}}
 use Rattle.lz_resp.specs.declared.command.Command.TheVariants.{Sadd, Srem, Sismember, Smismember, Sscan, Exists, Del, Unlink, Setnx, Set, Select, Ping, Echo}
-use Rattle.lz_resp.specs.declared.command.Command.TheVariants.{Quit, Reset, Hello, Client, Catalog, Config, Dbsize, Info as AskInfo, Shutdown}
+use Rattle.lz_resp.specs.declared.command.Command.TheVariants.{Quit, Reset, Hello, Client, Catalog, Config, Dbsize, Info as AskInfo, Multi, Exec, Discard, Shutdown}
 use Rattle.lz_resp.specs.declared.subcommand.Subcommand.{Subcommand, TheVariants.{Getname, Setname, Setinfo, NoEvict, NoTouch, Count, Docs, Info, Get}}
 use Rattle.lz_resp.specs.declared.{form.Form.{Form, TheVariants.{Added, Removed, Found, Each, Stored}}, naming.Selected.{Selected}}
 use Rattle.lz_resp.specs.declared.{naming.Selected.TheVariants.{Room, Nameless}, query.Sections.{Sections, TheVariants.{All}}, item.Item.{Item}}
 use Rattle.lz_resp.specs.declared.item.Item.TheVariants.{Asks, Says, Lists, Tells, Ends}
 
-abbrev pub word : List (List ℕ) → ℕ → List ℕ
-word words index = slice_index_or words index []
+abbrev pub argument : List (List ℕ) → ℕ → List ℕ
+argument arguments index = slice_index_or arguments index []
 
 -- what a member's key is asked for a reply of this form
 abbrev pub request_of : Form → ℕ → Request
@@ -34,14 +34,29 @@ requests_of form subset (member ∷ members) =
 abbrev pub error : List ℕ → List ℕ
 error words = codes "-ERR " ++ words ++ line_end
 
-abbrev pub no_key : List ℕ
-no_key = error (codes "value is not an integer or out of range")
+abbrev pub no_number : List ℕ
+no_number = error (codes "value is not an integer or out of range")
 
+-- a member that is no key of a room
+abbrev pub no_key : List ℕ
+no_key = error (codes "value is not an integer or out of range (serve --text takes texts)")
+
+-- a set's name that is no room
 abbrev pub no_room : List ℕ
-no_room = error (codes "DB index is out of range")
+no_room = error (codes "a set's name is a room, 0 to 15 (serve --text takes names)")
+
+abbrev pub no_database : List ℕ
+no_database = error (codes "DB index is out of range")
+
+-- where names are texts there are no rooms
+abbrev pub one_database : List ℕ
+one_database = error (codes "SELECT: with --text there is database 0 alone; give each application's sets names of their own")
 
 abbrev pub bad_syntax : List ℕ
 bad_syntax = error (codes "syntax error")
+
+abbrev pub bad_set : List ℕ
+bad_set = error (codes "syntax error: SET takes NX alone, as in SET key value NX")
 
 abbrev pub bad_cursor : List ℕ
 bad_cursor = error (codes "invalid cursor")
@@ -55,27 +70,27 @@ long_value = error (codes "values are not kept, and may have 64 bytes")
 abbrev pub wrong_count : List ℕ → List ℕ
 wrong_count name = error (codes "wrong number of arguments for '" ++ name ++ codes "' command")
 
--- a byte of a word that stands in an error: no line ends in it
+-- a byte of an argument that stands in an error: no line ends in it
 abbrev pub on_line : ℕ → ℕ
 on_line b = if (b == carriage_return) then 32 else (if b == line_feed then 32 else b)
 
--- so many bytes of a word
+-- so many bytes of an argument
 abbrev pub shown : ℕ → List ℕ → List ℕ
-shown most word = map on_line (take most word)
+shown most argument = map on_line (take most argument)
 
--- words in quotes, as far as there is room for them
+-- arguments in quotes, as far as there is room for them
 abbrev pub shown_all : ℕ → List (List ℕ) → List ℕ
 shown_all room [] = []
-shown_all room (word ∷ words) =
+shown_all room (argument ∷ arguments) =
     if room == 0 then []
-    else codes "'" ++ shown room word ++ codes "' " ++ shown_all (room - (length (shown room word) + 3)) words
+    else codes "'" ++ shown room argument ++ codes "' " ++ shown_all (room - (length (shown room argument) + 3)) arguments
 
 abbrev pub unknown : List (List ℕ) → List ℕ
-unknown words = error (codes "unknown command '" ++ shown 128 (word words 0) ++ codes "', with args beginning with: " ++ shown_all 128 (drop 1 words))
+unknown arguments = error (codes "unknown command '" ++ shown 128 (argument arguments 0) ++ codes "', with args beginning with: " ++ shown_all 128 (drop 1 arguments))
 
 abbrev pub unknown_subcommand : Command → List ℕ → List ℕ
-unknown_subcommand command word =
-    error (codes "unknown subcommand '" ++ shown 128 word ++ codes "'. Try " ++ map to_ascii_uppercase (name_of command) ++ codes " HELP.")
+unknown_subcommand command argument =
+    error (codes "unknown subcommand '" ++ shown 128 argument ++ codes "'. Try " ++ map to_ascii_uppercase (name_of command) ++ codes " HELP.")
 
 abbrev pub no_version : List ℕ
 no_version = error (codes "Protocol version is not an integer or out of range")
@@ -85,16 +100,29 @@ other_version = codes "-NOPROTO unsupported protocol version\r\n"
 
 -- an option of HELLO: there are no passwords, and no name is kept
 abbrev pub hello_option : List ℕ → List ℕ
-hello_option word = error (codes "Syntax error in HELLO option '" ++ shown 128 word ++ codes "'")
+hello_option argument = error (codes "Syntax error in HELLO option '" ++ shown 128 argument ++ codes "'")
 
 abbrev pub ok_text : List ℕ
 ok_text = codes "+OK\r\n"
 
+abbrev pub reset_text : List ℕ
+reset_text = codes "+RESET\r\n"
+
+-- no command is kept for later, and none is done at once in its place
+abbrev pub no_transactions : List ℕ
+no_transactions = error (codes "transactions aren't served; nothing is done until EXEC or DISCARD")
+
+abbrev pub exec_alone : List ℕ
+exec_alone = error (codes "EXEC without MULTI")
+
+abbrev pub discard_alone : List ℕ
+discard_alone = error (codes "DISCARD without MULTI")
+
 abbrev pub nil_text : List ℕ
 nil_text = codes "$-1\r\n"
 
-abbrev pub no_words_text : List ℕ
-no_words_text = codes "*0\r\n"
+abbrev pub no_arguments_text : List ℕ
+no_arguments_text = codes "*0\r\n"
 
 -- the service's name, the version of Redis whose words these are, the protocol's number, and no client's number
 abbrev pub hello_text : List ℕ
@@ -112,7 +140,7 @@ in_subset form (Some subset) members = asked form (requests_of form subset membe
 
 -- members of the subset that the frame names
 abbrev pub in_named : Form → Selected → List (List ℕ) → Item
-in_named form selected words = in_subset form (of_name selected (word words 1)) (drop 2 words)
+in_named form selected arguments = in_subset form (of_name selected (argument arguments 1)) (drop 2 arguments)
 
 -- members of the subset of a command that names none
 abbrev pub in_unnamed : Form → Selected → List (List ℕ) → Item
@@ -120,17 +148,17 @@ in_unnamed form selected members = in_subset form (Some (unnamed selected)) memb
 
 -- a member with a value
 abbrev pub with_value : Form → Selected → List (List ℕ) → Item
-with_value form selected words =
-    if nat_lt most_value (length (word words 2)) then Says long_value else in_unnamed form selected (word words 1 ∷ [])
+with_value form selected arguments =
+    if nat_lt most_value (length (argument arguments 2)) then Says long_value else in_unnamed form selected (argument arguments 1 ∷ [])
 
 -- a greeting by the version of the protocol that a client asks for
 abbrev pub hello_by : Option ℕ → List (List ℕ) → List ℕ
-hello_by None words = no_version
-hello_by (Some n) words =
-    if n == 2 then (if nat_lt 2 (length words) then hello_option (word words 2) else hello_text) else other_version
+hello_by None arguments = no_version
+hello_by (Some n) arguments =
+    if n == 2 then (if nat_lt 2 (length arguments) then hello_option (argument arguments 2) else hello_text) else other_version
 
 abbrev pub hello : List (List ℕ) → List ℕ
-hello words = if nat_lt 1 (length words) then hello_by (number_in 0 largest_read (word words 1)) words else hello_text
+hello arguments = if nat_lt 1 (length arguments) then hello_by (number_in 0 largest_read (argument arguments 1)) arguments else hello_text
 
 -- no name and no setting is kept, and no command is described
 abbrev pub subtext_of : Subcommand → List ℕ
@@ -139,97 +167,107 @@ subtext_of Setname = ok_text
 subtext_of Setinfo = ok_text
 subtext_of NoEvict = ok_text
 subtext_of NoTouch = ok_text
-subtext_of Count = codes ":22\r\n"
-subtext_of Docs = no_words_text
-subtext_of Info = no_words_text
-subtext_of Get = no_words_text
+subtext_of Count = codes ":25\r\n"
+subtext_of Docs = no_arguments_text
+subtext_of Info = no_arguments_text
+subtext_of Get = no_arguments_text
 
 abbrev pub subtext_by : Command → Option Subcommand → List (List ℕ) → List ℕ
-subtext_by command None words = unknown_subcommand command (word words 1)
-subtext_by command (Some subcommand) words =
-    if subtakes subcommand (length words) then subtext_of subcommand else wrong_count (name_of command ++ codes "|" ++ subname_of subcommand)
+subtext_by command None arguments = unknown_subcommand command (argument arguments 1)
+subtext_by command (Some subcommand) arguments =
+    if subtakes subcommand (length arguments) then subtext_of subcommand else wrong_count (name_of command ++ codes "|" ++ subname_of subcommand)
 
 -- what a command's subcommand is answered
 abbrev pub subtext : Command → List (List ℕ) → List ℕ
-subtext command words = subtext_by command (subcommand_of command (word words 1)) words
+subtext command arguments = subtext_by command (subcommand_of command (argument arguments 1)) arguments
 
 -- the sections that are asked for: all, unless some are named
 abbrev pub sections_in : List (List ℕ) → Sections
-sections_in words = if length words == 2 then sections_of (word words 1) else All
+sections_in arguments = if length arguments == 2 then sections_of (argument arguments 1) else All
 
 -- what SHUTDOWN is told of the members, which are kept in any case
 abbrev pub is_saving : List ℕ → Bool
-is_saving word = is_word (codes "nosave") word || is_word (codes "save") word
+is_saving argument = is_name (codes "nosave") argument || is_name (codes "save") argument
 
 abbrev pub may_shut_down : List (List ℕ) → Bool
-may_shut_down words = (length words == 1) || ((length words == 2) && is_saving (word words 1))
+may_shut_down arguments = (length arguments == 1) || ((length arguments == 2) && is_saving (argument arguments 1))
 
 -- a page of a room from a slot on, with so many keys at most
 abbrev pub page_of : ℕ → ℕ → Option ℕ → Item
-page_of room from None = Says no_key
+page_of room from None = Says no_number
 page_of room from (Some most) = if most == 0 then Says bad_syntax else Lists (record { room = room; from = from; most = min most most_listed })
 
 -- the same, as many as the frame asks for, if it does
 abbrev pub page_from : ℕ → Option ℕ → List (List ℕ) → Item
-page_from room None words = Says bad_cursor
-page_from room (Some from) words =
-    if length words == 3 then page_of room from (Some few_listed)
-    else (if (length words == 5) && is_word (codes "count") (word words 3) then page_of room from (number_in 0 largest_read (word words 4)) else Says bad_syntax)
+page_from room None arguments = Says bad_cursor
+page_from room (Some from) arguments =
+    if length arguments == 3 then page_of room from (Some few_listed)
+    else (if (length arguments == 5) && is_name (codes "count") (argument arguments 3) then page_of room from (number_in 0 largest_read (argument arguments 4)) else Says bad_syntax)
 
 abbrev pub page_in : Option ℕ → List (List ℕ) → Item
-page_in None words = Says no_room
-page_in (Some room) words = page_from room (number_in 0 most_slots (word words 2)) words
+page_in None arguments = Says no_room
+page_in (Some room) arguments = page_from room (number_in 0 most_slots (argument arguments 2)) arguments
 
 -- what is asked of a room's members, one page after the other; a cursor is a slot
 abbrev pub scan_of : Selected → List (List ℕ) → Item
-scan_of (Room n) words = page_in (room_of (word words 1)) words
-scan_of Nameless words = Says no_texts
+scan_of (Room n) arguments = page_in (room_of (argument arguments 1)) arguments
+scan_of Nameless arguments = Says no_texts
+
+-- what a client is told that selects this room: texts are in database 0
+abbrev pub select_of : Selected → Option ℕ → Item
+select_of (Room n) None = Says no_database
+select_of (Room n) (Some room) = Says ok_text
+select_of Nameless None = Says one_database
+select_of Nameless (Some room) = if room == 0 then Says ok_text else Says one_database
 
 -- what a frame that the command takes comes to, where this is selected
 abbrev pub item_by : Command → Selected → List (List ℕ) → Item
-item_by Sadd selected words = in_named Added selected words
-item_by Srem selected words = in_named Removed selected words
-item_by Sismember selected words = in_named Found selected words
-item_by Smismember selected words = in_named Each selected words
-item_by Sscan selected words = scan_of selected words
-item_by Exists selected words = in_unnamed Found selected (drop 1 words)
-item_by Del selected words = in_unnamed Removed selected (drop 1 words)
-item_by Unlink selected words = in_unnamed Removed selected (drop 1 words)
-item_by Setnx selected words = with_value Added selected words
-item_by Set selected words =
-    if (length words == 4) && is_word (codes "nx") (word words 3) then with_value Stored selected words else Says bad_syntax
-item_by Select selected words = if is_some (room_of (word words 1)) then Says ok_text else Says no_room
-item_by Ping selected words = if length words == 2 then Says (bulk (word words 1)) else Says (codes "+PONG\r\n")
-item_by Echo selected words = Says (bulk (word words 1))
-item_by Quit selected words = Ends ok_text
-item_by Reset selected words = Says (codes "+RESET\r\n")
-item_by Hello selected words = Says (hello words)
-item_by Client selected words = Says (subtext Client words)
-item_by Catalog selected words = if length words == 1 then Says no_words_text else Says (subtext Catalog words)
-item_by Config selected words = Says (subtext Config words)
-item_by Dbsize selected words = Tells query.Size
-item_by AskInfo selected words = Tells (query.Info (sections_in words))
-item_by Shutdown selected words = if may_shut_down words then Tells query.Shutdown else Says bad_syntax
+item_by Sadd selected arguments = in_named Added selected arguments
+item_by Srem selected arguments = in_named Removed selected arguments
+item_by Sismember selected arguments = in_named Found selected arguments
+item_by Smismember selected arguments = in_named Each selected arguments
+item_by Sscan selected arguments = scan_of selected arguments
+item_by Exists selected arguments = in_unnamed Found selected (drop 1 arguments)
+item_by Del selected arguments = in_unnamed Removed selected (drop 1 arguments)
+item_by Unlink selected arguments = in_unnamed Removed selected (drop 1 arguments)
+item_by Setnx selected arguments = with_value Added selected arguments
+item_by Set selected arguments =
+    if (length arguments == 4) && is_name (codes "nx") (argument arguments 3) then with_value Stored selected arguments else Says bad_set
+item_by Select selected arguments = select_of selected (room_of (argument arguments 1))
+item_by Ping selected arguments = if length arguments == 2 then Says (bulk (argument arguments 1)) else Says (codes "+PONG\r\n")
+item_by Echo selected arguments = Says (bulk (argument arguments 1))
+item_by Quit selected arguments = Ends ok_text
+item_by Reset selected arguments = Says reset_text
+item_by Hello selected arguments = Says (hello arguments)
+item_by Client selected arguments = Says (subtext Client arguments)
+item_by Catalog selected arguments = if length arguments == 1 then Says no_arguments_text else Says (subtext Catalog arguments)
+item_by Config selected arguments = Says (subtext Config arguments)
+item_by Dbsize selected arguments = Tells query.Size
+item_by AskInfo selected arguments = Tells (query.Info (sections_in arguments))
+item_by Multi selected arguments = Says no_transactions
+item_by Exec selected arguments = Says exec_alone
+item_by Discard selected arguments = Says discard_alone
+item_by Shutdown selected arguments = if may_shut_down arguments then Tells query.Shutdown else Says bad_syntax
 
 abbrev pub item_with : Option Command → Selected → List (List ℕ) → Item
-item_with None selected words = Says (unknown words)
-item_with (Some command) selected words = if takes command (length words) then item_by command selected words else Says (wrong_count (name_of command))
+item_with None selected arguments = Says (unknown arguments)
+item_with (Some command) selected arguments = if takes command (length arguments) then item_by command selected arguments else Says (wrong_count (name_of command))
 
--- what a frame of some words comes to
+-- what a frame of some arguments comes to
 abbrev pub item_of : Selected → List (List ℕ) → Item
-item_of selected words = item_with (command_of (word words 0)) selected words
+item_of selected arguments = item_with (command_of (argument arguments 0)) selected arguments
 
 -- the room that a command selects
 abbrev pub room_by : Option Command → ℕ → List (List ℕ) → ℕ
-room_by (Some Select) room words = if length words == 2 then unwrap_or (room_of (word words 1)) room else room
-room_by (Some Reset) room words = if length words == 1 then 0 else room
-room_by command room words = room
+room_by (Some Select) room arguments = if length arguments == 2 then unwrap_or (room_of (argument arguments 1)) room else room
+room_by (Some Reset) room arguments = if length arguments == 1 then 0 else room
+room_by command room arguments = room
 
 -- what a command selects: texts have no rooms
 abbrev pub selected_by : Option Command → Selected → List (List ℕ) → Selected
-selected_by command (Room room) words = Room (room_by command room words)
-selected_by command Nameless words = Nameless
+selected_by command (Room room) arguments = Room (room_by command room arguments)
+selected_by command Nameless arguments = Nameless
 
 -- what is selected after a frame
 abbrev pub selected_after : Selected → List (List ℕ) → Selected
-selected_after selected words = selected_by (command_of (word words 0)) selected words
+selected_after selected arguments = selected_by (command_of (argument arguments 0)) selected arguments

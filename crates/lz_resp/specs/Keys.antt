@@ -1,11 +1,11 @@
 -- Parts of the set and the keys of their members. A part's name is a room and a member a number, or both are any bytes.
 use Rattle.lz_resp.specs.declared.subset.Subset.TheVariants as borrowed
-use Rattle.std.specs.Prelude.{◌≡◌, ℕ, ◌%◌, ◌≤◌, List, [], ◌++◌, length, Option, Some, option_map}
+use Rattle.std.specs.Prelude.{◌≡◌, ℕ, ◌%◌, ◌≤◌, false, List, [], ◌++◌, length, Option, Some, option_map}
 use Rattle.byteorder.specs.Endian.{big_bytes, big_number}
 use Rattle.sha2.specs.Sha256.{sha256}
 use Rattle.lz_slot.specs.{Limits.{largest_number, last_room, room_size}, Rooms.{rank}, Numerals.{number_in}}
-use Rattle.lz_resp.specs.{Limits.{most_word}, declared.naming.{Naming.{Naming, TheVariants.{Rooms, Texts}}, Selected.{Selected, TheVariants.{Room, Nameless}}}}
-use Rattle.lz_resp.specs.declared.subset.Subset.{Subset as Borrowed}
+use Rattle.lz_resp.specs.{Limits.{most_argument}, declared.naming.{Naming.{Naming, TheVariants.{Rooms, Texts}}, Selected.{Selected, TheVariants.{Room, Nameless}}}}
+use Rattle.lz_resp.specs.declared.{state.State.{State}, subset.Subset.{Subset as Borrowed}}
 
 -- A part of the set: a room, or what a name stands for in room 0.
 pub data Subset : Type 0 where
@@ -17,16 +17,20 @@ subset_of (borrowed.Room n) = room n
 subset_of (borrowed.Text name) = text name.now
 
 -- what is selected before any command
-abbrev pub at_first : Naming → Selected
-at_first Rooms = Room 0
-at_first Texts = Nameless
+abbrev pub selected_first : Naming → Selected
+selected_first Rooms = Room 0
+selected_first Texts = Nameless
+
+-- the same, and nothing is refused
+abbrev pub at_first : Naming → State
+at_first naming = record { selected = selected_first naming; refuses = false }
 
 -- the subset of a command that names none
 abbrev pub unnamed : Selected → Subset
 unnamed (Room n) = room n
 unnamed Nameless = text []
 
--- the room that a word names
+-- the room that an argument names
 abbrev pub room_of : List ℕ → Option ℕ
 room_of name = number_in 0 last_room name
 
@@ -60,5 +64,5 @@ IsThere (text name) = Unit {0}
 -- What is hashed is of one name and one member.
 abbrev pub HashedOnce : Type 0
 HashedOnce =
-    (name member other another : List ℕ) → length name ≤ most_word → length other ≤ most_word → hashed name member ≡ hashed other another
+    (name member other another : List ℕ) → length name ≤ most_argument → length other ≤ most_argument → hashed name member ≡ hashed other another
     → (name ≡ other) × (member ≡ another)

@@ -11,3 +11,4 @@ pub mod Reading
 pub mod Replies
 pub mod Scans
 pub mod Requests
+pub mod Transactions

@@ -1,13 +1,13 @@
 -- The limits of frames.
 use Rattle.std.specs.Prelude.{ℕ}
 
--- the most bytes of a word
-abbrev pub most_word : ℕ
-most_word = 512
+-- the most bytes of an argument
+abbrev pub most_argument : ℕ
+most_argument = 512
 
--- the most words of a frame
-abbrev pub most_words : ℕ
-most_words = 1024
+-- the most arguments of a frame
+abbrev pub most_arguments : ℕ
+most_arguments = 8192
 
 -- the most bytes of a frame
 abbrev pub most_frame : ℕ

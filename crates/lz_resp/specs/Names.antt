@@ -1,9 +1,9 @@
--- The commands, subcommands and sections: their names, and of how many words a frame is.
+-- The commands, subcommands and sections: their names, and of how many arguments a frame is.
 use Rattle.lz_resp.specs.declared.query.Sections.TheVariants as sections
 use Rattle.std.specs.Prelude.{ℕ, ◌==◌, ◌||◌, Bool, true, nat_eq, nat_le, if◌then◌else◌, List, [], ◌∷◌, codes, map, Option, None, Some}
 use Rattle.std.specs.{Char.{to_ascii_lowercase}, Cmp.Lexicographic.{pointwise}}
 use Rattle.lz_resp.specs.declared.command.Command.{Command, TheVariants.{Sadd, Srem, Sismember, Smismember, Sscan, Exists, Del, Unlink, Setnx, Set, Select}}
-use Rattle.lz_resp.specs.declared.command.Command.TheVariants.{Ping, Echo, Quit, Reset, Hello, Client, Catalog, Config, Dbsize, Info as AskInfo, Shutdown}
+use Rattle.lz_resp.specs.declared.command.Command.TheVariants.{Ping, Echo, Quit, Reset, Hello, Client, Catalog, Config, Dbsize, Info as AskInfo, Multi, Exec, Discard, Shutdown}
 use Rattle.lz_resp.specs.declared.{query.Sections.{Sections}, subcommand.Subcommand.{Subcommand}}
 use Rattle.lz_resp.specs.declared.subcommand.Subcommand.TheVariants.{Getname, Setname, Setinfo, NoEvict, NoTouch, Count, Docs, Info, Get}
 
@@ -29,13 +29,16 @@ name_of Catalog = codes "command"
 name_of Config = codes "config"
 name_of Dbsize = codes "dbsize"
 name_of AskInfo = codes "info"
+name_of Multi = codes "multi"
+name_of Exec = codes "exec"
+name_of Discard = codes "discard"
 name_of Shutdown = codes "shutdown"
 
 abbrev pub all_commands : List Command
 all_commands =
-    Sadd ∷ Srem ∷ Sismember ∷ Smismember ∷ Sscan ∷ Exists ∷ Del ∷ Unlink ∷ Setnx ∷ Set ∷ Select ∷ Ping ∷ Echo ∷ Quit ∷ Reset ∷ Hello ∷ Client ∷ Catalog ∷ Config ∷ Dbsize ∷ AskInfo ∷ Shutdown ∷ []
+    Sadd ∷ Srem ∷ Sismember ∷ Smismember ∷ Sscan ∷ Exists ∷ Del ∷ Unlink ∷ Setnx ∷ Set ∷ Select ∷ Ping ∷ Echo ∷ Quit ∷ Reset ∷ Hello ∷ Client ∷ Catalog ∷ Config ∷ Dbsize ∷ AskInfo ∷ Multi ∷ Exec ∷ Discard ∷ Shutdown ∷ []
 
--- the command takes a frame of so many words
+-- the command takes a frame of so many arguments
 abbrev pub takes : Command → ℕ → Bool
 takes Sadd n = nat_le 3 n
 takes Srem n = nat_le 3 n
@@ -58,6 +61,9 @@ takes Catalog n = true
 takes Config n = nat_le 2 n
 takes Dbsize n = n == 1
 takes AskInfo n = nat_le n 2
+takes Multi n = n == 1
+takes Exec n = n == 1
+takes Discard n = n == 1
 takes Shutdown n = true
 
 abbrev pub subname_of : Subcommand → List ℕ
@@ -77,7 +83,7 @@ subcommands Catalog = Count ∷ Docs ∷ Info ∷ []
 subcommands Config = Get ∷ []
 subcommands command = []
 
--- the subcommand takes a frame of so many words, those of both names among them
+-- the subcommand takes a frame of so many arguments, those of both names among them
 abbrev pub subtakes : Subcommand → ℕ → Bool
 subtakes Getname n = n == 2
 subtakes Setname n = n == 3
@@ -89,28 +95,28 @@ subtakes Docs n = nat_le 2 n
 subtakes Info n = nat_le 2 n
 subtakes Get n = nat_le 3 n
 
--- the word is this name, in capitals or not
-abbrev pub is_word : List ℕ → List ℕ → Bool
-is_word name word = pointwise nat_eq (map to_ascii_lowercase word) (map to_ascii_lowercase name)
+-- the argument is this name, in capitals or not
+abbrev pub is_name : List ℕ → List ℕ → Bool
+is_name name argument = pointwise nat_eq (map to_ascii_lowercase argument) (map to_ascii_lowercase name)
 
--- the first of these whose name the word is
+-- the first of these whose name the argument is
 abbrev pub named : {A : Type 0} → (A → List ℕ) → List A → List ℕ → Option A
-named names [] word = None
-named names (one ∷ others) word = if is_word (names one) word then Some one else named names others word
+named names [] argument = None
+named names (one ∷ others) argument = if is_name (names one) argument then Some one else named names others argument
 
 abbrev pub command_of : List ℕ → Option Command
-command_of word = named name_of all_commands word
+command_of argument = named name_of all_commands argument
 
 abbrev pub subcommand_of : Command → List ℕ → Option Subcommand
-subcommand_of command word = named subname_of (subcommands command) word
+subcommand_of command argument = named subname_of (subcommands command) argument
 
--- the sections that a word names
+-- the sections that an argument names
 abbrev pub sections_of : List ℕ → Sections
-sections_of word =
-    if is_word (codes "default") word || is_word (codes "all") word || is_word (codes "everything") word then sections.All
-    else (if is_word (codes "server") word then sections.Server
-    else (if is_word (codes "clients") word then sections.Clients
-    else (if is_word (codes "stats") word then sections.Stats
-    else (if is_word (codes "keyspace") word then sections.Keyspace
-    else (if is_word (codes "lazyset") word then sections.Lazyset
+sections_of argument =
+    if is_name (codes "default") argument || is_name (codes "all") argument || is_name (codes "everything") argument then sections.All
+    else (if is_name (codes "server") argument then sections.Server
+    else (if is_name (codes "clients") argument then sections.Clients
+    else (if is_name (codes "stats") argument then sections.Stats
+    else (if is_name (codes "keyspace") argument then sections.Keyspace
+    else (if is_name (codes "lazyset") argument then sections.Lazyset
     else sections.Missing)))))

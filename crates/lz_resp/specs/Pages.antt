@@ -2,7 +2,7 @@
 use Rattle.std.specs.Prelude.{◌≡◌, ℕ, zero, suc, ◌==◌, ◌≤◌, if◌then◌else◌, List, [], ◌∷◌, ◌++◌, nat_le, true, IfSome, codes, decimal, filter, length, map}
 use Rattle.std.specs.{Prelude.{Option, None, Some, Ok, Err}, List.{flat_map, list_all}}
 use Rattle.lz_slot.specs.{Limits.{largest_number, most_slots}, Numerals.{number_in}, Rooms.{number_of}}
-use Rattle.lz_resp.specs.{Frames.{bulk, line_end, star}, Limits.{most_listed, most_words}, Reading.{Front, and_then, line_at, word_at}}
+use Rattle.lz_resp.specs.{Frames.{bulk, line_end, star}, Limits.{most_listed, most_arguments}, Reading.{Front, and_then, line_at, argument_at}}
 use Rattle.lz_resp.specs.{Scans.{cursor_of, is_in, page_text}, declared.fault.Fault.{Fault, TheVariants.{Count}}}
 
 -- what asks for the page of a room from this cursor on
@@ -21,7 +21,7 @@ told_text next numbers =
 -- a page within the limits that each service keeps
 pub record IsPage (next : ℕ) (numbers : List ℕ) : Type 0 where
   pub cursor : next ≤ most_slots
-  pub few : length numbers ≤ most_words
+  pub few : length numbers ≤ most_arguments
   pub small : list_all (λ number. nat_le number largest_number) numbers ≡ true
 
 -- the numbers of those keys that are in the room
@@ -35,16 +35,16 @@ counted (Some number) rest = Ok (Some (number, rest))
 
 -- what follows a star
 abbrev pub count_at : List ℕ → Front ℕ
-count_at text = and_then (line_at Count text) (λ digits rest. counted (number_in 0 most_words digits) rest)
+count_at text = and_then (line_at Count text) (λ digits rest. counted (number_in 0 most_arguments digits) rest)
 
--- the number of words of an array
+-- the number of arguments of an array
 abbrev pub heading_at : List ℕ → Front ℕ
 heading_at [] = Ok None
 heading_at (b ∷ text) = if b == star then count_at text else Err Count
 
 -- a number up to this one, as a bulk string
 abbrev pub number_at : ℕ → List ℕ → Front ℕ
-number_at high text = and_then (word_at text) (λ word rest. counted (number_in 0 high word) rest)
+number_at high text = and_then (argument_at text) (λ argument rest. counted (number_in 0 high argument) rest)
 
 -- so many numbers
 abbrev pub numbers_at : ℕ → List ℕ → Front (List ℕ)

@@ -30,7 +30,7 @@ keyspace_text f = if f.members == 0 then codes "# Keyspace\r\n" else codes "# Ke
 
 abbrev pub lazyset_rows : Figures → List (List ℕ × ℕ)
 lazyset_rows f =
-    (codes "format", f.format) ∷ (codes "slots", f.slots) ∷ (codes "members", f.members) ∷ (codes "free", f.slots - f.members) ∷ (codes "buckets", f.buckets) ∷ (codes "passes", f.passes)
+    (codes "format", f.format) ∷ (codes "slots", f.slots) ∷ (codes "members", f.members) ∷ (codes "free", f.slots - f.members - f.marks) ∷ (codes "buckets", f.buckets) ∷ (codes "passes", f.passes)
     ∷ (codes "loops", f.loops) ∷ (codes "adds", f.adds) ∷ (codes "removes", f.removes) ∷ (codes "lookups", f.lookups) ∷ (codes "full", f.full) ∷ []
 
 unfoldable pub version_text : Figures → List ℕ

@@ -2,7 +2,7 @@
 use Rattle.std.specs.Prelude.{◌≡◌, ℕ, zero, suc, ◌-◌, ◌==◌, ◌&&◌, nat_lt, if◌then◌else◌, List, [], ◌∷◌, length, take, drop, codes, nat_eq, Option, None, Some}
 use Rattle.std.specs.{Prelude.{option_map, Result, Ok, Err}, List.{list_any, starts_with}}
 use Rattle.lz_slot.specs.{Numerals.{largest_read, number_in}, Texts.{parted}}
-use Rattle.lz_resp.specs.{Limits.{most_frame, most_word, most_words}, Frames.{star, dollar, is_quote, words_of, fits}, declared.fault.Fault.{Fault}}
+use Rattle.lz_resp.specs.{Limits.{most_frame, most_argument, most_arguments}, Frames.{star, dollar, is_quote, arguments_of, fits}, declared.fault.Fault.{Fault}}
 use Rattle.lz_resp.specs.declared.fault.{Fault.TheVariants.{Count, Length, NoBulk, NoEnd, Quotes, TooLong}, Stop.{Stop, TheVariants.{Memory, Faulty}}}
 use Rattle.lz_proto.specs.Lines.{line_feed, carriage_return}
 
@@ -29,46 +29,46 @@ line_of fault (Some p) = and_then (end_at fault (carriage_return ∷ p.1)) (λ _
 abbrev pub line_at : Fault → List ℕ → Front (List ℕ)
 line_at fault text = line_of fault (parted carriage_return text)
 
-abbrev pub word_of : Option ℕ → List ℕ → Front (List ℕ)
-word_of None text = Err Length
-word_of (Some n) text =
+abbrev pub argument_of : Option ℕ → List ℕ → Front (List ℕ)
+argument_of None text = Err Length
+argument_of (Some n) text =
     if nat_lt (length text) n then Ok None
     else and_then (end_at NoEnd (drop n text)) (λ _ rest. Ok (Some (take n text, rest)))
 
 -- what follows a dollar
 abbrev pub bulk_at : List ℕ → Front (List ℕ)
-bulk_at text = and_then (line_at Length text) (λ digits rest. word_of (number_in 0 most_word digits) rest)
+bulk_at text = and_then (line_at Length text) (λ digits rest. argument_of (number_in 0 most_argument digits) rest)
 
 -- a bulk string
-abbrev pub word_at : List ℕ → Front (List ℕ)
-word_at [] = Ok None
-word_at (b ∷ text) = if b == dollar then bulk_at text else Err (NoBulk b)
+abbrev pub argument_at : List ℕ → Front (List ℕ)
+argument_at [] = Ok None
+argument_at (b ∷ text) = if b == dollar then bulk_at text else Err (NoBulk b)
 
 -- so many bulk strings
-abbrev pub words_at : ℕ → List ℕ → Front (List (List ℕ))
-words_at zero text = Ok (Some ([], text))
-words_at (suc n) text = and_then (word_at text) (λ word rest. and_then (words_at n rest) (λ words after. Ok (Some (word ∷ words, after))))
+abbrev pub arguments_at : ℕ → List ℕ → Front (List (List ℕ))
+arguments_at zero text = Ok (Some ([], text))
+arguments_at (suc n) text = and_then (argument_at text) (λ argument rest. and_then (arguments_at n rest) (λ arguments after. Ok (Some (argument ∷ arguments, after))))
 
--- the number of words that digits tell: none where a minus stands before them
+-- the number of arguments that digits tell: none where a minus stands before them
 abbrev pub count_of : List ℕ → Option ℕ
 count_of digits =
     if starts_with nat_eq digits (codes "-") then option_map (λ _. 0) (number_in 1 largest_read (drop 1 digits))
-    else number_in 0 most_words digits
+    else number_in 0 most_arguments digits
 
 abbrev pub array_of : Option ℕ → List ℕ → Front (List (List ℕ))
 array_of None text = Err Count
-array_of (Some n) text = words_at n text
+array_of (Some n) text = arguments_at n text
 
 -- what follows a star
 abbrev pub array_at : List ℕ → Front (List (List ℕ))
 array_at text = and_then (line_at Count text) (λ digits rest. array_of (count_of digits) rest)
 
--- the words of a line, unless they are quoted, too many or too long
+-- the arguments of a line, unless they are quoted, too many or too long
 abbrev pub inline_of : Option (List ℕ × List ℕ) → Front (List (List ℕ))
 inline_of None = Ok None
 inline_of (Some p) =
     if list_any is_quote p.0 then Err Quotes
-    else (if fits (words_of p.0) then Ok (Some (words_of p.0, p.1)) else Err TooLong)
+    else (if fits (arguments_of p.0) then Ok (Some (arguments_of p.0, p.1)) else Err TooLong)
 
 abbrev pub inline_at : List ℕ → Front (List (List ℕ))
 inline_at text = inline_of (parted line_feed text)

@@ -1,12 +1,13 @@
 //! What a frame asks for.
 ghost use Rattle.std.specs.Prelude.{◌≡◌, ◌≤◌, ◌<◌, IfOk, None, Some, map, length, true};
 ghost use Rattle.lz_slot.specs.Limits.{last_room};
-ghost use Rattle.lz_resp.specs.Commands.{in_subset, in_named, in_unnamed, is_saving, item_by, item_of, item_with, may_shut_down, no_key, requests_of, room_by, sections_in, selected_after, selected_by, with_value, wrong_count};
+ghost use Rattle.lz_resp.specs.Commands.{in_subset, in_named, in_unnamed, is_saving, item_by, item_with, may_shut_down, no_key, requests_of, room_by, sections_in, selected_by, with_value, wrong_count};
 ghost use Rattle.lz_resp.specs.Keys.{IsThere, IsRoom, subset_of};
 ghost use Rattle.lz_resp.specs.Names.{name_of, takes};
 
-use crate::command::{Command, command_of, is_word};
-use crate::errors::{no_room, unknown, wrong_count};
+use crate::arguments::{after, argument};
+use crate::command::{Command, is_name};
+use crate::errors::{no_database, no_room, no_transactions, one_database, unknown, wrong_count};
 use crate::form::Form;
 use crate::greeting::{hello, subtext};
 use crate::item::{Item, Requests};
@@ -16,39 +17,39 @@ use crate::query::{Query, Sections};
 use crate::scanning::scan;
 use crate::subset::Subset;
 use crate::text::{Text, bulk, error};
-use crate::words::{after, word};
 use std::alloc::{AllocError, Global};
 
-/// What a frame of some words comes to, and what is selected after it.
-pub(crate) fn item_of(
+/// What a frame of some arguments comes to by the command that its first one names, and what is selected after it.
+pub(crate) fn item_with(
     alloc: Global,
+    command: Option<Command>,
     selected: &mut Selected,
-    words: &[&[u8]],
+    arguments: &[&[u8]],
 ) -> Result<Item, AllocError>
-    requires some { 0 < length words.now }
+    requires some { 0 < length arguments.now }
     requires range { IsRoom selected.old }
-    ensures item { IfOk result (λ item. item ≡ item_of selected.old (map (λ word. word.now) words.now)) }
-    ensures selected { selected.new ≡ selected_after selected.old (map (λ word. word.now) words.now) }
+    ensures item { IfOk result (λ item. item ≡ item_with command selected.old (map (λ argument. argument.now) arguments.now)) }
+    ensures selected { selected.new ≡ selected_by command selected.old (map (λ argument. argument.now) arguments.now) }
     ensures range { IsRoom selected.new }
 {
-    let Some(command) = command_of(word(words, 0)) else {
-        return no_command(alloc, words);
+    let Some(command) = command else {
+        return no_command(alloc, arguments);
     };
-    if !command.takes(words.len()) {
+    if !command.takes(arguments.len()) {
         return not_taken(alloc, command);
     }
     let before = *selected;
-    *selected = selected_by(command, before, words);
-    item_by(alloc, command, before, words)
+    *selected = selected_by(command, before, arguments);
+    item_by(alloc, command, before, arguments)
 }
 
-// The reply to a word that names no command.
+// The reply to an argument that names no command.
 #[inline(never)]
-fn no_command(alloc: Global, words: &[&[u8]]) -> Result<Item, AllocError>
-    requires { 0 < length words.now }
-    ensures { IfOk result (λ item. item ≡ item_with None Selected.Nameless (map (λ word. word.now) words.now)) }
+fn no_command(alloc: Global, arguments: &[&[u8]]) -> Result<Item, AllocError>
+    requires { 0 < length arguments.now }
+    ensures { IfOk result (λ item. item ≡ item_with None Selected.Nameless (map (λ argument. argument.now) arguments.now)) }
 {
-    Ok(Item::Says(unknown(alloc, words)?))
+    Ok(Item::Says(unknown(alloc, arguments)?))
 }
 
 // The reply to a frame that the command doesn't take.
@@ -64,39 +65,42 @@ fn item_by(
     alloc: Global,
     command: Command,
     selected: Selected,
-    words: &[&[u8]],
+    arguments: &[&[u8]],
 ) -> Result<Item, AllocError>
-    requires some { 0 < length words.now }
-    requires takes { takes command (length words.now) ≡ true }
+    requires some { 0 < length arguments.now }
+    requires takes { takes command (length arguments.now) ≡ true }
     requires range { IsRoom selected }
-    ensures { IfOk result (λ item. item ≡ item_by command selected (map (λ word. word.now) words.now)) }
+    ensures { IfOk result (λ item. item ≡ item_by command selected (map (λ argument. argument.now) arguments.now)) }
 {
     match command {
-        Command::Sadd => in_named(alloc, Form::Added, selected, words),
-        Command::Srem => in_named(alloc, Form::Removed, selected, words),
-        Command::Sismember => in_named(alloc, Form::Found, selected, words),
-        Command::Smismember => in_named(alloc, Form::Each, selected, words),
-        Command::Sscan => scan(alloc, selected, words),
-        Command::Exists => in_unnamed(alloc, Form::Found, selected, after(words, 1)),
+        Command::Sadd => in_named(alloc, Form::Added, selected, arguments),
+        Command::Srem => in_named(alloc, Form::Removed, selected, arguments),
+        Command::Sismember => in_named(alloc, Form::Found, selected, arguments),
+        Command::Smismember => in_named(alloc, Form::Each, selected, arguments),
+        Command::Sscan => scan(alloc, selected, arguments),
+        Command::Exists => in_unnamed(alloc, Form::Found, selected, after(arguments, 1)),
         Command::Del | Command::Unlink => in_unnamed(
             alloc,
             Form::Removed,
             selected,
-            after(words, 1),
+            after(arguments, 1),
         ),
-        Command::Setnx => with_value(alloc, Form::Added, selected, words),
-        Command::Set => set(alloc, selected, words),
-        Command::Select => select(alloc, words),
-        Command::Ping => ping(alloc, words),
-        Command::Echo => Ok(Item::Says(bulk(alloc, word(words, 1))?)),
+        Command::Setnx => with_value(alloc, Form::Added, selected, arguments),
+        Command::Set => set(alloc, selected, arguments),
+        Command::Select => select(alloc, selected, arguments),
+        Command::Ping => ping(alloc, arguments),
+        Command::Echo => Ok(Item::Says(bulk(alloc, argument(arguments, 1))?)),
         Command::Quit => Ok(Item::Ends(Text::of(alloc, b"+OK\r\n")?)),
         Command::Reset => Ok(Item::Says(Text::of(alloc, b"+RESET\r\n")?)),
-        Command::Hello => Ok(Item::Says(hello(alloc, words)?)),
-        Command::Catalog => Ok(Item::Says(catalog(alloc, words)?)),
-        Command::Client | Command::Config => Ok(Item::Says(subtext(alloc, command, words)?)),
+        Command::Multi => Ok(Item::Says(no_transactions(alloc)?)),
+        Command::Exec => Ok(Item::Says(error(alloc, b"EXEC without MULTI")?)),
+        Command::Discard => Ok(Item::Says(error(alloc, b"DISCARD without MULTI")?)),
+        Command::Hello => Ok(Item::Says(hello(alloc, arguments)?)),
+        Command::Catalog => Ok(Item::Says(catalog(alloc, arguments)?)),
+        Command::Client | Command::Config => Ok(Item::Says(subtext(alloc, command, arguments)?)),
         Command::Dbsize => Ok(Item::Tells(Query::Size)),
-        Command::Info => Ok(Item::Tells(Query::Info(sections_in(words)))),
-        Command::Shutdown => shut_down(alloc, words),
+        Command::Info => Ok(Item::Tells(Query::Info(sections_in(arguments)))),
+        Command::Shutdown => shut_down(alloc, arguments),
     }
 }
 
@@ -105,13 +109,13 @@ fn in_named(
     alloc: Global,
     form: Form,
     selected: Selected,
-    words: &[&[u8]],
+    arguments: &[&[u8]],
 ) -> Result<Item, AllocError>
-    requires { 3 ≤ length words.now }
-    ensures { IfOk result (λ item. item ≡ in_named form selected (map (λ word. word.now) words.now)) }
+    requires { 3 ≤ length arguments.now }
+    ensures { IfOk result (λ item. item ≡ in_named form selected (map (λ argument. argument.now) arguments.now)) }
 {
-    match selected.of_name(word(words, 1)) {
-        Some(subset) => in_subset(alloc, form, subset, after(words, 2)),
+    match selected.of_name(argument(arguments, 1)) {
+        Some(subset) => in_subset(alloc, form, subset, after(arguments, 2)),
         None => Ok(Item::Says(no_room(alloc)?)),
     }
 }
@@ -124,7 +128,7 @@ fn in_unnamed(
     members: &[&[u8]],
 ) -> Result<Item, AllocError>
     requires { IsRoom selected }
-    ensures { IfOk result (λ item. item ≡ in_unnamed form selected (map (λ word. word.now) members.now)) }
+    ensures { IfOk result (λ item. item ≡ in_unnamed form selected (map (λ argument. argument.now) members.now)) }
 {
     in_subset(alloc, form, selected.unnamed(), members)
 }
@@ -138,7 +142,7 @@ fn in_subset(
     members: &[&[u8]],
 ) -> Result<Item, AllocError>
     requires { IsThere (subset_of subset) }
-    ensures { IfOk result (λ item. item ≡ in_subset form (Some (subset_of subset.entry)) (map (λ word. word.now) members.now)) }
+    ensures { IfOk result (λ item. item ≡ in_subset form (Some (subset_of subset.entry)) (map (λ argument. argument.now) members.now)) }
 {
     if let [member] = members {
         return match subset.key_of(member) {
@@ -157,7 +161,10 @@ fn in_subset(
 fn no_key(alloc: Global) -> Result<Item, AllocError>
     ensures { IfOk result (λ item. item ≡ Item.Says no_key) }
 {
-    let text = error(alloc, b"value is not an integer or out of range")?;
+    let text = error(
+        alloc,
+        b"value is not an integer or out of range (serve --text takes texts)",
+    )?;
     Ok(Item::Says(text))
 }
 
@@ -170,7 +177,7 @@ fn requests_of(
     members: &[&[u8]],
 ) -> Result<Option<Requests>, AllocError>
     requires { IsThere (subset_of subset) }
-    ensures { IfOk result (λ requests. requests ≡ requests_of form (subset_of subset.entry) (map (λ word. word.now) members.now)) }
+    ensures { IfOk result (λ requests. requests ≡ requests_of form (subset_of subset.entry) (map (λ argument. argument.now) members.now)) }
 {
     let mut list = Vec::with_capacity(alloc, members.len())?;
     for member in members {
@@ -187,115 +194,122 @@ fn with_value(
     alloc: Global,
     form: Form,
     selected: Selected,
-    words: &[&[u8]],
+    arguments: &[&[u8]],
 ) -> Result<Item, AllocError>
-    requires words { 3 ≤ length words.now }
+    requires arguments { 3 ≤ length arguments.now }
     requires range { IsRoom selected }
-    ensures { IfOk result (λ item. item ≡ with_value form selected (map (λ word. word.now) words.now)) }
+    ensures { IfOk result (λ item. item ≡ with_value form selected (map (λ argument. argument.now) arguments.now)) }
 {
-    if MOST_VALUE < word(words, 2).len() {
+    if MOST_VALUE < argument(arguments, 2).len() {
         let text = error(alloc, b"values are not kept, and may have 64 bytes")?;
         return Ok(Item::Says(text));
     }
-    in_unnamed(alloc, form, selected, &[word(words, 1)])
+    in_unnamed(alloc, form, selected, &[argument(arguments, 1)])
 }
 
-fn set(alloc: Global, selected: Selected, words: &[&[u8]]) -> Result<Item, AllocError>
-    requires words { 3 ≤ length words.now }
+fn set(alloc: Global, selected: Selected, arguments: &[&[u8]]) -> Result<Item, AllocError>
+    requires arguments { 3 ≤ length arguments.now }
     requires range { IsRoom selected }
-    ensures { IfOk result (λ item. item ≡ item_by Command.Set selected (map (λ word. word.now) words.now)) }
+    ensures { IfOk result (λ item. item ≡ item_by Command.Set selected (map (λ argument. argument.now) arguments.now)) }
 {
-    if words.len() == 4 && is_word(b"nx", word(words, 3)) {
-        return with_value(alloc, Form::Stored, selected, words);
+    if arguments.len() == 4 && is_name(b"nx", argument(arguments, 3)) {
+        return with_value(alloc, Form::Stored, selected, arguments);
     }
-    Ok(Item::Says(error(alloc, b"syntax error")?))
+    let text = error(
+        alloc,
+        b"syntax error: SET takes NX alone, as in SET key value NX",
+    )?;
+    Ok(Item::Says(text))
 }
 
-fn select(alloc: Global, words: &[&[u8]]) -> Result<Item, AllocError>
-    requires { length words.now ≡ 2 }
-    ensures { IfOk result (λ item. item ≡ item_by Command.Select Selected.Nameless (map (λ word. word.now) words.now)) }
+fn select(alloc: Global, selected: Selected, arguments: &[&[u8]]) -> Result<Item, AllocError>
+    requires { length arguments.now ≡ 2 }
+    ensures { IfOk result (λ item. item ≡ item_by Command.Select selected (map (λ argument. argument.now) arguments.now)) }
 {
-    match room_of(word(words, 1)) {
-        Some(_) => Ok(Item::Says(Text::of(alloc, b"+OK\r\n")?)),
-        None => Ok(Item::Says(no_room(alloc)?)),
+    match (selected, room_of(argument(arguments, 1))) {
+        (Selected::Room(_), Some(_)) | (Selected::Nameless, Some(0)) => {
+            Ok(Item::Says(Text::of(alloc, b"+OK\r\n")?))
+        }
+        (Selected::Room(_), None) => Ok(Item::Says(no_database(alloc)?)),
+        (Selected::Nameless, _) => Ok(Item::Says(one_database(alloc)?)),
     }
 }
 
-fn ping(alloc: Global, words: &[&[u8]]) -> Result<Item, AllocError>
-    ensures { IfOk result (λ item. item ≡ item_by Command.Ping Selected.Nameless (map (λ word. word.now) words.now)) }
+fn ping(alloc: Global, arguments: &[&[u8]]) -> Result<Item, AllocError>
+    ensures { IfOk result (λ item. item ≡ item_by Command.Ping Selected.Nameless (map (λ argument. argument.now) arguments.now)) }
 {
-    if words.len() == 2 {
-        Ok(Item::Says(bulk(alloc, word(words, 1))?))
+    if arguments.len() == 2 {
+        Ok(Item::Says(bulk(alloc, argument(arguments, 1))?))
     } else {
         Ok(Item::Says(Text::of(alloc, b"+PONG\r\n")?))
     }
 }
 
 // What is told of the commands: none is described.
-fn catalog(alloc: Global, words: &[&[u8]]) -> Result<Text, AllocError>
-    requires { 0 < length words.now }
-    ensures { IfOk result (λ text. Item.Says text ≡ item_by Command.Catalog Selected.Nameless (map (λ word. word.now) words.now)) }
+fn catalog(alloc: Global, arguments: &[&[u8]]) -> Result<Text, AllocError>
+    requires { 0 < length arguments.now }
+    ensures { IfOk result (λ text. Item.Says text ≡ item_by Command.Catalog Selected.Nameless (map (λ argument. argument.now) arguments.now)) }
 {
-    if words.len() == 1 {
+    if arguments.len() == 1 {
         Text::of(alloc, b"*0\r\n")
     } else {
-        subtext(alloc, Command::Catalog, words)
+        subtext(alloc, Command::Catalog, arguments)
     }
 }
 
 // The sections that are asked for.
-fn sections_in(words: &[&[u8]]) -> Sections
-    ensures { result ≡ sections_in (map (λ word. word.now) words.now) }
+fn sections_in(arguments: &[&[u8]]) -> Sections
+    ensures { result ≡ sections_in (map (λ argument. argument.now) arguments.now) }
 {
-    if words.len() == 2 {
-        Sections::of(word(words, 1))
+    if arguments.len() == 2 {
+        Sections::of(argument(arguments, 1))
     } else {
         Sections::All
     }
 }
 
-fn shut_down(alloc: Global, words: &[&[u8]]) -> Result<Item, AllocError>
-    ensures { IfOk result (λ item. item ≡ item_by Command.Shutdown Selected.Nameless (map (λ word. word.now) words.now)) }
+fn shut_down(alloc: Global, arguments: &[&[u8]]) -> Result<Item, AllocError>
+    ensures { IfOk result (λ item. item ≡ item_by Command.Shutdown Selected.Nameless (map (λ argument. argument.now) arguments.now)) }
 {
-    if may_shut_down(words) {
+    if may_shut_down(arguments) {
         return Ok(Item::Tells(Query::Shutdown));
     }
     Ok(Item::Says(error(alloc, b"syntax error")?))
 }
 
-fn may_shut_down(words: &[&[u8]]) -> bool
-    ensures { result ≡ may_shut_down (map (λ word. word.now) words.now) }
+fn may_shut_down(arguments: &[&[u8]]) -> bool
+    ensures { result ≡ may_shut_down (map (λ argument. argument.now) arguments.now) }
 {
-    words.len() == 1 || words.len() == 2 && is_saving(word(words, 1))
+    arguments.len() == 1 || arguments.len() == 2 && is_saving(argument(arguments, 1))
 }
 
-fn is_saving(word: &[u8]) -> bool
-    ensures { result ≡ is_saving word.now }
+fn is_saving(argument: &[u8]) -> bool
+    ensures { result ≡ is_saving argument.now }
 {
-    is_word(b"nosave", word) || is_word(b"save", word)
+    is_name(b"nosave", argument) || is_name(b"save", argument)
 }
 
-// What a command selects.
-fn selected_by(command: Command, selected: Selected, words: &[&[u8]]) -> Selected
+/// What a command selects.
+pub(crate) fn selected_by(command: Command, selected: Selected, arguments: &[&[u8]]) -> Selected
     requires { IsRoom selected }
-    ensures selected { result ≡ selected_by (Some command) selected (map (λ word. word.now) words.now) }
+    ensures selected { result ≡ selected_by (Some command) selected (map (λ argument. argument.now) arguments.now) }
     ensures range { IsRoom result }
 {
     match selected {
-        Selected::Room(room) => Selected::Room(room_by(command, room, words)),
+        Selected::Room(room) => Selected::Room(room_by(command, room, arguments)),
         Selected::Nameless => Selected::Nameless,
     }
 }
 
 // The room that a command selects.
-fn room_by(command: Command, room: u8, words: &[&[u8]]) -> u8
+fn room_by(command: Command, room: u8, arguments: &[&[u8]]) -> u8
     requires { room ≤ last_room }
-    ensures room { result ≡ room_by (Some command) room (map (λ word. word.now) words.now) }
+    ensures room { result ≡ room_by (Some command) room (map (λ argument. argument.now) arguments.now) }
     ensures range { result ≤ last_room }
 {
     match command {
-        Command::Select if words.len() == 2 => room_of(word(words, 1)).unwrap_or(room),
-        Command::Reset if words.len() == 1 => 0,
+        Command::Select if arguments.len() == 2 => room_of(argument(arguments, 1)).unwrap_or(room),
+        Command::Reset if arguments.len() == 1 => 0,
         _ => room,
     }
 }

@@ -1,8 +1,8 @@
 //! Commands and their names.
 ghost use Rattle.std.specs.Prelude.{◌≡◌};
-ghost use Rattle.lz_resp.specs.Names.{command_of, is_word, name_of, takes};
+ghost use Rattle.lz_resp.specs.Names.{all_commands, command_of, is_name, name_of, takes};
 
-/// What the first word of a frame can name.
+/// What the first argument of a frame can name.
 #[derive(Clone, Copy, Debug, PartialEq, Eq)]
 pub(crate) enum Command {
     Sadd,
@@ -26,6 +26,9 @@ pub(crate) enum Command {
     Config,
     Dbsize,
     Info,
+    Multi,
+    Exec,
+    Discard,
     Shutdown,
 }
 
@@ -55,11 +58,14 @@ impl Command {
             Command::Config => "config",
             Command::Dbsize => "dbsize",
             Command::Info => "info",
+            Command::Multi => "multi",
+            Command::Exec => "exec",
+            Command::Discard => "discard",
             Command::Shutdown => "shutdown",
         }
     }
 
-    /// Whether a frame of so many words can be it.
+    /// Whether a frame of so many arguments can be it.
     pub(crate) fn takes(self, count: usize) -> bool
         ensures { result ≡ takes self count }
     {
@@ -72,87 +78,60 @@ impl Command {
             Command::Select | Command::Echo => count == 2,
             Command::Ping | Command::Info => count <= 2,
             Command::Reset | Command::Dbsize => count == 1,
+            Command::Multi | Command::Exec | Command::Discard => count == 1,
             Command::Quit | Command::Hello | Command::Catalog | Command::Shutdown => true,
         }
     }
 }
 
-/// The command that a word names, in capitals or not.
-pub(crate) fn command_of(word: &[u8]) -> Option<Command>
-    ensures { result ≡ command_of word.now }
+/// The command that an argument names, in capitals or not.
+pub(crate) fn command_of(argument: &[u8]) -> Option<Command>
+    ensures { result ≡ command_of argument.now }
 {
-    if is_word(b"sadd", word) {
-        return Some(Command::Sadd);
-    }
-    if is_word(b"srem", word) {
-        return Some(Command::Srem);
-    }
-    if is_word(b"sismember", word) {
-        return Some(Command::Sismember);
-    }
-    if is_word(b"smismember", word) {
-        return Some(Command::Smismember);
-    }
-    if is_word(b"sscan", word) {
-        return Some(Command::Sscan);
-    }
-    if is_word(b"exists", word) {
-        return Some(Command::Exists);
-    }
-    if is_word(b"del", word) {
-        return Some(Command::Del);
-    }
-    if is_word(b"unlink", word) {
-        return Some(Command::Unlink);
-    }
-    if is_word(b"setnx", word) {
-        return Some(Command::Setnx);
-    }
-    if is_word(b"set", word) {
-        return Some(Command::Set);
-    }
-    if is_word(b"select", word) {
-        return Some(Command::Select);
-    }
-    if is_word(b"ping", word) {
-        return Some(Command::Ping);
-    }
-    if is_word(b"echo", word) {
-        return Some(Command::Echo);
-    }
-    if is_word(b"quit", word) {
-        return Some(Command::Quit);
-    }
-    if is_word(b"reset", word) {
-        return Some(Command::Reset);
-    }
-    if is_word(b"hello", word) {
-        return Some(Command::Hello);
-    }
-    if is_word(b"client", word) {
-        return Some(Command::Client);
-    }
-    if is_word(b"command", word) {
-        return Some(Command::Catalog);
-    }
-    if is_word(b"config", word) {
-        return Some(Command::Config);
-    }
-    if is_word(b"dbsize", word) {
-        return Some(Command::Dbsize);
-    }
-    if is_word(b"info", word) {
-        return Some(Command::Info);
-    }
-    if is_word(b"shutdown", word) {
-        return Some(Command::Shutdown);
+    for command in commands() {
+        if is_name(command.name().as_bytes(), argument) {
+            return Some(*command);
+        }
     }
     None
 }
 
-/// Whether a word is this name, in capitals or not.
-pub(crate) fn is_word(name: &[u8], word: &[u8]) -> bool
-    ensures { result ≡ is_word name.now word.now }
+// All of them, in the order in which they are looked for: the most frequent ones first.
+fn commands() -> &'static [Command]
+    ensures { result.now ≡ all_commands }
 {
-    word.eq_ignore_ascii_case(name)
+    &[
+        Command::Sadd,
+        Command::Srem,
+        Command::Sismember,
+        Command::Smismember,
+        Command::Sscan,
+        Command::Exists,
+        Command::Del,
+        Command::Unlink,
+        Command::Setnx,
+        Command::Set,
+        Command::Select,
+        Command::Ping,
+        Command::Echo,
+        Command::Quit,
+        Command::Reset,
+        Command::Hello,
+        Command::Client,
+        Command::Catalog,
+        Command::Config,
+        Command::Dbsize,
+        Command::Info,
+        Command::Multi,
+        Command::Exec,
+        Command::Discard,
+        Command::Shutdown,
+    ]
+}
+
+/// Whether an argument is this name, in capitals or not.
+pub(crate) fn is_name(name: &[u8], argument: &[u8]) -> bool
+    ensures { result ≡ is_name name.now argument.now }
+{
+    argument.eq_ignore_ascii_case(name)
 }

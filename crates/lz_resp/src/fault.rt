@@ -7,9 +7,9 @@ use std::alloc::{AllocError, AllocFailed};
 /// Why a stream goes on in no frame, by the first test that it fails.
 #[derive(Clone, Copy, Debug, PartialEq, Eq)]
 pub enum Fault {
-    /// What follows a `*` is no number of words.
+    /// What follows a `*` is no number of arguments.
     Count,
-    /// What follows a `$` is no length of a word.
+    /// What follows a `$` is no length of an argument.
     Length,
     /// This byte stands where a `$` should.
     NoBulk(u8),
@@ -17,7 +17,7 @@ pub enum Fault {
     NoEnd,
     /// An inline frame has a `'` or a `"`.
     Quotes,
-    /// A frame has more than `MOST_FRAME` bytes, or an inline one more or longer words than a frame may have.
+    /// A frame has more than `MOST_FRAME` bytes, or an inline one more or longer arguments than a frame may have.
     TooLong,
 }
 

@@ -29,6 +29,8 @@ pub struct Figures {
     pub format: usize,
     pub slots: usize,
     pub members: usize,
+    /// How many slots hold marks, which say what the file is for and are no members.
+    pub marks: usize,
     pub buckets: usize,
     pub passes: usize,
     pub loops: usize,

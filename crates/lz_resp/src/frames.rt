@@ -5,23 +5,24 @@ ghost use Rattle.lz_resp.specs.Keys.{IsRoom};
 ghost use Rattle.lz_resp.specs.declared.item.Item.{Item};
 ghost use Rattle.lz_resp.specs.Pieces.{Adds, Feeds, IsInside, IsShort, Reads, goes, start, step, step_by, step_with, stops, waits};
 
-use crate::asking::item_of;
 use crate::fault::Stop;
 use crate::item::Item;
-use crate::naming::{Naming, Selected};
+use crate::naming::Naming;
 use crate::reading::read_first;
 use crate::reply::fault_text;
+use crate::state::State;
 use crate::three::read_three;
+use crate::transactions::item_in;
 use std::alloc::{AllocError, Global};
 use std::collections::VecDeque;
 use std::marker::Model;
 
-/// Cuts a text that comes in pieces into frames. Contracts see it as what is selected and the text of the unfinished frame,
+/// Cuts a text that comes in pieces into frames. Contracts see it as the state and the text of the unfinished frame,
 /// or none once nothing more is read.
 #[derive(Drop)]
 pub struct Frames {
     alloc: Global,
-    selected: Selected,
+    state: State,
     kept: Vec<u8>,
     over: bool,
 }
@@ -34,17 +35,17 @@ impl Model for Frames {
 
     ghost Value = { Option Place };
 
-    ghost view = { λ f. if f.over then None else Some (record { selected = f.selected; text = f.kept.items }) };
+    ghost view = { λ f. if f.over then None else Some (record { state = f.state; text = f.kept.items }) };
 
-    ghost invariant = { λ f. IsRoom f.selected × (step f.selected f.kept.items ≡ waits) × (length f.kept.items ≤ most_frame) };
+    ghost invariant = { λ f. IsRoom f.state.selected × (step f.state f.kept.items ≡ waits) × (length f.kept.items ≤ most_frame) };
 }
 
 // How a text goes on after what came first.
 enum Next {
     // no whole frame has come
     Waits,
-    // what is selected then, and how many bytes the frame has
-    Goes(Selected, usize),
+    // the state then, and how many bytes the frame has
+    Goes(State, usize),
     // nothing more is read
     Stops,
 }
@@ -56,7 +57,7 @@ impl Frames {
     {
         Frames {
             alloc,
-            selected: Selected::at_first(naming),
+            state: State::at_first(naming),
             kept: Vec::new(alloc),
             over: false,
         }
@@ -72,9 +73,9 @@ impl Frames {
             return Ok(());
         }
         let before = items.len();
-        match read_piece(self.alloc, self.selected, &mut self.kept, piece, items) {
-            Ok(Some(selected)) => {
-                self.selected = selected;
+        match read_piece(self.alloc, self.state, &mut self.kept, piece, items) {
+            Ok(Some(state)) => {
+                self.state = state;
                 Ok(())
             }
             Ok(None) => {
@@ -104,31 +105,31 @@ impl Frames {
     }
 }
 
-// Adds the items of the frames that end in a piece after the text that was kept, and keeps what is left. It gives what is
-// selected then, or none where nothing more is read.
+// Adds the items of the frames that end in a piece after the text that was kept, and keeps what is left. It gives the
+// state then, or none where nothing more is read.
 fn read_piece(
     alloc: Global,
-    selected: Selected,
+    state: State,
     kept: &mut Vec<u8>,
     piece: &[u8],
     items: &mut VecDeque<Item>,
-) -> Result<Option<Selected>, AllocError>
-    requires range { IsRoom selected }
-    ensures ok { IfOk result (λ next. (more : List Item) × Reads (record { selected = selected; text = kept.old.items ++ piece.now }) more (option_map (λ left. record { selected = left; text = kept.new.items }) next) × (items.new.items ≡ items.old.items ++ more)) }
-    ensures range { IfOk result (λ next. IfSome next (λ left. IsRoom left)) }
+) -> Result<Option<State>, AllocError>
+    requires range { IsRoom state.selected }
+    ensures ok { IfOk result (λ next. (more : List Item) × Reads (record { state = state; text = kept.old.items ++ piece.now }) more (option_map (λ left. record { state = left; text = kept.new.items }) next) × (items.new.items ≡ items.old.items ++ more)) }
+    ensures range { IfOk result (λ next. IfSome next (λ left. IsRoom left.selected)) }
     ensures waits { IfOk result (λ next. IfSome next (λ left. (step left kept.new.items ≡ waits) × (length kept.new.items ≤ most_frame))) }
     ensures kept { OnErr result (kept.new.items ≡ kept.old.items) }
     ensures items { OnErr result ((more : List Item) × (items.new.items ≡ items.old.items ++ more)) }
 {
     if kept.is_empty() {
-        return read_whole(alloc, selected, kept, piece, items);
+        return read_whole(alloc, state, kept, piece, items);
     }
     let before = kept.len();
     kept.extend_from_slice(piece)?;
-    match add_items(alloc, selected, kept.as_slice(), items) {
-        Ok(Some((selected, used))) => {
+    match add_items(alloc, state, kept.as_slice(), items) {
+        Ok(Some((state, used))) => {
             drop_front(kept, used);
-            Ok(Some(selected))
+            Ok(Some(state))
         }
         Ok(None) => Ok(None),
         Err(error) => {
@@ -141,20 +142,20 @@ fn read_piece(
 // The same where nothing was kept: the frames are read where they stand.
 fn read_whole(
     alloc: Global,
-    selected: Selected,
+    state: State,
     kept: &mut Vec<u8>,
     piece: &[u8],
     items: &mut VecDeque<Item>,
-) -> Result<Option<Selected>, AllocError>
-    requires range { IsRoom selected }
+) -> Result<Option<State>, AllocError>
+    requires range { IsRoom state.selected }
     requires none { kept.old.items ≡ [] }
-    ensures ok { IfOk result (λ next. (more : List Item) × Reads (record { selected = selected; text = piece.now }) more (option_map (λ left. record { selected = left; text = kept.new.items }) next) × (items.new.items ≡ items.old.items ++ more)) }
-    ensures range { IfOk result (λ next. IfSome next (λ left. IsRoom left)) }
+    ensures ok { IfOk result (λ next. (more : List Item) × Reads (record { state = state; text = piece.now }) more (option_map (λ left. record { state = left; text = kept.new.items }) next) × (items.new.items ≡ items.old.items ++ more)) }
+    ensures range { IfOk result (λ next. IfSome next (λ left. IsRoom left.selected)) }
     ensures waits { IfOk result (λ next. IfSome next (λ left. (step left kept.new.items ≡ waits) × (length kept.new.items ≤ most_frame))) }
     ensures kept { OnErr result (kept.new.items ≡ kept.old.items) }
     ensures items { OnErr result ((more : List Item) × (items.new.items ≡ items.old.items ++ more)) }
 {
-    let Some((next, used)) = add_items(alloc, selected, piece, items)? else {
+    let Some((next, used)) = add_items(alloc, state, piece, items)? else {
         return Ok(None);
     };
     let (_, rest) = piece.split_at(used);
@@ -172,50 +173,50 @@ fn drop_front(kept: &mut Vec<u8>, count: usize)
     kept.truncate(left);
 }
 
-// Adds the items of the frames of a text. It gives what is selected then, and how many bytes the frames have, or none where
+// Adds the items of the frames of a text. It gives the state then, and how many bytes the frames have, or none where
 // nothing more is read.
 fn add_items(
     alloc: Global,
-    selected: Selected,
+    state: State,
     text: &[u8],
     items: &mut VecDeque<Item>,
-) -> Result<Option<(Selected, usize)>, AllocError>
-    requires { IsRoom selected }
-    ensures ok { IfOk result (λ next. (more : List Item) × Reads (record { selected = selected; text = text.now }) more (option_map (λ p. record { selected = p.0; text = drop p.1 text.now }) next) × (items.new.items ≡ items.old.items ++ more)) }
-    ensures range { IfOk result (λ next. IfSome next (λ p. IsRoom p.0 × (p.1 ≤ length text.now))) }
+) -> Result<Option<(State, usize)>, AllocError>
+    requires { IsRoom state.selected }
+    ensures ok { IfOk result (λ next. (more : List Item) × Reads (record { state = state; text = text.now }) more (option_map (λ p. record { state = p.0; text = drop p.1 text.now }) next) × (items.new.items ≡ items.old.items ++ more)) }
+    ensures range { IfOk result (λ next. IfSome next (λ p. IsRoom p.0.selected × (p.1 ≤ length text.now))) }
     ensures err { OnErr result ((more : List Item) × (items.new.items ≡ items.old.items ++ more)) }
 {
-    let mut selected = selected;
+    let mut state = state;
     let mut used = 0;
     'frames: while used < text.len() {
         let (_, rest) = text.split_at(used);
-        match add_first(alloc, selected, rest, items)? {
-            Next::Waits => return Ok(Some((selected, used))),
+        match add_first(alloc, state, rest, items)? {
+            Next::Waits => return Ok(Some((state, used))),
             Next::Goes(next, count) => {
-                selected = next;
+                state = next;
                 used += count;
             }
             Next::Stops => return Ok(None),
         }
     }
-    Ok(Some((selected, used)))
+    Ok(Some((state, used)))
 }
 
 // Adds what comes first of a text.
 fn add_first(
     alloc: Global,
-    selected: Selected,
+    state: State,
     text: &[u8],
     items: &mut VecDeque<Item>,
 ) -> Result<Next, AllocError>
-    requires { IsRoom selected }
-    ensures ok { IfOk result (λ next. (more : List Item) × Adds (step selected text.now) next text.now more × (items.new.items ≡ items.old.items ++ more)) }
+    requires { IsRoom state.selected }
+    ensures ok { IfOk result (λ next. (more : List Item) × Adds (step state text.now) next text.now more × (items.new.items ≡ items.old.items ++ more)) }
     ensures range { IfOk result (λ next. IsInside next (length text.now)) }
     ensures err { OnErr result (items.new.items ≡ items.old.items) }
 {
     match read_three(text) {
-        Some(three) => add_frame(alloc, selected, &three.words, three.count, items),
-        None => add_any(alloc, selected, text, items),
+        Some(three) => add_frame(alloc, state, &three.arguments, three.count, items),
+        None => add_any(alloc, state, text, items),
     }
 }
 
@@ -223,17 +224,17 @@ fn add_first(
 #[inline(never)]
 fn add_any(
     alloc: Global,
-    selected: Selected,
+    state: State,
     text: &[u8],
     items: &mut VecDeque<Item>,
 ) -> Result<Next, AllocError>
-    requires { IsRoom selected }
-    ensures ok { IfOk result (λ next. (more : List Item) × Adds (step selected text.now) next text.now more × (items.new.items ≡ items.old.items ++ more)) }
+    requires { IsRoom state.selected }
+    ensures ok { IfOk result (λ next. (more : List Item) × Adds (step state text.now) next text.now more × (items.new.items ≡ items.old.items ++ more)) }
     ensures range { IfOk result (λ next. IsInside next (length text.now)) }
     ensures err { OnErr result (items.new.items ≡ items.old.items) }
 {
     match read_first(alloc, text) {
-        Ok(Some((words, count))) => add_frame(alloc, selected, words.as_slice(), count, items),
+        Ok(Some((arguments, count))) => add_frame(alloc, state, arguments.as_slice(), count, items),
         Ok(None) => Ok(Next::Waits),
         Err(Stop::Faulty(fault)) => {
             items.push_back(Item::Ends(fault_text(alloc, fault)?))?;
@@ -247,22 +248,22 @@ fn add_any(
 #[inline(always)]
 fn add_frame(
     alloc: Global,
-    selected: Selected,
-    words: &[&[u8]],
+    state: State,
+    arguments: &[&[u8]],
     count: usize,
     items: &mut VecDeque<Item>,
 ) -> Result<Next, AllocError>
-    requires range { IsRoom selected }
+    requires range { IsRoom state.selected }
     requires some { 0 < count }
-    ensures ok { IfOk result (λ next. (more : List Item) × ((text : List ℕ) → Adds (step_with selected (map (λ word. word.now) words.now) (drop count text)) next text more) × (items.new.items ≡ items.old.items ++ more)) }
+    ensures ok { IfOk result (λ next. (more : List Item) × ((text : List ℕ) → Adds (step_with state (map (λ argument. argument.now) arguments.now) (drop count text)) next text more) × (items.new.items ≡ items.old.items ++ more)) }
     ensures range { IfOk result (λ next. IsInside next count) }
     ensures err { OnErr result (items.new.items ≡ items.old.items) }
 {
-    if words.is_empty() {
-        return Ok(Next::Goes(selected, count));
+    if arguments.is_empty() {
+        return Ok(Next::Goes(state, count));
     }
-    let mut next = selected;
-    let item = item_of(alloc, &mut next, words)?;
+    let mut next = state;
+    let item = item_in(alloc, &mut next, arguments)?;
     let goes = goes_on(&item);
     items.reserve(1)?;
     items.push_back_reserved(item);
@@ -275,7 +276,7 @@ fn add_frame(
 
 // Whether a text is read on after an item.
 fn goes_on(item: &Item) -> bool
-    ensures { (selected : Selected) (rest : List ℕ) → step_by item.now selected rest ≡ (if result then goes (item.now ∷ []) selected rest else stops (item.now ∷ [])) }
+    ensures { (state : State) (rest : List ℕ) → step_by item.now state rest ≡ (if result then goes (item.now ∷ []) state rest else stops (item.now ∷ [])) }
 {
     !matches!(item, Item::Ends(_))
 }

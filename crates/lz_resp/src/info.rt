@@ -1,5 +1,5 @@
 //! What a service tells of itself.
-ghost use Rattle.std.specs.Prelude.{◌≡◌, ◌++◌, IfOk, OnOk};
+ghost use Rattle.std.specs.Prelude.{◌≡◌, ◌++◌, ◌-◌, IfOk, OnOk};
 ghost use Rattle.std.specs.List.{flat_map};
 ghost use Rattle.lz_resp.specs.Queries.{all_text, clients_text, info_text, keyspace_text, lazyset_text, row, run_text, server_text, stats_text, version_text};
 
@@ -102,7 +102,7 @@ fn push_lazyset(text: &mut Vec<u8>, figures: &Figures) -> Result<(), AllocError>
             ("format", figures.format),
             ("slots", figures.slots),
             ("members", figures.members),
-            ("free", figures.slots.saturating_sub(figures.members)),
+            ("free", free_of(figures)),
             ("buckets", figures.buckets),
             ("passes", figures.passes),
             ("loops", figures.loops),
@@ -113,6 +113,16 @@ fn push_lazyset(text: &mut Vec<u8>, figures: &Figures) -> Result<(), AllocError>
         ],
     )?;
     Ok(())
+}
+
+// How many slots hold neither a member nor a mark.
+fn free_of(figures: &Figures) -> usize
+    ensures { result ≡ figures.now.slots - figures.now.members - figures.now.marks }
+{
+    figures
+        .slots
+        .saturating_sub(figures.members)
+        .saturating_sub(figures.marks)
 }
 
 #[tactic(auto, unfolding(crate::specs::Queries::version_text))]

@@ -2,6 +2,7 @@
 ghost use Rattle.lz_resp.specs.Keys.{HashedOnce};
 ghost use Rattle.lz_resp.specs.Pages.{FaultsHaveNoPage, PagesAreRead, PagesAreSpelled, PagesAreToldAndRead};
 ghost use Rattle.lz_resp.specs.Pieces.{AnyPieces, FaultsHaveNoFrame, FramesAreRead, FramesAreSpelled, OneListOfItems};
+ghost use Rattle.lz_resp.specs.Transactions.{NothingIsDone};
 
 /// Each text has exactly one list of items.
 pub fn one_list_of_items()
@@ -11,6 +12,11 @@ pub fn one_list_of_items()
 /// However a text is cut into pieces, its items are those that the pieces give.
 pub fn any_pieces()
     ensures { AnyPieces }
+{}
+
+/// In a transaction nothing is asked, and what doesn't end it changes nothing.
+pub fn nothing_is_done()
+    ensures { NothingIsDone }
 {}
 
 /// A frame is read wherever one stands, whatever follows it.

@@ -5,6 +5,7 @@
 //! itself. `read_page` reads such a page, for a client. Each is exact: it gives what the definitions under `specs/` say.
 #![tactic(auto)]
 
+mod arguments;
 mod asking;
 mod command;
 mod digits;
@@ -25,18 +26,19 @@ mod reading;
 mod reply;
 mod scan;
 mod scanning;
+mod state;
 mod subcommand;
 mod subset;
 mod text;
 mod three;
-mod words;
+mod transactions;
 
 pub use fault::{Fault, Stop};
 pub use figures::Figures;
 pub use form::Form;
 pub use frames::Frames;
 pub use item::{Item, Requests};
-pub use limits::{MOST_FRAME, MOST_LISTED, MOST_VALUE, MOST_WORD, MOST_WORDS};
+pub use limits::{MOST_ARGUMENT, MOST_ARGUMENTS, MOST_FRAME, MOST_LISTED, MOST_VALUE};
 pub use naming::Naming;
 pub use page::{Page, page_request, read_page};
 pub use query::{Query, Sections};

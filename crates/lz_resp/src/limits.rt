@@ -1,10 +1,10 @@
 //! The limits of frames. Contracts and definitions take the same numbers from `specs/Limits.antt`.
 
-/// The most bytes of a word.
-pub const MOST_WORD: usize = 512;
+/// The most bytes of an argument.
+pub const MOST_ARGUMENT: usize = 512;
 
-/// The most words of a frame.
-pub const MOST_WORDS: usize = 1_024;
+/// The most arguments of a frame.
+pub const MOST_ARGUMENTS: usize = 8_192;
 
 /// The most bytes of a frame.
 pub const MOST_FRAME: usize = 65_536;

@@ -1,7 +1,7 @@
 //! How subsets are named.
 ghost use Rattle.std.specs.Prelude.{◌≡◌, ◌≤◌, IfSome, option_map};
 ghost use Rattle.lz_slot.specs.Limits.{last_room};
-ghost use Rattle.lz_resp.specs.Keys.{IsThere, IsRoom, at_first, subset_of, of_name, room_of, unnamed};
+ghost use Rattle.lz_resp.specs.Keys.{IsThere, IsRoom, selected_first, subset_of, of_name, room_of, unnamed};
 
 use crate::digits::digit_of;
 use crate::subset::Subset;
@@ -27,7 +27,7 @@ pub(crate) enum Selected {
 impl Selected {
     /// What is selected before any command.
     pub(crate) fn at_first(naming: Naming) -> Selected
-        ensures selected { result ≡ at_first naming }
+        ensures selected { result ≡ selected_first naming }
         ensures range { IsRoom result }
     {
         match naming {
@@ -60,7 +60,7 @@ impl Selected {
     }
 }
 
-/// The room that a word names.
+/// The room that an argument names.
 pub(crate) fn room_of(name: &[u8]) -> Option<u8>
     ensures room { result ≡ room_of name.now }
     ensures range { IfSome result (λ room. room ≤ last_room) }

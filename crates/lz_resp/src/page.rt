@@ -4,8 +4,8 @@ ghost use Rattle.lz_resp.specs.Pages.{count_at, heading_at, members_at, number_a
 ghost use Rattle.lz_resp.specs.Reading.{Gives, seen};
 
 use crate::fault::{Fault, Stop};
-use crate::limits::MOST_WORDS;
-use crate::reading::{read_line, read_word};
+use crate::limits::MOST_ARGUMENTS;
+use crate::reading::{read_argument, read_line};
 use crate::text::Text;
 use itoa::Buffer;
 use lz_slot::{MAX_NUMBER, MOST_SLOTS, read_number};
@@ -96,7 +96,7 @@ fn read_numbers(alloc: Global, count: u64, text: &[u8]) -> Result<Option<(Vec<u6
     Ok(Some((numbers, rest)))
 }
 
-// The number of words of an array, and what follows it.
+// The number of arguments of an array, and what follows it.
 fn read_heading(text: &[u8]) -> Result<Option<(u64, &[u8])>, Fault>
     ensures gives { seen (λ p. (p.0, p.1.now)) result ≡ heading_at text.now }
     ensures inside { IfOk result (λ found. IfSome found (λ p. length p.1.now ≤ length text.now)) }
@@ -116,7 +116,7 @@ fn read_count(text: &[u8]) -> Result<Option<(u64, &[u8])>, Fault>
     let Some((digits, rest)) = read_line(Fault::Count, text)? else {
         return Ok(None);
     };
-    match read_number(digits, 0, MOST_WORDS as u64) {
+    match read_number(digits, 0, MOST_ARGUMENTS as u64) {
         Some(count) => Ok(Some((count, rest))),
         None => Err(Fault::Count),
     }
@@ -127,10 +127,10 @@ fn read_told(high: u64, text: &[u8]) -> Result<Option<(u64, &[u8])>, Fault>
     ensures gives { seen (λ p. (p.0, p.1.now)) result ≡ number_at high text.now }
     ensures inside { IfOk result (λ found. IfSome found (λ p. length p.1.now ≤ length text.now)) }
 {
-    let Some((word, rest)) = read_word(text)? else {
+    let Some((argument, rest)) = read_argument(text)? else {
         return Ok(None);
     };
-    match read_number(word, 0, high) {
+    match read_number(argument, 0, high) {
         Some(number) => Ok(Some((number, rest))),
         None => Err(Fault::Count),
     }

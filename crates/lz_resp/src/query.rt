@@ -3,7 +3,7 @@ ghost use Rattle.std.specs.Prelude.{◌≡◌, IfOk};
 ghost use Rattle.lz_resp.specs.Names.{sections_of};
 ghost use Rattle.lz_resp.specs.Queries.{ends_service, query_text};
 
-use crate::command::is_word;
+use crate::command::is_name;
 use crate::figures::Figures;
 use crate::info::info;
 use crate::reply::push_integer;
@@ -24,26 +24,29 @@ pub enum Sections {
 }
 
 impl Sections {
-    /// The ones that a word names.
-    pub(crate) fn of(word: &[u8]) -> Sections
-        ensures { result ≡ sections_of word.now }
+    /// The ones that an argument names.
+    pub(crate) fn of(argument: &[u8]) -> Sections
+        ensures { result ≡ sections_of argument.now }
     {
-        if is_word(b"default", word) || is_word(b"all", word) || is_word(b"everything", word) {
+        if is_name(b"default", argument)
+            || is_name(b"all", argument)
+            || is_name(b"everything", argument)
+        {
             return Sections::All;
         }
-        if is_word(b"server", word) {
+        if is_name(b"server", argument) {
             return Sections::Server;
         }
-        if is_word(b"clients", word) {
+        if is_name(b"clients", argument) {
             return Sections::Clients;
         }
-        if is_word(b"stats", word) {
+        if is_name(b"stats", argument) {
             return Sections::Stats;
         }
-        if is_word(b"keyspace", word) {
+        if is_name(b"keyspace", argument) {
             return Sections::Keyspace;
         }
-        if is_word(b"lazyset", word) {
+        if is_name(b"lazyset", argument) {
             return Sections::Lazyset;
         }
         Sections::Missing

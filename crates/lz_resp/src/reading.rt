@@ -1,24 +1,24 @@
 //! The frame at the front of a text.
 ghost use Rattle.std.specs.Prelude.{◌≡◌, ◌≤◌, ◌<◌, IfOk, IfSome, Some, drop, length, map, nat_le};
 ghost use Rattle.std.specs.List.{list_all, list_any};
-ghost use Rattle.lz_resp.specs.Frames.{fits, is_blank, is_quote, words_of};
-ghost use Rattle.lz_resp.specs.Limits.{most_word};
-ghost use Rattle.lz_resp.specs.Reading.{Gives, array_at, bulk_at, count_of, end_at, first_of, frame_at, inline_at, line_at, seen, word_at, word_of, words_at};
+ghost use Rattle.lz_resp.specs.Frames.{fits, is_blank, is_quote, arguments_of};
+ghost use Rattle.lz_resp.specs.Limits.{most_argument};
+ghost use Rattle.lz_resp.specs.Reading.{Gives, array_at, bulk_at, count_of, end_at, first_of, frame_at, inline_at, line_at, seen, argument_at, argument_of, arguments_at};
 
 use crate::fault::{Fault, Stop};
-use crate::limits::{MOST_FRAME, MOST_WORD, MOST_WORDS};
+use crate::limits::{MOST_ARGUMENT, MOST_ARGUMENTS, MOST_FRAME};
 use lz_slot::read_number;
 use memchr::memchr;
 use std::alloc::{AllocError, Global};
 
-/// The words of the first frame of a text, and how many bytes it has; none where no whole one has come.
+/// The arguments of the first frame of a text, and how many bytes it has; none where no whole one has come.
 pub(crate) fn read_first(alloc: Global, text: &[u8]) -> Result<Option<(Vec<&[u8]>, usize)>, Stop>
-    ensures gives { Gives (λ p. (map (λ word. word.now) p.0.items, drop p.1 text.now)) result (first_of text.now) }
+    ensures gives { Gives (λ p. (map (λ argument. argument.now) p.0.items, drop p.1 text.now)) result (first_of text.now) }
     ensures inside { IfOk result (λ found. IfSome found (λ p. (0 < p.1) × (p.1 ≤ length text.now))) }
 {
     let window = &text[..text.len().min(MOST_FRAME)];
     match read_frame(alloc, window)? {
-        Some((words, rest)) => Ok(Some((words, window.len() - rest.len()))),
+        Some((arguments, rest)) => Ok(Some((arguments, window.len() - rest.len()))),
         None => {
             if MOST_FRAME < text.len() {
                 return Err(Stop::Faulty(Fault::TooLong));
@@ -28,9 +28,9 @@ pub(crate) fn read_first(alloc: Global, text: &[u8]) -> Result<Option<(Vec<&[u8]
     }
 }
 
-// The words of the frame at the front of a text, and what follows it.
+// The arguments of the frame at the front of a text, and what follows it.
 fn read_frame(alloc: Global, text: &[u8]) -> Result<Option<(Vec<&[u8]>, &[u8])>, Stop>
-    ensures gives { Gives (λ p. (map (λ word. word.now) p.0.items, p.1.now)) result (frame_at text.now) }
+    ensures gives { Gives (λ p. (map (λ argument. argument.now) p.0.items, p.1.now)) result (frame_at text.now) }
     ensures inside { IfOk result (λ found. IfSome found (λ p. length p.1.now < length text.now)) }
 {
     match text {
@@ -42,38 +42,42 @@ fn read_frame(alloc: Global, text: &[u8]) -> Result<Option<(Vec<&[u8]>, &[u8])>,
 
 // What follows a star.
 fn read_array(alloc: Global, text: &[u8]) -> Result<Option<(Vec<&[u8]>, &[u8])>, Stop>
-    ensures gives { Gives (λ p. (map (λ word. word.now) p.0.items, p.1.now)) result (array_at text.now) }
+    ensures gives { Gives (λ p. (map (λ argument. argument.now) p.0.items, p.1.now)) result (array_at text.now) }
     ensures inside { IfOk result (λ found. IfSome found (λ p. length p.1.now ≤ length text.now)) }
 {
     let Some((digits, rest)) = read_line(Fault::Count, text)? else {
         return Ok(None);
     };
     match count_of(digits) {
-        Some(count) => read_words(alloc, count, rest),
+        Some(count) => read_arguments(alloc, count, rest),
         None => Err(Stop::Faulty(Fault::Count)),
     }
 }
 
 // So many bulk strings, and what follows them.
-fn read_words(alloc: Global, count: usize, text: &[u8]) -> Result<Option<(Vec<&[u8]>, &[u8])>, Stop>
-    ensures gives { Gives (λ p. (map (λ word. word.now) p.0.items, p.1.now)) result (words_at count text.now) }
+fn read_arguments(
+    alloc: Global,
+    count: usize,
+    text: &[u8],
+) -> Result<Option<(Vec<&[u8]>, &[u8])>, Stop>
+    ensures gives { Gives (λ p. (map (λ argument. argument.now) p.0.items, p.1.now)) result (arguments_at count text.now) }
     ensures inside { IfOk result (λ found. IfSome found (λ p. length p.1.now ≤ length text.now)) }
 {
-    let mut words = Vec::new(alloc);
+    let mut arguments = Vec::new(alloc);
     let mut rest = text;
     'bulks: for _ in 0..count {
-        let Some((word, after)) = read_word(rest)? else {
+        let Some((argument, after)) = read_argument(rest)? else {
             return Ok(None);
         };
-        words.push(word)?;
+        arguments.push(argument)?;
         rest = after;
     }
-    Ok(Some((words, rest)))
+    Ok(Some((arguments, rest)))
 }
 
-// A line of words, and what follows it.
+// A line of arguments, and what follows it.
 fn read_inline(alloc: Global, text: &[u8]) -> Result<Option<(Vec<&[u8]>, &[u8])>, Stop>
-    ensures gives { Gives (λ p. (map (λ word. word.now) p.0.items, p.1.now)) result (inline_at text.now) }
+    ensures gives { Gives (λ p. (map (λ argument. argument.now) p.0.items, p.1.now)) result (inline_at text.now) }
     ensures inside { IfOk result (λ found. IfSome found (λ p. length p.1.now < length text.now)) }
 {
     let Some(end) = memchr(b'\n', text) else {
@@ -83,33 +87,35 @@ fn read_inline(alloc: Global, text: &[u8]) -> Result<Option<(Vec<&[u8]>, &[u8])>
     if has_quote(line) {
         return Err(Stop::Faulty(Fault::Quotes));
     }
-    let words = words_of(alloc, line)?;
-    if !fits(words.as_slice()) {
+    let arguments = arguments_of(alloc, line)?;
+    if !fits(arguments.as_slice()) {
         return Err(Stop::Faulty(Fault::TooLong));
     }
-    Ok(Some((words, &ended[1..])))
+    Ok(Some((arguments, &ended[1..])))
 }
 
-// The words of a line.
-fn words_of(alloc: Global, line: &[u8]) -> Result<Vec<&[u8]>, AllocError>
-    ensures { IfOk result (λ words. map (λ word. word.now) words.items ≡ words_of line.now) }
+// The arguments of a line.
+fn arguments_of(alloc: Global, line: &[u8]) -> Result<Vec<&[u8]>, AllocError>
+    ensures { IfOk result (λ arguments. map (λ argument. argument.now) arguments.items ≡ arguments_of line.now) }
 {
     line.split(|byte| is_blank(*byte))
-        .filter(|word| !word.is_empty())
+        .filter(|argument| !argument.is_empty())
         .collect(alloc)
 }
 
-// Whether a frame may have these words.
-fn fits(words: &[&[u8]]) -> bool
-    ensures { result ≡ fits (map (λ word. word.now) words.now) }
+// Whether a frame may have these arguments.
+fn fits(arguments: &[&[u8]]) -> bool
+    ensures { result ≡ fits (map (λ argument. argument.now) arguments.now) }
 {
-    words.len() <= MOST_WORDS && are_short(words)
+    arguments.len() <= MOST_ARGUMENTS && are_short(arguments)
 }
 
-fn are_short(words: &[&[u8]]) -> bool
-    ensures { result ≡ list_all (λ word. nat_le (length word.now) most_word) words.now }
+fn are_short(arguments: &[&[u8]]) -> bool
+    ensures { result ≡ list_all (λ argument. nat_le (length argument.now) most_argument) arguments.now }
 {
-    words.iter().all(|word| word.len() <= MOST_WORD)
+    arguments
+        .iter()
+        .all(|argument| argument.len() <= MOST_ARGUMENT)
 }
 
 fn has_quote(line: &[u8]) -> bool
@@ -130,7 +136,7 @@ fn is_quote(byte: u8) -> bool
     byte == b'"' || byte == b'\''
 }
 
-// The number of words that digits tell.
+// The number of arguments that digits tell.
 fn count_of(digits: &[u8]) -> Option<usize>
     ensures { result ≡ count_of digits.now }
 {
@@ -138,13 +144,13 @@ fn count_of(digits: &[u8]) -> Option<usize>
         read_number(&digits[1..], 1, u64::MAX)?;
         return Some(0);
     }
-    let count = read_number(digits, 0, MOST_WORDS as u64)?;
+    let count = read_number(digits, 0, MOST_ARGUMENTS as u64)?;
     Some(count as usize)
 }
 
 /// A bulk string's bytes, and what follows it.
-pub(crate) fn read_word(text: &[u8]) -> Result<Option<(&[u8], &[u8])>, Fault>
-    ensures gives { seen (λ p. (p.0.now, p.1.now)) result ≡ word_at text.now }
+pub(crate) fn read_argument(text: &[u8]) -> Result<Option<(&[u8], &[u8])>, Fault>
+    ensures gives { seen (λ p. (p.0.now, p.1.now)) result ≡ argument_at text.now }
     ensures inside { IfOk result (λ found. IfSome found (λ p. length p.1.now ≤ length text.now)) }
 {
     match text {
@@ -162,23 +168,23 @@ fn read_bulk(text: &[u8]) -> Result<Option<(&[u8], &[u8])>, Fault>
     let Some((digits, rest)) = read_line(Fault::Length, text)? else {
         return Ok(None);
     };
-    match read_number(digits, 0, MOST_WORD as u64) {
-        Some(count) => cut_word(count as usize, rest),
+    match read_number(digits, 0, MOST_ARGUMENT as u64) {
+        Some(count) => cut_argument(count as usize, rest),
         None => Err(Fault::Length),
     }
 }
 
-// A word of this length, which CR and LF follow, and what follows them.
-fn cut_word(count: usize, text: &[u8]) -> Result<Option<(&[u8], &[u8])>, Fault>
-    ensures gives { seen (λ p. (p.0.now, p.1.now)) result ≡ word_of (Some count) text.now }
+// An argument of this length, which CR and LF follow, and what follows them.
+fn cut_argument(count: usize, text: &[u8]) -> Result<Option<(&[u8], &[u8])>, Fault>
+    ensures gives { seen (λ p. (p.0.now, p.1.now)) result ≡ argument_of (Some count) text.now }
     ensures inside { IfOk result (λ found. IfSome found (λ p. length p.1.now ≤ length text.now)) }
 {
     if text.len() < count {
         return Ok(None);
     }
-    let (word, ended) = text.split_at(count);
+    let (argument, ended) = text.split_at(count);
     match read_end(Fault::NoEnd, ended)? {
-        Some(rest) => Ok(Some((word, rest))),
+        Some(rest) => Ok(Some((argument, rest))),
         None => Ok(None),
     }
 }

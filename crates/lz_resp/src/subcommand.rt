@@ -1,11 +1,11 @@
 //! Subcommands, their names and what they are answered.
 ghost use Rattle.std.specs.Prelude.{◌≡◌};
 ghost use Rattle.lz_resp.specs.Commands.{subtext_of};
-ghost use Rattle.lz_resp.specs.Names.{subcommand_of, subname_of, subtakes};
+ghost use Rattle.lz_resp.specs.Names.{subcommand_of, subcommands, subname_of, subtakes};
 
-use crate::command::{Command, is_word};
+use crate::command::{Command, is_name};
 
-/// What the second word of a frame can name.
+/// What the second argument of a frame can name.
 #[derive(Clone, Copy, Debug, PartialEq, Eq)]
 pub(crate) enum Subcommand {
     // of CLIENT
@@ -39,7 +39,7 @@ impl Subcommand {
         }
     }
 
-    /// Whether a frame of so many words can be it.
+    /// Whether a frame of so many arguments can be it.
     pub(crate) fn takes(self, count: usize) -> bool
         ensures { result ≡ subtakes self count }
     {
@@ -60,56 +60,38 @@ impl Subcommand {
             Subcommand::Getname => "$-1\r\n",
             Subcommand::Setname | Subcommand::Setinfo => "+OK\r\n",
             Subcommand::NoEvict | Subcommand::NoTouch => "+OK\r\n",
-            Subcommand::Count => ":22\r\n",
+            Subcommand::Count => ":25\r\n",
             Subcommand::Docs | Subcommand::Info | Subcommand::Get => "*0\r\n",
         }
     }
 }
 
-/// The subcommand of a command that a word names, in capitals or not.
-pub(crate) fn subcommand_of(command: Command, word: &[u8]) -> Option<Subcommand>
-    ensures { result ≡ subcommand_of command word.now }
+/// The subcommand of a command that an argument names, in capitals or not.
+pub(crate) fn subcommand_of(command: Command, argument: &[u8]) -> Option<Subcommand>
+    ensures { result ≡ subcommand_of command argument.now }
+{
+    for subcommand in subcommands(command) {
+        if is_name(subcommand.name().as_bytes(), argument) {
+            return Some(*subcommand);
+        }
+    }
+    None
+}
+
+// Those of a command.
+fn subcommands(command: Command) -> &'static [Subcommand]
+    ensures { result.now ≡ subcommands command }
 {
     match command {
-        Command::Client => client_of(word),
-        Command::Catalog => catalog_of(word),
-        Command::Config if is_word(b"get", word) => Some(Subcommand::Get),
-        _ => None,
+        Command::Client => &[
+            Subcommand::Getname,
+            Subcommand::Setname,
+            Subcommand::Setinfo,
+            Subcommand::NoEvict,
+            Subcommand::NoTouch,
+        ],
+        Command::Catalog => &[Subcommand::Count, Subcommand::Docs, Subcommand::Info],
+        Command::Config => &[Subcommand::Get],
+        _ => &[],
     }
-}
-
-fn client_of(word: &[u8]) -> Option<Subcommand>
-    ensures { result ≡ subcommand_of Command.Client word.now }
-{
-    if is_word(b"getname", word) {
-        return Some(Subcommand::Getname);
-    }
-    if is_word(b"setname", word) {
-        return Some(Subcommand::Setname);
-    }
-    if is_word(b"setinfo", word) {
-        return Some(Subcommand::Setinfo);
-    }
-    if is_word(b"no-evict", word) {
-        return Some(Subcommand::NoEvict);
-    }
-    if is_word(b"no-touch", word) {
-        return Some(Subcommand::NoTouch);
-    }
-    None
-}
-
-fn catalog_of(word: &[u8]) -> Option<Subcommand>
-    ensures { result ≡ subcommand_of Command.Catalog word.now }
-{
-    if is_word(b"count", word) {
-        return Some(Subcommand::Count);
-    }
-    if is_word(b"docs", word) {
-        return Some(Subcommand::Docs);
-    }
-    if is_word(b"info", word) {
-        return Some(Subcommand::Info);
-    }
-    None
 }

@@ -51,21 +51,21 @@ pub(crate) fn push_number(text: &mut Vec<u8>, number: usize) -> Result<(), Alloc
     text.extend_from_slice(digits.format(number).as_bytes())
 }
 
-/// A word as a bulk string.
-pub(crate) fn bulk(alloc: Global, word: &[u8]) -> Result<Text, AllocError>
-    ensures { IfOk result (λ text. text ≡ bulk word.now) }
+/// An argument as a bulk string.
+pub(crate) fn bulk(alloc: Global, argument: &[u8]) -> Result<Text, AllocError>
+    ensures { IfOk result (λ text. text ≡ bulk argument.now) }
 {
     let mut text = Vec::new(alloc);
-    push_bulk(&mut text, word)?;
+    push_bulk(&mut text, argument)?;
     Ok(Text::new(text))
 }
 
-/// Puts a word as a bulk string after a text.
-pub(crate) fn push_bulk(text: &mut Vec<u8>, word: &[u8]) -> Result<(), AllocError>
-    ensures { OnOk result (text.new.items ≡ text.old.items ++ bulk word.now) }
+/// Puts an argument as a bulk string after a text.
+pub(crate) fn push_bulk(text: &mut Vec<u8>, argument: &[u8]) -> Result<(), AllocError>
+    ensures { OnOk result (text.new.items ≡ text.old.items ++ bulk argument.now) }
 {
-    push_length(text, word.len())?;
-    text.extend_from_slice(word)?;
+    push_length(text, argument.len())?;
+    text.extend_from_slice(argument)?;
     text.extend_from_slice(b"\r\n")
 }
 
@@ -90,7 +90,7 @@ fn short_line(length: usize) -> [u8; 4]
     [b'$', b'0' + length as u8, b'\r', b'\n']
 }
 
-/// A byte of a word that stands in an error: no line ends in it.
+/// A byte of an argument that stands in an error: no line ends in it.
 pub(crate) fn on_line(byte: u8) -> u8
     ensures { result ≡ on_line byte }
 {

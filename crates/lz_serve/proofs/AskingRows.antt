@@ -8,7 +8,7 @@ use Rattle.lz_slot.specs.declared.format.Format.{Format}
 use Rattle.lz_machine.specs.{Orders.{Calling}, Yards.{Yard}}
 use Rattle.lz_proto.specs.declared.{request.Request.TheVariants.{Add, Has, Quit}, reply.Reply.{Reply, TheVariants.{Yes, Full}}}
 use Rattle.lz_board.specs.{declared.{pass.Pass.{Pass}, view.Part.{Part}}, Seats.{BoardId}}
-use Rattle.lz_set.specs.{declared.{fault.Fault.{Fault}, underway.Stage.{Stage, TheVariants.{Answers}}}, Stages.{StandsBefore}}
+use Rattle.lz_set.specs.{declared.{fault.Fault.{Fault}, underway.Blocked.{Blocked, TheVariants.{Answers}}}, Stages.{StandsBefore}}
 use Rattle.lz_serve.specs.{Clients.{Askers, AwaitsBeforeAt}, Desks.{AnswersOneOf}, Grants.{Posed}, Halts.{SawHalt}, Lines.{awaited, replied as has_reply}}
 use Rattle.lz_serve.specs.{Replies.{AreAskedAgain, IsCallAnswered, command_of, told_of}, Askings.{AnswersNoOther, Asked, HasAnswered, IsAnsweredWith}}
 use Rattle.lz_serve.specs.Askings.{IsAnswering, IsAsking, IsCounting, IsMadeAgain, IsSameQuestion, IsStopped, StillAwaits, WaitsForSlots}
@@ -57,7 +57,7 @@ waits_on b F clients a (waits, inr again) = let more = again.more in absurd (ome
 
 -- one is stopped that wasn't played on, or has its reply
 unplayed : (y : Yard) (a : Asked) → a.stage ≡ None → IsStopped y a → ⊥
-unplayed y a none stops = subst (λ (o : Option Stage). IsSomeAnd o (λ stage. IsSomeAnd a.call (λ k. StandsBefore y stage k))) none stops
+unplayed y a none stops = subst (λ (o : Option Blocked). IsSomeAnd o (λ stage. IsSomeAnd a.call (λ k. StandsBefore y stage k))) none stops
 
 replied : (y : Yard) (a : Asked) (k : Calling) → a.stage ≡ Some Answers → a.call ≡ Some k → IsStopped y a → ⊥
 replied y a k answers begun stops = grind arith

@@ -5,7 +5,7 @@ use Rattle.lz_slot.specs.declared.{command.Command.{Command}, format.Format.{For
 use Rattle.lz_machine.specs.Orders.{Calling}
 use Rattle.lz_proto.specs.declared.{request.Request.{Request}, reply.Reply.{Reply}}
 use Rattle.lz_board.specs.{declared.{pass.Pass.{Pass}, view.Part.{Part}}, Seats.{BoardId, IsOf, part}}
-use Rattle.lz_tie.specs.{Answers.{Answers}, Counting.{Counts, CountsOn}, OneCaller.{IsPlainAnswer, keys_in}}
+use Rattle.lz_refinement.specs.{Answers.{Answers}, Counting.{Counts, CountsOn}, OneCaller.{IsPlainAnswer, keys_in}}
 use Rattle.lz_set.specs.{declared.fault.Fault.{Fault}, Answers.{reply_of}, Names.{MayCall}}
 use Rattle.lz_serve.specs.{Halts.{IsCalmAfter}, Replies.{AreAskedAgain, SeatAnswers, asks_again, client_reply, says_halted, told_of}}
 use Rattle.lz_serve.specs.{Clients.{Askers, AwaitsBeforeAt, IsHeardAt}, Grants.{Posed}, Askings.{Asked, HasAnswered, IsAnsweredAt, IsAnsweredWith, IsAnswering}}

@@ -58,7 +58,7 @@ same_key p line =
 
 -- the second has its turn, though the first has a line
 abbrev pub two : Pass → List ℕ → Askers
-two p queue = record { admitted = 2; clients = Some (asks_on p (Has 6)) ∷ None ∷ []; queue = queue; scans = [] }
+two p queue = record { admitted = 2; clients = Some (asks_on p (Has 6)) ∷ None ∷ []; queue = queue; scans = []; begun = 0 }
 
 before_the_first : (p : Pass) (passed rest : List ℕ) → 0 ∷ 1 ∷ [] ≡ passed ++ 1 ∷ rest → All (HasNoneAt (two p [])) passed → ⊥
 before_the_first p [] rest is none = let one : ◌≡◌ {A = ℕ} 0 1 = cc in absurd (omega (arith, one))
@@ -76,7 +76,7 @@ put_elsewhere : (p q : Pass) → p ≢ q → IsOwn (asks p []) (posed 1 q) → �
 put_elsewhere p q other own = let put = (own refl).1 (lit< tt) in other (cc)
 
 -- a question is awaited of a connection that wasn't admitted
-of_nobody : (p : Pass) → IsAwaited (record { admitted = 0; clients = None ∷ []; queue = []; scans = [] }) 0 (posed 1 p) → ⊥
+of_nobody : (p : Pass) → IsAwaited (record { admitted = 0; clients = None ∷ []; queue = []; scans = []; begun = 0 }) 0 (posed 1 p) → ⊥
 of_nobody p is = let low = is.admitted in absurd (omega (arith, low))
 
 nothing_begun : (e : Publishing) → Begins (e ∷ []) [] → ⊥

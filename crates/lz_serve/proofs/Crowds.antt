@@ -33,7 +33,7 @@ takes_keeps a b token taken = grind arith
 -- where no client has come or changed
 
 pub leave_same : (a b : Askers) → b ≡ a → OnlyLeave a b
-leave_same a b is = subst (OnlyLeave a) (sym is) (record { admitted = refl; stay = λ token x there. there })
+leave_same a b is = subst (OnlyLeave a) (sym is) (record { admitted = refl; begun = refl; stay = λ token x there. there })
 
 left_so : (P : Asker → Type 0) (old new : Option (Option Asker)) → ((a : Asker) → new ≡ Some (Some a) → old ≡ Some (Some a)) → IfSome old (λ c. IfSome c P) → IfSome new (λ c. IfSome c P)
 left_so P old None stay so = tt
@@ -143,22 +143,22 @@ module _ {X : Type 0} (f : X → Option Asker) where
   other_at (p ∷ places) (suc at) new zero other = refl
   other_at (p ∷ places) (suc at) new (suc token) other = other_at places at new token (λ same. other (ap suc same))
 
-  abbrev pub at_places : ℕ → List ℕ → List ℕ → List X → Askers
-  at_places n queue scans places = record { admitted = n; clients = map f places; queue = queue; scans = scans }
+  abbrev pub at_places : ℕ → ℕ → List ℕ → List ℕ → List X → Askers
+  at_places begun n queue scans places = record { admitted = n; clients = map f places; queue = queue; scans = scans; begun = begun }
 
   -- no other client has changed, as its owner sees it
-  pub changes_at : (a : Askers) (n : ℕ) {queue scans : List ℕ} (places : List X) (at : ℕ) (new : X) → at_places n queue scans places ≡ a → ChangesAt at a (at_places n queue scans (set places at new))
-  changes_at a n {queue} {scans} places at new view_is = subst (λ (b : Askers). ChangesAt at b (at_places n queue scans (set places at new))) view_is (λ t other. other_at places at new t other)
+  pub changes_at : (a : Askers) (n : ℕ) {begun : ℕ} {queue scans : List ℕ} (places : List X) (at : ℕ) (new : X) → at_places begun n queue scans places ≡ a → ChangesAt at a (at_places begun n queue scans (set places at new))
+  changes_at a n {begun} {queue} {scans} places at new view_is = subst (λ (b : Askers). ChangesAt at b (at_places begun n queue scans (set places at new))) view_is (λ t other. other_at places at new t other)
 
   -- where others wait for their turn
-  pub keeps_here : (a : Askers) (n : ℕ) {queue later scans : List ℕ} (places : List X) → at_places n queue scans places ≡ a → Keeps a (at_places n later scans places)
-  keeps_here a n {queue} {later} {scans} places view_is = grind arith
+  pub keeps_here : (a : Askers) (n : ℕ) {begun now : ℕ} {queue later scans : List ℕ} (places : List X) → at_places begun n queue scans places ≡ a → Keeps a (at_places now n later scans places)
+  keeps_here a n {begun} {now} {queue} {later} {scans} places view_is = grind arith
 
   -- the client of a place leaves
-  pub leaves_at : (a : Askers) (n : ℕ) {queue later scans : List ℕ} (places : List X) (at : ℕ) (new : X) → at_places n queue scans places ≡ a → f new ≡ None → OnlyLeave a (at_places n later scans (set places at new))
-  leaves_at a n {queue} {later} {scans} places at new view_is gone = grind (arith, left_there)
+  pub leaves_at : (a : Askers) (n : ℕ) {begun : ℕ} {queue later scans : List ℕ} (places : List X) (at : ℕ) (new : X) → at_places begun n queue scans places ≡ a → f new ≡ None → OnlyLeave a (at_places begun n later scans (set places at new))
+  leaves_at a n {begun} {queue} {later} {scans} places at new view_is gone = grind (arith, left_there)
 
-  module _ (a : Askers) (n : ℕ) {queue scans : List ℕ} (places : List X) (at : ℕ) (old : X) (view_is : at_places n queue scans places ≡ a) (within : at < length places) (here : old ≡ get_or places at old) where
+  module _ (a : Askers) (n : ℕ) {begun : ℕ} {queue scans : List ℕ} (places : List X) (at : ℕ) (old : X) (view_is : at_places begun n queue scans places ≡ a) (within : at < length places) (here : old ≡ get_or places at old) where
     there : slice_get places at ≡ Some old
     there = slice_get_read places (length places) at old refl within here
 
@@ -185,17 +185,17 @@ module _ {X : Type 0} (f : X → Option Asker) where
         subst (λ (b : Askers). HasSeenIn b.admitted known (f old)) view_is (one_there (HasSeenIn n known) places at old there (subst (λ (b : Askers). HaveSeenIn b known) (sym view_is) are))
 
     module _ (new : X) where
-      pub keeps_awaited : {later : List ℕ} → KeepsOwn (f old) (f new) → KeepsAwaited a (at_places n later scans (set places at new))
-      keeps_awaited {later} own token q is = grind (arith, so_there, there)
+      pub keeps_awaited : {now : ℕ} {later : List ℕ} → KeepsOwn (f old) (f new) → KeepsAwaited a (at_places now n later scans (set places at new))
+      keeps_awaited {now} {later} own token q is = grind (arith, so_there, there)
 
-      pub keeps_heard : (later : List ℕ) → KeepsHeard (f old) (f new) → KeepsReplies a (at_places n later scans (set places at new))
-      keeps_heard later keeps token q is heard =
+      pub keeps_heard : (now : ℕ) (later : List ℕ) → KeepsHeard (f old) (f new) → KeepsReplies a (at_places now n later scans (set places at new))
+      keeps_heard now later keeps token q is heard =
           so_there (λ (c : Option Asker). IsHeardOf c q) places at old new token there (λ same was. keeps q (own_here q (subst (λ (m : ℕ). IsAwaited a m q) same is)) was) (subst (λ (b : Askers). IsHeardAt b token q) (sym view_is) heard)
 
-      pub keeps_at : {later : List ℕ} → KeepsOwn (f old) (f new) → KeepsHeard (f old) (f new) → KeepsSeen (f old) (f new) → Keeps a (at_places n later scans (set places at new))
-      keeps_at {later} own heard seen = record {
+      pub keeps_at : {now : ℕ} {later : List ℕ} → KeepsOwn (f old) (f new) → KeepsHeard (f old) (f new) → KeepsSeen (f old) (f new) → Keeps a (at_places now n later scans (set places at new))
+      keeps_at {now} {later} own heard seen = record {
         awaited = keeps_awaited own;
-        heard = keeps_heard later heard;
+        heard = keeps_heard now later heard;
         seen = λ known are. all_there (HasSeenIn n known) (HasSeenIn n known) (λ c is. is) places at old new there (seen n known) (subst (λ (b : Askers). HaveSeenIn b known) (sym view_is) are);
       }
 
@@ -204,8 +204,8 @@ module _ {X : Type 0} (f : X → Option Asker) where
       seen_at known seen are = all_there (HasSeenIn n known) (HasSeenIn n known) (λ c is. is) places at old new there (seen n) (subst (λ (b : Askers). HaveSeenIn b known) (sym view_is) are)
 
       -- a question that the client of this place puts is awaited here
-      pub asked_at : {later : List ℕ} → (q : Posed) (known : Trace) → KeepsSeen (f old) (f new) → HaveSeenIn a known → IsAskedBy (f new) q → IsAwaited (at_places n later scans (set places at new)) at q
-      asked_at {later} q known seen are asked = record { admitted = numbered (f new) asked (seen n known mine); own = one_so (λ (c : Option Asker). IsOwnOf c q) places at new (of_asked (f new) asked) }
+      pub asked_at : {now : ℕ} {later : List ℕ} → (q : Posed) (known : Trace) → KeepsSeen (f old) (f new) → HaveSeenIn a known → IsAskedBy (f new) q → IsAwaited (at_places now n later scans (set places at new)) at q
+      asked_at {now} {later} q known seen are asked = record { admitted = numbered (f new) asked (seen n known mine); own = one_so (λ (c : Option Asker). IsOwnOf c q) places at new (of_asked (f new) asked) }
         where
           mine : HasSeenIn n known (f old)
           mine = one_there (HasSeenIn n known) places at old there (subst (λ (b : Askers). HaveSeenIn b known) (sym view_is) are)
@@ -218,13 +218,13 @@ module _ {X : Type 0} (f : X → Option Asker) where
           of_asked None is = tt
           of_asked (Some x) is = is.1
 
-      pub some_asked : (later : List ℕ) (r : Option Posed) (known : Trace) → KeepsSeen (f old) (f new) → HaveSeenIn a known → IfSome r (λ q. IsAskedBy (f new) q) → IfSome r (λ q. IsAwaited (at_places n later scans (set places at new)) at q)
-      some_asked later None known seen are asked = tt
-      some_asked later (Some q) known seen are asked = asked_at q known seen are asked
+      pub some_asked : (now : ℕ) (later : List ℕ) (r : Option Posed) (known : Trace) → KeepsSeen (f old) (f new) → HaveSeenIn a known → IfSome r (λ q. IsAskedBy (f new) q) → IfSome r (λ q. IsAwaited (at_places now n later scans (set places at new)) at q)
+      some_asked now later None known seen are asked = tt
+      some_asked now later (Some q) known seen are asked = asked_at q known seen are asked
 
-  module _ (a : Askers) (n : ℕ) {queue later scans : List ℕ} (places : List X) (at : ℕ) (old new : X) (client : Asker) (view_is : at_places n queue scans places ≡ a) (within : at < length places) (here : old ≡ get_or places at old) where
+  module _ (a : Askers) (n : ℕ) {begun : ℕ} {queue later scans : List ℕ} (places : List X) (at : ℕ) (old new : X) (client : Asker) (view_is : at_places begun n queue scans places ≡ a) (within : at < length places) (here : old ≡ get_or places at old) where
     -- a client is admitted, with a number of its own
-    pub admits_at : f new ≡ Some client → client.connection ≡ n + 1 → client.seen ≡ [] → Keeps a (at_places (n + 1) later scans (set places at new))
+    pub admits_at : f new ≡ Some client → client.connection ≡ n + 1 → client.seen ≡ [] → Keeps a (at_places begun (n + 1) later scans (set places at new))
     admits_at is numbered unseen = record {
       awaited = λ token q awaited.
           let mine = subst (λ (b : Askers). IsAwaited b token q) (sym view_is) awaited in

@@ -6,7 +6,7 @@ use Rattle.lz_list.specs.{declared.{word.Word.TheVariants.{Head, Link, Key, Halt
 use Rattle.lz_machine.specs.declared.event.{Event.TheVariants.{Pin, Answer}, Outcome.TheVariants.{Done}, Reply.TheVariants.{Yes, Halted, Device}}
 use Rattle.lz_board.specs.{declared.view.{Note.{Note}, Part.{Part}, What.TheVariants.{Called, Played}}, Notes.{note_by, load_note, shape_of_sizes}}
 use Rattle.lz_board.specs.Plays.{fresh}
-use Rattle.lz_tie.specs.OwnCalls.{told}
+use Rattle.lz_refinement.specs.OwnCalls.{told}
 use Rattle.lz_serve.specs.Halts.{IsCalm, was_cut}
 
 abbrev sizes : Sizes

@@ -11,7 +11,7 @@ use Rattle.lz_proto.specs.{declared.{fault.SessionFault.{SessionFault}, end.End.
 use Rattle.lz_board.specs.{declared.{pass.Pass.{Pass}, view.Part.{Part}}, Seats.{BoardId, part}}
 use Rattle.lz_set.specs.{declared.fault.Fault.{Fault}, Answers.{reply_of}}
 use Rattle.lz_serve.specs.Replies.{SeatAnswers, client_reply}
-use Rattle.lz_tie.specs.Answers.{Answers}
+use Rattle.lz_refinement.specs.Answers.{Answers}
 
 -- a call that was cut off has seen it
 halted_word : (F : Format) (c : Command) (before after : Part) → Answers F c given.Halted before after → halt_word after.known ≡ 1

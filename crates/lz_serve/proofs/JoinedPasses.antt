@@ -3,6 +3,7 @@ use Rattle.std.proofs.Common.{◌≡◌, ◌⊎◌, ⊎_elim, Bool, true, false,
 use Rattle.std.proofs.lemmas.List.{get_or-map, get_or_append_left, length-append, length-map, Elements.{All-append}, Quantifiers.{Any-push}}
 use Rattle.std.specs.List.{Any, list_any}
 use Rattle.lz_board.specs.{declared.{pass.Pass.{Pass}, view.Part.{Part}}, Seats.{part}}
+use Rattle.lz_serve.specs.{Halts.{IsCalm, IsCalmAfter}, Services.{parts_of}}
 
 module _ {X : Type 0} (P : X → Type 0) (xs ys : List X) (x : X) (pushed : ys ≡ xs ++ x ∷ []) where
   -- what holds of each still does
@@ -18,8 +19,12 @@ module _ {X : Type 0} (P : X → Type 0) (xs ys : List X) (x : X) (pushed : ys �
       subst (Any P) (sym pushed) (⊎_elim (λ w. here_or_before (before w)) (λ f. Any-push P xs x (last f)) (or is))
 
 -- what holds of all parts holds of each pass's
-pub each_part : (P : Part → Type 0) (ps : List Pass) → All P (map (λ p. part p) ps) → All (λ p. P (part p)) ps
+each_part : (P : Part → Type 0) (ps : List Pass) → All P (map (λ p. part p) ps) → All (λ p. P (part p)) ps
 each_part P ps all = λ k d low. subst P (get_or-map (λ p. part p) ps k d (part d) low) (all k (part d) (subst (λ (n : ℕ). k < n) (sym (length-map ps (λ p. part p))) low))
+
+-- each of these passes is calm, if all their parts are
+pub calm_after : (ps : List Pass) → All (IsCalmAfter (parts_of ps)) ps
+calm_after ps = λ k d low calm. each_part IsCalm ps calm k d low
 
 -- those that were handed back and those that are left are all, one after the other
 module _ {X : Type 0} (left rest : List X) (x : X) (first : left ≡ x ∷ rest) where

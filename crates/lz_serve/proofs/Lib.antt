@@ -9,6 +9,7 @@ pub mod Askings
 pub mod FreePasses
 pub mod AskingRows
 pub mod LineReplies
+pub mod ReadyLines
 pub mod LinesUnderWay
 pub mod ConversationRows
 pub mod StreamRows
@@ -19,6 +20,7 @@ pub mod Turns
 pub mod PagesTold
 pub mod Joins
 pub mod Desks
+pub mod TurnShares
 pub mod Meetings
 pub mod InTurn
 pub mod ClientRows

@@ -4,7 +4,7 @@ use Rattle.lz_list.{specs.Traces.{Begins}, proofs.Traces.Absence.{begins_itself}
 use Rattle.lz_board.specs.declared.{answer.GlanceFault.TheVariants.{Halted, Worn, BusyPass}, page.{Page.{Page}, ListFault.{ListFault}}}
 use Rattle.lz_board.specs.{declared.{page.ListFault.TheVariants.{Memory, Glance}, pass.Pass.{Pass}, view.Part.{Part}}, Listings.{Lists}, Notes.{shape_of_sizes}}
 use Rattle.lz_board.{specs.{Seats.{part}, Walkers.{KeepsCall}}, proofs.{Upkeep.Growth.{extends_of}, Walk.GlanceAnswer.{halt_since}}}
-use Rattle.lz_tie.{proofs.Calls.PartAfter.{begins_changed}, specs.OwnCalls.{told}}
+use Rattle.lz_refinement.{proofs.Calls.PartAfter.{begins_changed}, specs.OwnCalls.{told}}
 use Rattle.lz_serve.specs.Halts.{IsCalm, SawHalt, was_cut}
 
 -- it has seen all that it had

@@ -8,8 +8,8 @@ use Rattle.lz_list.{specs.{declared.publishing.Publishing.{Publishing}, Traces.{
 use Rattle.lz_list.proofs.Traces.WalkEnd.{begins_before}
 use Rattle.lz_proto.specs.declared.request.Request.{Request, TheVariants.{Add, Remove, Has, Quit}}
 use Rattle.lz_board.{specs.{declared.pass.Pass.{Pass}, Seats.{BoardId, part}}, proofs.Upkeep.Growth.{begins_of}}
-use Rattle.lz_tie.specs.{KeyByKey.{ServedKey}, LoneClient.{AreMade, InTurn, IsInCall, MadeCall, SomeCall, naming, told_in}, Sessions.{AnsweredCalls}}
-use Rattle.lz_tie.proofs.Replies.{KeyByKey.{own_keys}, KeyChanges.{no_sooner, sooner}, LoneClient.{serve, told_naming}, SeenMore.{seen_more}}
+use Rattle.lz_refinement.specs.{KeyByKey.{ServedKey}, LoneClient.{AreMade, InTurn, IsInCall, MadeCall, SomeCall, naming, told_in}, Sessions.{AnsweredCalls}}
+use Rattle.lz_refinement.proofs.Replies.{KeyByKey.{own_keys}, KeyChanges.{no_sooner, sooner}, LoneClient.{serve, told_naming}, SeenMore.{seen_more}}
 use Rattle.lz_set.specs.{declared.fault.Fault.{Fault}, Answers.{reply_of}}
 use Rattle.lz_serve.specs.{Grants.{AreInTurn, Grant, IsAfter, IsGrant, key_asked}, OwnLines.{AreFull, IsFor, IsIn, OwnLinesArePlain, SomeFor, TellOf}}
 use Rattle.lz_serve.specs.Replies.{AreAskedAgain, IsCallAnswered, asks_again, client_reply, command_of}

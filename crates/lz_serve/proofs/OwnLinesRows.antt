@@ -5,7 +5,7 @@ use Rattle.lz_list.specs.{declared.publishing.Publishing.{Publishing}, Traces.{T
 use Rattle.lz_proto.specs.declared.request.Request.TheVariants.{Add, Has}
 use Rattle.lz_machine.specs.declared.event.Reply.{Reply}
 use Rattle.lz_board.specs.Seats.{part}
-use Rattle.lz_tie.specs.Sessions.{AnsweredCalls}
+use Rattle.lz_refinement.specs.Sessions.{AnsweredCalls}
 use Rattle.lz_set.specs.Answers.{reply_of}
 use Rattle.lz_serve.specs.{Grants.{AreInTurn, Grant, IsAfter, key_asked}, OwnLines.{TellOf}}
 

@@ -51,7 +51,7 @@ lost awaits there = absurd (cc)
 
 -- the second place's client waits for a page
 abbrev at_second : List Turn → Askers
-at_second turns = record { admitted = 1; clients = None ∷ Some (lister turns) ∷ []; queue = []; scans = [] }
+at_second turns = record { admitted = 1; clients = None ∷ Some (lister turns) ∷ []; queue = []; scans = []; begun = 0 }
 
 abbrev waits : List Turn → Askers
 waits turns = record (at_second turns) { scans = 1 ∷ [] }
@@ -144,7 +144,7 @@ told_to_nobody p q (listed token scan stood paged) = grind (arith, which)
 
 -- it was told to the first, where the second waited
 abbrev both : List Turn → List Turn → List ℕ → Askers
-both one two scans = record { admitted = 2; clients = Some (lister one) ∷ Some (lister two) ∷ []; queue = []; scans = scans }
+both one two scans = record { admitted = 2; clients = Some (lister one) ∷ Some (lister two) ∷ []; queue = []; scans = scans; begun = 0 }
 
 told_to_another : (p q : Pass) → MayTellPage (both (turn.Lists first ∷ []) (turn.Lists first ∷ []) (1 ∷ [])) (both [] (turn.Lists first ∷ []) []) p q → ⊥
 told_to_another p q (nobody none same kept) = absurd (cc)

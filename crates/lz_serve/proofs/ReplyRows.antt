@@ -9,7 +9,7 @@ use Rattle.lz_machine.specs.declared.event.Reply.{Reply as Given}
 use Rattle.lz_proto.specs.declared.{request.Request.TheVariants.{Add, Has}, reply.Reply.{Reply, TheVariants.{Yes, Full, Halted}}}
 use Rattle.lz_board.specs.{declared.{pass.Pass.{Pass}, view.Part.{Part}}, Seats.{BoardId, part}}
 use Rattle.lz_set.specs.{declared.fault.Fault.{Fault}, Answers.{reply_of}}
-use Rattle.lz_tie.specs.{Answers.{Answers}, OneCaller.{IsPlainAnswer, keys_in}}
+use Rattle.lz_refinement.specs.{Answers.{Answers}, OneCaller.{IsPlainAnswer, keys_in}}
 use Rattle.lz_serve.specs.Replies.{AreAskedAgain, IsAskedAgain, SeatAnswers, asks_again, client_reply, told_of}
 use Rattle.lz_serve.proofs.Seats.{alone_once, only_call, told_at_last, told_full}
 

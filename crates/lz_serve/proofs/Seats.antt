@@ -11,7 +11,7 @@ use Rattle.lz_proto.specs.{declared.{request.Request.{Request}, reply.Reply.{Rep
 use Rattle.lz_board.{specs.{declared.pass.Pass.{Pass}, Notes.{shape_of_sizes}, Seats.{BoardId, part}}, proofs.Upkeep.Growth.{begins_of}}
 use Rattle.lz_board.proofs.Walk.GlanceAnswer.{halt_since}
 use Rattle.lz_set.specs.{declared.fault.Fault.{Fault}, Answers.{reply_of}}
-use Rattle.lz_tie.{specs.{OwnCalls.{told}, Sessions.{cuts_off}}, proofs.{Marks.ToldCalls.{answers_told}, Replies.SeenMore.{seen_more}}}
+use Rattle.lz_refinement.{specs.{OwnCalls.{told}, Sessions.{cuts_off}}, proofs.{Marks.ToldCalls.{answers_told}, Replies.SeenMore.{seen_more}}}
 use Rattle.lz_serve.specs.Halts.{IsCalm, was_cut}
 use Rattle.lz_serve.specs.Replies.{AreAskedAgain, IsCallAnswered, SeatAnswers, asks_again, client_reply, command_of, most_tries, says_halted}
 use Rattle.lz_serve.proofs.{Halting.{answer_word}, Mapped.{known_session}}

@@ -11,7 +11,7 @@ use Rattle.lz_serve.{specs.declared.turn.{Turn.{Turn}, Wording.TheVariants.{Line
 
 -- the first client has no line left
 abbrev one : Pass → Askers
-one p = record { admitted = 2; clients = Some (asks p []) ∷ None ∷ []; queue = 1 ∷ []; scans = [] }
+one p = record { admitted = 2; clients = Some (asks p []) ∷ None ∷ []; queue = 1 ∷ []; scans = []; begun = 0 }
 
 no_line : (p : Pass) → HasNoneAt (one p) 0
 no_line p line = let none = line.waits in absurd (cc)

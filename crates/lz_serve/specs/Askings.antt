@@ -4,8 +4,8 @@ use Rattle.lz_slot.specs.declared.{command.Command.{Command}, format.Format.{For
 use Rattle.lz_machine.specs.{Orders.{Calling}, Yards.{Yard}}
 use Rattle.lz_proto.specs.declared.reply.Reply.{Reply}
 use Rattle.lz_board.specs.{declared.{pass.Pass.{Pass}, view.Part.{Part}}, Seats.{BoardId, IsOf, part}}
-use Rattle.lz_tie.specs.Counting.{Counts}
-use Rattle.lz_set.specs.{declared.{fault.Fault.{Fault}, underway.Stage.{Stage}}, Names.{MayCall}, Stages.{StandsAt, StandsBefore}}
+use Rattle.lz_refinement.specs.Counting.{Counts}
+use Rattle.lz_set.specs.{declared.{fault.Fault.{Fault}, underway.Blocked.{Blocked}}, Names.{MayCall}, Stages.{StandsAt, StandsBefore}}
 use Rattle.lz_serve.specs.{Clients.{Askers, AwaitsBeforeAt}, Grants.{Posed}, Halts.{IsCalmAfter, SawHalt}}
 use Rattle.lz_serve.specs.Replies.{AreAskedAgain, IsCallAnswered, command_of, told_of}
 
@@ -18,7 +18,7 @@ pub record Asked : Type 0 where
   pub halted : Bool
   pub call : Option Calling
   pub tries : ℕ
-  pub stage : Option Stage
+  pub stage : Option Blocked
 
 -- The call is counted since the pass was `middle`, or is yet to begin there.
 abbrev pub IsCounting : BoardId → Format → Command → Pass → Option Calling → Pass → Type 0
@@ -51,7 +51,7 @@ RestsOrAnswers b F given None pass halted call tries = IsResting b given pass ha
 RestsOrAnswers b F given (Some question) pass halted call tries = IsAnswering b F given question pass call tries
 
 -- the call stands there, if that is known
-abbrev pub StandsWhere : Option Stage → Option Calling → Type 0
+abbrev pub StandsWhere : Option Blocked → Option Calling → Type 0
 StandsWhere stage call = IfSome stage (λ s. IsSomeAnd call (λ k. StandsAt s k))
 
 -- it rests, or answers its question, and its call stands where it was played to

@@ -1,6 +1,6 @@
 -- Clients as their owner sees them, and which questions are those of their lines.
 use Rattle.lz_serve.specs.declared.turn.Turn.TheVariants as turn
-use Rattle.std.specs.Prelude.{◌≡◌, ◌≢◌, ◌⊎◌, ⊤, ◌-◌, ◌<◌, ◌≤◌, ◌++◌, ℕ, suc, All, Bool, true, false, List, [], ◌∷◌, drop, length, map, Option, Some, None}
+use Rattle.std.specs.Prelude.{◌≡◌, ◌≢◌, ◌⊎◌, ⊤, ◌+◌, ◌-◌, ◌<◌, ◌≤◌, ◌++◌, ℕ, suc, All, Bool, true, false, List, [], ◌∷◌, drop, length, map, Option, Some, None}
 use Rattle.std.specs.{Prelude.{IfSome, IsSomeAnd, slice_get, take}, declared.snapshot.Snapshot.{Snapshot}}
 use Rattle.lz_list.specs.Traces.{Trace, Begins}
 use Rattle.lz_board.specs.{declared.pass.Pass.{Pass}, Seats.{part}}
@@ -150,13 +150,20 @@ IsAskedBy client q = IsSomeAnd client (λ a. (q.connection ≡ a.connection) × 
 abbrev pub ComesAfter : Option Asker → Posed → Type 0
 ComesAfter client question = (q : Posed) → IsOwnOf client q → q.connection ≡ question.connection → q.line < question.line
 
--- How many clients were admitted; the client at each place, if it has one; and the places, by their tokens, that wait for their turn, and
--- those that wait for a page.
+-- How many clients were admitted; the client at each place, if it has one; the places, by their tokens, that wait for their turn, and
+-- those that wait for a page; and how many turns gave a line, up to 2^64 - 1.
 pub record Askers : Type 0 where
   pub admitted : ℕ
   pub clients : List (Option Asker)
   pub queue : List ℕ
   pub scans : List ℕ
+  pub begun : ℕ
+
+-- one more is counted, up to 2^64 - 1
+pub record CountsOne (old new : ℕ) : Type 0 where
+  pub more : old < 18446744073709551615 → new ≡ old + 1
+  pub least : old ≤ new
+  pub most : new ≤ old + 1
 
 -- each is of a connection that was admitted, and all that it has seen was seen here
 abbrev pub HaveSeenIn : Askers → Trace → Type 0
@@ -251,6 +258,7 @@ pub record TakesTurn (old new : Askers) (token : ℕ) : Type 0 where
 -- No client has come or changed; some may have left.
 pub record OnlyLeave (old new : Askers) : Type 0 where
   pub admitted : new.admitted ≡ old.admitted
+  pub begun : new.begun ≡ old.begun
   pub stay : (token : ℕ) (a : Asker) → slice_get new.clients token ≡ Some (Some a) → slice_get old.clients token ≡ Some (Some a)
 
 -- each question that was awaited is

@@ -1,18 +1,33 @@
 -- What a loop works at: its clients, its passes, and the calls under way. One of several passes makes no call, and meets the others.
-use Rattle.std.specs.{Prelude.{◌≡◌, ◌⊎◌, ◌+◌, ◌≤◌, ℕ, All, Bool, List, [], Option, Some, None, IfSome, length}, List.{Any}}
+use Rattle.std.specs.{Prelude.{◌≡◌, ◌⊎◌, ◌+◌, ◌≤◌, ℕ, max, All, Bool, List, [], Option, Some, None, IfSome, length}, List.{Any}}
 use Rattle.lz_slot.specs.declared.format.Format.{Format}
 use Rattle.lz_list.specs.Traces.{Trace}
 use Rattle.lz_board.specs.Seats.{BoardId, part}
 use Rattle.lz_serve.specs.{Askings.{Asked, HasAnswered, IsAnother, IsMadeAgain}, Clients.{Askers, HaveSeenIn, IsAwaited, IsHeardAt}, Grants.{Posed}}
 
--- How many passes were taken in, for how many there is room, and how many answer nothing; the calls under way; and whether no further line
--- is to be begun.
+-- How many passes were taken in, for how many there is room, and how many answer nothing; the calls under way; whether no further line
+-- is to be begun; how many turns of clients gave a line, how many more may before connections are heard, and how many clients wait for one.
 pub record Passes : Type 0 where
   pub given : ℕ
   pub most : ℕ
   pub free : ℕ
   pub calls : List Asked
   pub ends : Bool
+  pub begun : ℕ
+  pub left : ℕ
+  pub waiting : ℕ
+
+-- it begins no more lines than were left
+abbrev pub BeginsWithin : Passes → Passes → Type 0
+BeginsWithin old new = new.begun + new.left ≤ old.begun + old.left
+
+-- how many lines are begun at least, where so many wait, before connections are heard
+abbrev pub fewest_begun : ℕ
+fewest_begun = 64
+
+-- how many are begun at most, by so many passes, where so many clients wait
+abbrev pub most_begun : ℕ → ℕ → ℕ
+most_begun passes waiting = max fewest_begun (max passes waiting)
 
 -- it answers the question of one of these calls
 abbrev pub AnswersOneOf : List Asked → Asked → Type 0

@@ -80,7 +80,7 @@ EndsWith (reader.Frames place) exchanges = exchanges ≡ []
 abbrev pub CameFrom : Language → List ℕ → List Exchange → Option Reader → Type 0
 CameFrom spoken text exchanges (Some (reader.Lines kept)) = (spoken ≡ language.Lines) × ((items : List LineItem) × ReadsLines text items kept × (exchanges ≡ map of_line items))
 CameFrom spoken text exchanges (Some (reader.Frames place)) =
-    (naming : Naming) × (spoken ≡ language.Frames naming) × ((items : List FrameItem) × ReadsFrames (record { selected = at_first naming; text = text }) items place × (exchanges ≡ map of_frame items))
+    (naming : Naming) × (spoken ≡ language.Frames naming) × ((items : List FrameItem) × ReadsFrames (record { state = at_first naming; text = text }) items place × (exchanges ≡ map of_frame items))
 CameFrom language.Lines text exchanges None = (items : List LineItem) × LineItems text items × (exchanges ≡ map of_line items)
 CameFrom (language.Frames naming) text exchanges None = (items : List FrameItem) × FrameItems (at_first naming) text items × (exchanges ≡ map of_frame items)
 

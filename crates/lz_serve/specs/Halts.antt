@@ -3,7 +3,7 @@ use Rattle.std.specs.Prelude.{◌≡◌, Bool, false, All, List, Option, Some, N
 use Rattle.lz_list.specs.Traces.{Begins, halt_word}
 use Rattle.lz_machine.specs.declared.event.Reply.{Reply}
 use Rattle.lz_board.specs.{declared.{pass.Pass.{Pass}, view.Part.{Part}}, Notes.{shape_of_sizes}, Plays.{knowing}, Seats.{part}}
-use Rattle.lz_tie.specs.{OwnCalls.{told}, Sessions.{cuts_off}}
+use Rattle.lz_refinement.specs.{OwnCalls.{told}, Sessions.{cuts_off}}
 
 -- the pass has seen that the set was halted
 abbrev pub SawHalt : Pass → Type 0

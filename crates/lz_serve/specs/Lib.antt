@@ -1,5 +1,6 @@
 pub mod Replies
 pub mod Halts
+pub mod Services
 pub mod Options
 pub mod Texts
 pub mod Verbs

@@ -1,5 +1,6 @@
 -- The lines of a connection that are under way.
-use Rattle.std.specs.Prelude.{◌≡◌, ◌≢◌, ◌-◌, ◌<◌, ℕ, suc, All, List, [], ◌∷◌, ◌++◌, Option, Some, None, IfSome, map, option_and_then, option_map, slice_get, ⊤}
+use Rattle.std.specs.Prelude.{◌≡◌, ◌≢◌, ◌-◌, ◌<◌, ◌≤◌, ℕ, suc, All, List, [], ◌∷◌, ◌++◌, Option, Some, None, IfSome, map, option_and_then, option_map}
+use Rattle.std.specs.Prelude.{slice_get, length, take, ⊤}
 use Rattle.lz_proto.specs.declared.{request.Request.{Request}, reply.Reply.{Reply}}
 use Rattle.lz_list.specs.Traces.{Trace, Begins}
 use Rattle.lz_board.specs.{declared.pass.Pass.{Pass}, Seats.{part}}
@@ -19,6 +20,12 @@ IsFree under key = All (λ line. line.reply ≡ None → key_asked line.request 
 -- none of these lines awaits its reply
 abbrev pub AreReplied : List Line → Type 0
 AreReplied under = All (λ line. line.reply ≢ None) under
+
+-- so many first lines have their replies, and the one after them, if there is one, awaits its own
+pub record AreReady (ready : ℕ) (under : List Line) : Type 0 where
+  pub within : ready ≤ length under
+  pub replied : AreReplied (take ready under)
+  pub next : IfSome (slice_get under ready) (λ line. line.reply ≡ None)
 
 -- what these lines ask
 abbrev pub asked_by : List Line → List Request

@@ -4,7 +4,7 @@ use Rattle.lz_slot.specs.declared.{command.Command.{Command}, format.Format.{For
 use Rattle.lz_list.specs.{declared.publishing.Publishing.{Publishing}, Traces.{Trace, Begins, member}}
 use Rattle.lz_machine.specs.declared.event.Reply.{Reply, TheVariants.{Full}}
 use Rattle.lz_board.specs.Seats.{BoardId, part}
-use Rattle.lz_tie.specs.{KeyByKey.{PlainCalls}, LoneClient.{IsChange}, Sessions.{AnsweredCalls}}
+use Rattle.lz_refinement.specs.{KeyByKey.{PlainCalls}, LoneClient.{IsChange}, Sessions.{AnsweredCalls}}
 use Rattle.lz_set.specs.{declared.fault.Fault.{Fault}, Answers.{reply_of}}
 use Rattle.lz_serve.specs.{Grants.{AreGranted, Grant, key_asked}, Replies.{client_reply, command_of}}
 

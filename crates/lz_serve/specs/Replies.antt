@@ -6,7 +6,7 @@ use Rattle.lz_slot.specs.declared.{command.Command.{Command}, format.Format.{For
 use Rattle.lz_proto.specs.declared.{request.Request.{Request, TheVariants.{Add, Remove, Has, Quit}}, reply.Reply.{Reply}}
 use Rattle.lz_set.specs.{declared.fault.Fault.{Fault, TheVariants.{Full, Halted, Worn, Device, OldFile}}, Answers.{reply_of}}
 use Rattle.lz_board.specs.{declared.pass.Pass.{Pass}, Seats.{BoardId, part}}
-use Rattle.lz_tie.specs.{Answers.{Answers}, OneCaller.{IsPlainAnswer, keys_in}}
+use Rattle.lz_refinement.specs.{Answers.{Answers}, OneCaller.{IsPlainAnswer, keys_in}}
 
 -- the reply that tells what a call answered: of a device that failed, now or before, a client is told that the service halted
 abbrev pub client_reply : Result Bool Fault → Reply

@@ -1,11 +1,10 @@
 //! What a pass of a loop answers next, and how its reply is told.
-ghost use Rattle.std.specs.Prelude.{◌≡◌, ◌≢◌, ◌⊎◌, ◌↔◌, ◌+◌, IfSome, IsSomeAnd, IsTrue, None, Some, false, option_map, true};
+ghost use Rattle.std.specs.Prelude.{◌≡◌, ◌≢◌, ◌⊎◌, ◌↔◌, ◌+◌, ◌≤◌, IfSome, IsSomeAnd, IsTrue, None, Some, false, option_map, true};
 ghost use Rattle.lz_list.specs.Traces.{Begins};
 ghost use Rattle.lz_board.specs.Seats.{part};
-ghost use Rattle.lz_set.specs.declared.underway.Stage.TheVariants as stage;
-ghost use Rattle.lz_serve.specs.Askings.{AnswersNoOther, HasAnswered, IsMadeAgain, IsStopped, StillAwaits, WaitsForSlots, waits_for_slots};
-ghost use Rattle.lz_serve.specs.Clients.{HaveSeenIn, IsAwaited, IsNext, Keeps, KeepsAwaited};
-ghost use Rattle.lz_serve.specs.Desks.{GoesAnew, IsCalled, IsReplied, Knows};
+ghost use Rattle.lz_serve.specs.Askings.{AnswersNoOther, HasAnswered, IsStopped, StillAwaits, WaitsForSlots};
+ghost use Rattle.lz_serve.specs.Clients.{CountsOne, HasNoneAt, HaveSeenIn, IsAwaited, IsNext, Keeps, KeepsAwaited};
+ghost use Rattle.lz_serve.specs.Desks.{GoesAnew, IsCalled, IsReplied};
 ghost use Rattle.lz_serve.specs.Grants.{Posed, Promises};
 
 use crate::asking::Asking;
@@ -15,7 +14,7 @@ use crate::given::Given;
 use crate::observer::{Observer, Verb};
 use crate::stream::Stream;
 use lz_disk::Disk;
-use lz_set::{Kept, Named, Set, Stage, StepGate};
+use lz_set::{Blocked, HeldLock, Named, Set, StepGate};
 use std::sync::Wait;
 use std::time::Clock;
 
@@ -30,12 +29,13 @@ pub(crate) enum Next {
     Rests,
 }
 
-/// Plays a call on. One that is answered is told, and its pass begins the line whose turn it is. One that waits for slots is made again
-/// only where it may be (`tries`).
+/// Plays a call on. One that is answered is told, and its pass begins the line whose turn it is, or one more call where no slot was free.
+/// One that waits for slots is made again only where it may be (`tries`). What the pass has seen at its answer the pass that meets the
+/// others has then, and the other way round.
 pub(crate) fn play_call<'a, S, D, G, N, B, R, O>(
     rt: &R,
     set: &'a Set<D, G, N>,
-    kept: &mut Kept<'a, D, N>,
+    kept: &mut HeldLock<'a, D, N>,
     crowd: &mut Crowd<S>,
     meeting: &mut Option<FreePass<N, B>>,
     asking: &mut Asking<N, B>,
@@ -63,52 +63,17 @@ where
     ensures replied { result ≡ Next.Rests → HasAnswered N.board N.format crowd.old asking.old × IsReplied crowd.new asking.old }
     ensures rests { result ≡ Next.Rests → (asking.new.question ≡ None) × HaveSeenIn crowd.new (part asking.new.pass).known }
     ensures ends { ends ≡ true → AnswersNoOther asking.old asking.new }
+    ensures counted { crowd.new.begun ≤ crowd.old.begun + 1 }
+    ensures ended { ends ≡ true → crowd.new.begun ≡ crowd.old.begun }
+    ensures uncounted { result ≢ Next.GoesOn → crowd.new.begun ≡ crowd.old.begun }
 {
     if asking.waits() && !tries {
         return Next::Waits;
     }
     match asking.go_on(rt, set, kept) {
-        Some(Stage::Answers) => {
-            answer_call(rt, set, kept, crowd, meeting, asking, observer, ends)
-        }
-        _ => Next::Waits,
+        Some(Blocked::Answers) => {}
+        _ => return Next::Waits,
     }
-}
-
-// Answers the call and tells its reply. Its pass begins the line whose turn it is, or one more call where no slot was free. What it has
-// seen at its answer the pass that meets the others has then, and the other way round.
-fn answer_call<'a, S, D, G, N, B, R, O>(
-    rt: &R,
-    set: &'a Set<D, G, N>,
-    kept: &mut Kept<'a, D, N>,
-    crowd: &mut Crowd<S>,
-    meeting: &mut Option<FreePass<N, B>>,
-    asking: &mut Asking<N, B>,
-    observer: &O,
-    ends: bool,
-) -> Next
-where
-    S: Stream,
-    D: Disk,
-    G: StepGate,
-    N: Named,
-    B: Given,
-    R: Wait,
-    O: Observer,
-    requires promised { Promises N.board N.format S.promised S.listed }
-    requires stands { asking.old.stage ≡ Some stage.Answers }
-    requires called { IsCalled crowd.old (option_map (λ free. (part free.pass).known) meeting.old) asking.old }
-    requires met { IfSome meeting.old (λ free. HaveSeenIn crowd.old (part free.pass).known) }
-    ensures kept { KeepsAwaited crowd.old crowd.new }
-    ensures met { IfSome meeting.new (λ free. HaveSeenIn crowd.new (part free.pass).known) }
-    ensures none { (meeting.new ≡ None) ↔ (meeting.old ≡ None) }
-    ensures waits { result ≡ Next.Waits → (waits_for_slots asking.new ≡ true) × IsMadeAgain N.board N.format crowd.old asking.old asking.new }
-    ensures anew { result ≡ Next.GoesOn → GoesAnew N.board N.format crowd.old crowd.new asking.old asking.new }
-    ensures goes { result ≢ Next.Rests → IsCalled crowd.new (option_map (λ free. (part free.pass).known) meeting.new) asking.new }
-    ensures replied { result ≡ Next.Rests → HasAnswered N.board N.format crowd.old asking.old × IsReplied crowd.new asking.old }
-    ensures rests { result ≡ Next.Rests → (asking.new.question ≡ None) × HaveSeenIn crowd.new (part asking.new.pass).known }
-    ensures ends { ends ≡ true → AnswersNoOther asking.old asking.new }
-{
     let token = asking.token();
     let earlier = still_awaits(crowd, asking);
     let Some(granted) = asking.answer(rt, set, kept, earlier) else {
@@ -163,7 +128,7 @@ pub(crate) fn meet<D: Disk, G: StepGate, N: Named, B: Given>(
 pub(crate) fn begin_next<'a, S, D, G, N, B, R>(
     rt: &R,
     set: &'a Set<D, G, N>,
-    kept: &mut Kept<'a, D, N>,
+    kept: &mut HeldLock<'a, D, N>,
     crowd: &mut Crowd<S>,
     asking: &mut Asking<N, B>,
     ends: bool,
@@ -182,6 +147,8 @@ where
     ensures begun { result ≡ true → (question : Posed) × (asking.new.question ≡ Some question) × (question.before ≡ asking.old.pass) × IsAwaited crowd.new asking.new.token question }
     ensures rests { result ≡ false → asking.new ≡ asking.old }
     ensures ends { ends ≡ true → (result ≡ false) × (crowd.new ≡ crowd.old) × (kept.new ≡ kept.old) }
+    ensures counted { result ≡ true → CountsOne crowd.old.begun crowd.new.begun }
+    ensures uncounted { result ≡ false → crowd.new.begun ≡ crowd.old.begun }
 {
     if ends || asking.halted() {
         return false;
@@ -193,8 +160,8 @@ where
     true
 }
 
-/// Answers the request of the client of this token by this pass, if one waits. The pass has seen what those had that answered any of the
-/// clients.
+/// Answers the requests of the client of this token by this pass, until none waits, or it was told that the service halted, as it is once each
+/// member of its first frame has a reply. The pass has seen what those had that answered any of the clients.
 pub(crate) fn answer_one<S, D, G, N, B, R, O>(
     rt: &R,
     set: &Set<D, G, N>,
@@ -216,13 +183,16 @@ where
     requires seen { HaveSeenIn crowd.old (part free.old.pass).known }
     ensures kept { KeepsAwaited crowd.old crowd.new }
     ensures seen { HaveSeenIn crowd.new (part free.new.pass).known }
+    ensures none { HasNoneAt crowd.new token }
 {
-    let Some(question) = crowd.take_last(token, free.pass(), observer, buffer) else {
-        return;
-    };
-    let verb = Verb::of(&question.request());
-    let granted = free.answer(rt, set, question);
-    observer.answered(verb, granted.reply(), None);
-    crowd.reply(token, granted, free.pass(), observer);
-    crowd.tend_back(observer, buffer);
+    crowd.read_last(token, observer, buffer);
+    'requests: for _ in rt.forever() {
+        let Some(question) = crowd.take_last(token, free.pass()) else {
+            break;
+        };
+        let verb = Verb::of(&question.request());
+        let granted = free.answer(rt, set, question);
+        observer.answered(verb, granted.reply(), None);
+        crowd.reply(token, granted, free.pass(), observer);
+    }
 }

@@ -4,7 +4,7 @@ ghost use Rattle.lz_slot.specs.declared.command.Command.{Command as Asks};
 ghost use Rattle.lz_list.specs.Traces.{Begins};
 ghost use Rattle.lz_board.specs.declared.pass.Pass.{Pass as Seen};
 ghost use Rattle.lz_board.specs.Seats.{IsOf, part};
-ghost use Rattle.lz_tie.specs.Counting.{Counts};
+ghost use Rattle.lz_refinement.specs.Counting.{Counts};
 ghost use Rattle.lz_set.specs.Names.{MayCall};
 ghost use Rattle.lz_set.specs.Stages.{HasPlayed, StandsAt, StepsUnfailed, StepsWithout};
 ghost use Rattle.lz_machine.specs.declared.kind.Kind.TheVariants as kind;
@@ -18,7 +18,7 @@ use crate::given::Given;
 use crate::replies::{asks_again, client_reply, says_halted};
 use lz_disk::Disk;
 use lz_proto::Reply;
-use lz_set::{Kept, Named, Pass, Set, Stage, StepGate, Underway};
+use lz_set::{Blocked, HeldLock, Named, Pass, Set, StepGate, Underway};
 use std::marker::{Model, PhantomData};
 use std::snapshot::Snapshot;
 use std::sync::Wait;
@@ -26,7 +26,7 @@ use std::thread;
 use std::time::{Clock, Duration};
 
 /// For how many milliseconds a pass waits before a call that is made again, but for the first of them.
-const PAUSE: u64 = 1;
+const PAUSE_MS: u64 = 1;
 
 /// A pass of a loop at its place: it rests, or answers a request for the client of a token. Then its owner is to play it on until it is
 /// replied to, since others may wait for a node that it holds.
@@ -43,7 +43,7 @@ pub struct Asking<N: Named, B: Given> {
     /// How many calls were answered that no slot is free, while slots waited.
     tries: usize,
     /// Where the call stands, once it was played on.
-    stage: Option<Stage>,
+    stage: Option<Blocked>,
     of: PhantomData<N>,
     among: PhantomData<B>,
 }
@@ -183,7 +183,7 @@ impl<N: Named, B: Given> Asking<N, B> {
         &mut self,
         rt: &R,
         set: &'a Set<D, G, N>,
-        kept: &mut Kept<'a, D, N>,
+        kept: &mut HeldLock<'a, D, N>,
         token: usize,
         question: Question,
     )
@@ -208,12 +208,12 @@ impl<N: Named, B: Given> Asking<N, B> {
         &mut self,
         rt: &R,
         set: &'a Set<D, G, N>,
-        kept: &mut Kept<'a, D, N>,
-    ) -> Option<Stage>
+        kept: &mut HeldLock<'a, D, N>,
+    ) -> Option<Blocked>
         ensures stands { IfSome result (λ stage. IsSomeAnd self.new.call (λ call. StandsAt stage call)) }
         ensures stage { self.new.stage ≡ result }
         ensures none { result ≡ None → self.old.question ≡ None }
-        ensures stopped { IfSome result (λ stage. stage ≢ Stage.Answers → IsSomeAnd kept.new (λ l. IsStopped l.yard self.new)) }
+        ensures stopped { IfSome result (λ stage. stage ≢ Blocked.Answers → IsSomeAnd kept.new (λ l. IsStopped l.yard self.new)) }
         ensures steps { StepsUnfailed kind.Sync (part self.old.pass) (part self.new.pass) }
         ensures same { IsSameQuestion self.old self.new }
     {
@@ -238,9 +238,9 @@ impl<N: Named, B: Given> Asking<N, B> {
 
     /// Whether the call stood before a Sync when it was played on last, which wasn't played since.
     pub(crate) fn is_before_sync(&self) -> bool
-        ensures { IsTrue result ↔ (self.now.stage ≡ Some Stage.Syncs) }
+        ensures { IsTrue result ↔ (self.now.stage ≡ Some Blocked.Syncs) }
     {
-        matches!(self.stage, Some(Stage::Syncs))
+        matches!(self.stage, Some(Blocked::Syncs))
     }
 
     /// Plays the Sync, if the call stands before one, and says whether it does.
@@ -248,14 +248,14 @@ impl<N: Named, B: Given> Asking<N, B> {
         &mut self,
         rt: &R,
         set: &'a Set<D, G, N>,
-        kept: &mut Kept<'a, D, N>,
+        kept: &mut HeldLock<'a, D, N>,
     ) -> bool
         ensures played { result ≡ true → HasPlayed kind.Sync (part self.old.pass) (part self.new.pass) }
         ensures none { result ≡ false → self.new ≡ self.old }
-        ensures stage { self.new.stage ≢ Some Stage.Syncs }
+        ensures stage { self.new.stage ≢ Some Blocked.Syncs }
         ensures same { IsSameQuestion self.old self.new }
     {
-        let Some(Stage::Syncs) = self.stage else {
+        let Some(Blocked::Syncs) = self.stage else {
             return false;
         };
         let Some(call) = self.call.as_mut() else {
@@ -272,10 +272,10 @@ impl<N: Named, B: Given> Asking<N, B> {
         &mut self,
         rt: &R,
         set: &'a Set<D, G, N>,
-        kept: &mut Kept<'a, D, N>,
+        kept: &mut HeldLock<'a, D, N>,
         earlier: bool,
     ) -> Option<Granted<N>>
-        requires { self.old.stage ≡ Some Stage.Answers }
+        requires { self.old.stage ≡ Some Blocked.Answers }
         ensures granted { IfSome result (λ granted. (Some granted.question ≡ self.old.question) × (granted.after ≡ self.new.pass)) }
         ensures token { self.new.token ≡ self.old.token }
         ensures rests { IfSome result (λ granted. self.new.question ≡ None) }
@@ -325,7 +325,7 @@ pub(crate) fn grant<D: Disk, G: StepGate, N: Named, R: Wait + Clock>(
     'calls: while asks_again(set, tries, false, answer) {
         // While it looked for a slot the pass was inside, and may have held up all that wait. Its answer has shown it outside.
         if tries > 0 {
-            thread::sleep(rt, Duration::from_millis(PAUSE));
+            thread::sleep(rt, Duration::from_millis(PAUSE_MS));
         }
         answer = set.call(rt, pass, question.command());
         tries += 1;
@@ -344,7 +344,7 @@ pub(crate) fn grant<D: Disk, G: StepGate, N: Named, R: Wait + Clock>(
 fn begin_once<'a, D: Disk, G: StepGate, N: Named, R: Wait>(
     rt: &R,
     set: &'a Set<D, G, N>,
-    kept: &mut Kept<'a, D, N>,
+    kept: &mut HeldLock<'a, D, N>,
     pass: &mut Pass,
     call: &mut Option<Underway>,
     question: &Question,

@@ -85,8 +85,8 @@ impl<S: Stream> Client<S> {
     }
 
     /// Reads a piece, if there is one, and says whether there may be more that nothing will tell of: no more, where it was less than the buffer
-    /// has room for, unless the client sends nothing after it (`ends`). The buffer has room for a piece.
-    pub(crate) fn read(&mut self, buffer: &mut [u8], ends: bool) -> bool
+    /// has room for, unless it is to be read until nothing comes (`drains`). The buffer has room for a piece.
+    pub(crate) fn read(&mut self, buffer: &mut [u8], drains: bool) -> bool
         ensures { KeepsLines self.old self.new }
     {
         if self.lost || self.ended {
@@ -94,7 +94,7 @@ impl<S: Stream> Client<S> {
         }
         match self.stream.receive(buffer) {
             Received::Count(count) => match self.talk.feed(&buffer[..count]) {
-                Ok(()) => ends || count == buffer.len(),
+                Ok(()) => drains || count == buffer.len(),
                 Err(_) => {
                     self.lost = true;
                     false
@@ -352,14 +352,14 @@ impl<S: Stream> Client<S> {
         self.is_over() || self.has_unsent() || self.waits() || self.lists()
     }
 
-    /// Where it has nothing to do, it keeps no more room than a little.
+    /// Where it has nothing to do, and has more room than a little, it gives all of it back.
     pub(crate) fn rest(&mut self)
         ensures { self.new ≡ self.old }
     {
         let (items, bytes) = self.talk.room();
         if (items > FEW || bytes > LITTLE) && !self.is_occupied() && !self.is_asked() {
             self.talk.rest();
-            self.puts.shrink_to(1);
+            self.puts.shrink_to(0);
         }
     }
 

@@ -2,10 +2,10 @@
 use std::time::Duration;
 
 /// For how many milliseconds a turn counts at most: in a longer one the loop didn't listen, and no client was silent.
-const LONGEST_TURN: u64 = 1_000;
+const LONGEST_TURN_MS: u64 = 1_000;
 
 /// After how many milliseconds it is looked again which clients were silent for too long.
-const TENTH: u64 = 100;
+const TENTH_MS: u64 = 100;
 
 /// A clock that goes on as the system's does, but not by more than a second at once.
 #[derive(Drop)]
@@ -35,14 +35,14 @@ impl Clock {
     pub(crate) fn note(&mut self, now: Duration) {
         let now = millis(now);
         if let Some(passed) = self.noted.and_then(|noted| now.checked_sub(noted)) {
-            self.now = self.now.saturating_add(passed.min(LONGEST_TURN));
+            self.now = self.now.saturating_add(passed.min(LONGEST_TURN_MS));
         }
         self.noted = Some(now);
     }
 
     /// Whether it is to be looked again which clients were silent: ten times in a second.
     pub(crate) fn ticks(&mut self) -> bool {
-        if self.now.saturating_sub(self.looked) < TENTH {
+        if self.now.saturating_sub(self.looked) < TENTH_MS {
             return false;
         }
         self.looked = self.now;

@@ -11,7 +11,7 @@ mod page;
 
 use crate::exchanges::Exchanges;
 use crate::language::Language;
-use crate::line::{Line, is_awaited, key_asked};
+use crate::line::{Line, count_ready, is_awaited, key_asked};
 use crate::reader::Reader;
 use crate::telling::{end_by, gather, push_replies, query_end};
 use crate::turn::{Turn, Wording};
@@ -20,9 +20,6 @@ use lz_resp::{Figures, Query};
 use std::alloc::{AllocError, Global};
 use std::collections::VecDeque;
 use std::marker::Model;
-
-/// For how many bytes to be sent a conversation keeps room that has nothing to do.
-const LITTLE: usize = 64;
 
 /// What one client has sent and is to be sent. Contracts see it as what it holds; `IsAt` says where it stands. Requests that were handed
 /// out are under way, and an exchange is told once each of its requests has its reply and those before it were told, whichever is granted
@@ -37,6 +34,8 @@ pub struct Conversation {
     lines: u64,
     told: u64,
     under: VecDeque<Line>,
+    // how many first ones of them have their replies
+    ready: usize,
     // room for the replies of an exchange
     replies: Vec<Reply>,
     text: Vec<u8>,
@@ -47,12 +46,13 @@ impl Model for Conversation {
     ghost use Rattle.std.specs.Prelude.{◌≡◌, ◌≢◌, ◌+◌, All, length};
     ghost use Rattle.lz_proto.specs.declared.request.Request.TheVariants.{Quit};
     ghost use Rattle.lz_serve.specs.Conversations.{Talk};
+    ghost use Rattle.lz_serve.specs.Lines.{AreReady};
 
     ghost Value = { Talk };
 
     ghost view = { λ c. record { spoken = c.language; reader = c.reader; turns = c.exchanges.turns; waiting = c.exchanges.waiting; told = c.told; under = c.under.items; unsent = c.text.items; ended = c.ended } };
 
-    ghost invariant = { λ c. c.lines ≡ c.told + length c.under.items };
+    ghost invariant = { λ c. (c.lines ≡ c.told + length c.under.items) × AreReady c.ready c.under.items };
 }
 
 impl Conversation {
@@ -66,6 +66,7 @@ impl Conversation {
             lines: 0,
             told: 0,
             under: VecDeque::new(alloc),
+            ready: 0,
             replies: Vec::new(alloc),
             text: Vec::new(alloc),
             ended: End::Done,
@@ -109,7 +110,7 @@ impl Conversation {
         let Some(request) = self.waiting() else {
             return Ok(None);
         };
-        if self.lines == u64::MAX || is_awaited(&self.under, key_asked(&request)) {
+        if self.lines == u64::MAX || is_awaited(&self.under, self.ready, key_asked(&request)) {
             return Ok(None);
         }
         self.under.reserve(1)?;
@@ -129,6 +130,7 @@ impl Conversation {
             return false;
         };
         put_reply(&mut self.under, at, reply);
+        self.ready = count_ready(&self.under, self.ready);
         true
     }
 
@@ -261,10 +263,7 @@ impl Conversation {
         ensures some { result ≡ true → AreReplied (take (number - suc self.now.told) self.now.under) → ⊥ }
     {
         let count = number.saturating_sub(self.told).saturating_sub(1);
-        self.under
-            .iter()
-            .take(count as usize)
-            .any(|line| line.reply.is_none())
+        self.ready < self.under.len() && (self.ready as u64) < count
     }
 
     /// Whether requests wait.
@@ -285,7 +284,7 @@ impl Conversation {
         self.reader.is_none() && self.exchanges.are_told()
     }
 
-    /// Gives the room back of what was read, told and sent, but for a little.
+    /// Gives all room back that isn't used. (A block that was only made smaller would stand in the way of another one's growth.)
     pub fn rest(&mut self)
         ensures { self.new ≡ self.old }
     {
@@ -293,9 +292,10 @@ impl Conversation {
             reader.rest();
         }
         self.exchanges.rest();
-        self.under.shrink_to(1);
-        self.replies.shrink_to(1);
-        self.text.shrink_to(LITTLE);
+        self.under.shrink_to(0);
+        self.replies.clear();
+        self.replies.shrink_to(0);
+        self.text.shrink_to(0);
     }
 
     /// For how many turns, requests and replies, and for how many bytes, read or to be sent, it has room.
@@ -351,12 +351,16 @@ impl Conversation {
         ensures rests { IfOk result (λ told. told ≡ false → IsReady (Turn.Asks wording count) self.old.under → ⊥) }
         ensures err { OnErr result (self.new ≡ record self.old { unsent = self.new.unsent }) }
     {
+        if self.ready < count {
+            return Ok(false);
+        }
         if !gather(&self.under, count, &mut self.replies)? {
             return Ok(false);
         }
         push_replies(&mut self.text, wording, self.replies.as_slice())?;
         self.ended = end_by(self.replies.as_slice());
         pass_over(&mut self.under, count);
+        self.ready -= count;
         self.told += count as u64;
         self.exchanges.pass();
         Ok(true)

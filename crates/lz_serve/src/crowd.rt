@@ -2,7 +2,7 @@
 ghost use Rattle.std.specs.Prelude.{◌≡◌, ◌≤◌, ◌↔◌, ◌⊎◌, [], All, IfOk, IfSome, IsTrue, None, false, length, slice_get, true};
 ghost use Rattle.lz_list.specs.Traces.{Begins};
 ghost use Rattle.lz_board.specs.Seats.{part};
-ghost use Rattle.lz_serve.specs.Clients.{AwaitsBeforeAt, ChangesAt, HasNoneAt, HasRepliedBeforeAt, HaveSeenIn, IsAwaited, IsHeardAt, IsInTurn, IsNext, Keeps, KeepsAwaited, OnlyLeave, TakesTurn, TellsAt, Turned};
+ghost use Rattle.lz_serve.specs.Clients.{AwaitsBeforeAt, ChangesAt, CountsOne, HasNoneAt, HasRepliedBeforeAt, HaveSeenIn, IsAwaited, IsHeardAt, IsInTurn, IsNext, Keeps, KeepsAwaited, OnlyLeave, TakesTurn, TellsAt, Turned};
 ghost use Rattle.lz_serve.specs.Grants.{Promises};
 ghost use Rattle.lz_serve.specs.Queues.{queued};
 ghost use Rattle.lz_serve.specs.Streams.{IsFresh};
@@ -44,6 +44,8 @@ pub struct Crowd<S: Stream> {
     leaving: usize,
     /// How many replies were given since the last sync whose clients haven't asked again.
     out: usize,
+    /// How many turns gave a line, up to 2^64 - 1.
+    begun: u64,
     clock: Clock,
 }
 
@@ -53,7 +55,7 @@ impl<S: Stream> Model for Crowd<S> {
 
     ghost Value = { Askers };
 
-    ghost view = { λ c. record { admitted = c.admitted; clients = map (λ place. place.client) c.places.items; queue = c.queue; scans = c.scans.items } };
+    ghost view = { λ c. record { admitted = c.admitted; clients = map (λ place. place.client) c.places.items; queue = c.queue; scans = c.scans.items; begun = c.begun } };
 }
 
 impl<S: Stream> Crowd<S> {
@@ -82,6 +84,7 @@ impl<S: Stream> Crowd<S> {
             parted: 0,
             leaving: 0,
             out: 0,
+            begun: 0,
             clock: Clock::new(),
         })
     }
@@ -108,6 +111,13 @@ impl<S: Stream> Crowd<S> {
     /// Whether all have left.
     pub fn is_empty(&self) -> bool {
         self.vacant.len() == self.places.len()
+    }
+
+    /// How many wait for their turn.
+    pub fn waiting(&self) -> usize
+        ensures { result ≡ length self.now.queue }
+    {
+        self.queue.len()
     }
 
     /// Whether none waits for its turn.
@@ -164,11 +174,11 @@ impl<S: Stream> Crowd<S> {
     pub fn hear<O: Observer>(&mut self, ready: Ready, observer: &O, buffer: &mut [u8])
         ensures { Keeps self.old self.new }
     {
-        let Ready { token, ends } = ready;
+        let Ready { token, drains } = ready;
         let Some(place) = self.places.get_mut(token) else {
             return;
         };
-        place.hear(ends, self.clock.now());
+        place.hear(drains, self.clock.now());
         self.tend(token, observer, buffer);
     }
 
@@ -190,6 +200,7 @@ impl<S: Stream> Crowd<S> {
         ensures told { TellsAt self.old token granted.question self.new }
         ensures waits { IsInTurn self.new token }
         ensures seen { HaveSeenIn self.new (part pass.now).known }
+        ensures begun { self.new.begun ≡ self.old.begun }
     {
         let Some(place) = self.places.get_mut(token) else {
             return;
@@ -214,7 +225,8 @@ impl<S: Stream> Crowd<S> {
 
     /// Does for those that were answered, or had no line, what needs no pass.
     pub fn tend_back<O: Observer>(&mut self, observer: &O, buffer: &mut [u8])
-        ensures { Keeps self.old self.new }
+        ensures kept { Keeps self.old self.new }
+        ensures begun { self.new.begun ≡ self.old.begun }
     {
         for at in 0..self.back.len() {
             let Some(token) = self.back.get(at).copied() else {
@@ -234,6 +246,8 @@ impl<S: Stream> Crowd<S> {
         ensures later { IfSome result (λ turn. IsNext self.old turn.0 turn.1) }
         ensures turn { IfSome result (λ turn. TakesTurn self.old self.new turn.0) }
         ensures none { result ≡ None → All (HasNoneAt self.new) self.old.queue × (self.new.queue ≡ []) }
+        ensures counted { IfSome result (λ _. CountsOne self.old.begun self.new.begun) }
+        ensures uncounted { result ≡ None → self.new.begun ≡ self.old.begun }
         ensures kept { Keeps self.old self.new }
     {
         'turns: while let Some((token, question)) = self.turn(pass) {
@@ -253,6 +267,8 @@ impl<S: Stream> Crowd<S> {
         ensures later { IfSome result (λ turn. IfSome turn.1 (IsNext self.old turn.0)) }
         ensures turned { IfSome result (λ turn. Turned self.old self.new turn.0 turn.1) }
         ensures none { result ≡ None → (self.old.queue ≡ []) × (self.new ≡ self.old) }
+        ensures counted { IfSome result (λ turn. IfSome turn.1 (λ _. CountsOne self.old.begun self.new.begun)) }
+        ensures uncounted { IfSome result (λ turn. turn.1 ≡ None → self.new.begun ≡ self.old.begun) }
         ensures kept { Keeps self.old self.new }
     {
         let token = self.queue.pop()?;
@@ -264,19 +280,24 @@ impl<S: Stream> Crowd<S> {
             is_next,
             is_back,
         } = place.take_turn(pass);
+        self.begun = self.begun.saturating_add(u64::from(question.is_some()));
         self.put(token, is_next);
         self.put_back(token, is_back);
         Some((token, question))
     }
 
-    /// The question to this pass that the client of this token has, if it has one. Where none waits it is read once more.
-    pub fn take_last<O: Observer>(
-        &mut self,
-        token: usize,
-        pass: &Pass,
-        observer: &O,
-        buffer: &mut [u8],
-    ) -> Option<Question>
+    /// Reads the client of this token once more, if none of its requests waits.
+    pub fn read_last<O: Observer>(&mut self, token: usize, observer: &O, buffer: &mut [u8])
+        ensures { Keeps self.old self.new }
+    {
+        let Some(place) = self.places.get_mut(token) else {
+            return;
+        };
+        place.read_last(observer, buffer);
+    }
+
+    /// The question to this pass that the client of this token has, if it has one.
+    pub fn take_last(&mut self, token: usize, pass: &Pass) -> Option<Question>
         requires { HaveSeenIn self.old (part pass.now).known }
         ensures before { IfSome result (λ question. question.before ≡ pass.now) }
         ensures awaited { IfSome result (λ question. IsAwaited self.new token question) }
@@ -287,7 +308,7 @@ impl<S: Stream> Crowd<S> {
         let Some(place) = self.places.get_mut(token) else {
             return None;
         };
-        place.take_last(pass, observer, buffer)
+        place.ask(pass)
     }
 
     /// Notes the time by the system's clock.
@@ -299,7 +320,8 @@ impl<S: Stream> Crowd<S> {
 
     // Does for a client what needs no pass, and queues it where it wants a turn.
     fn tend<O: Observer>(&mut self, token: usize, observer: &O, buffer: &mut [u8])
-        ensures { Keeps self.old self.new }
+        ensures kept { Keeps self.old self.new }
+        ensures begun { self.new.begun ≡ self.old.begun }
     {
         let crowded = self.queue.len() >= MANY;
         let Some(place) = self.places.get_mut(token) else {

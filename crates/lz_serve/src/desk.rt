@@ -1,12 +1,13 @@
 //! What a loop works at: its clients, its passes, and the calls under way.
 ghost use Rattle.std.specs.Prelude.{◌≡◌, ◌≢◌, ◌+◌, ◌<◌, All, IfOk, None, Some, false, true, vec_len};
 ghost use Rattle.lz_board.specs.Seats.{part};
-ghost use Rattle.lz_set.specs.declared.underway.Stage.TheVariants as stage;
+ghost use Rattle.lz_set.specs.declared.underway.Blocked.TheVariants as stage;
 ghost use Rattle.lz_serve.specs.Clients.{HaveSeenIn, KeepsAwaited};
-ghost use Rattle.lz_serve.specs.Desks.{AnswersOneOf};
+ghost use Rattle.lz_serve.specs.Desks.{AnswersOneOf, BeginsWithin};
 ghost use Rattle.lz_serve.specs.Grants.{Promises};
 
 mod pages;
+mod turning;
 
 use crate::answering::{Next, answer_one, begin_next, meet, play_call};
 use crate::asking::Asking;
@@ -14,7 +15,7 @@ use crate::crowd::Crowd;
 use crate::free_pass::{FreePass, first_of, put_free, with_one};
 use crate::gathering::Gathering;
 use crate::given::Given;
-use crate::moments::{MOMENT, Moments};
+use crate::moments::Moments;
 use crate::observer::Observer;
 use crate::pacing::Pacing;
 use crate::stream::Stream;
@@ -24,11 +25,6 @@ use std::alloc::{AllocError, Global};
 use std::marker::Model;
 use std::sync::Wait;
 use std::time::{Clock, Duration};
-
-/// For how many milliseconds it is waited for something to be heard, at most; and while a client is waited for that is to leave.
-const PATIENCE: u64 = 1_000;
-
-const SHORT_PATIENCE: u64 = 100;
 
 /// The clients of a loop, and its passes: those that are free, those that answer a request, and where there are several one that makes no call
 /// and meets the others, each after its answer and before its next call. No pass is lost.
@@ -54,16 +50,18 @@ pub(crate) struct Desk<S: Stream, N: Named, B: Given> {
     gathering: Gathering,
     /// When pages are listed beside commands.
     pacing: Pacing,
+    /// How many lines may still begin before connections are heard.
+    left: usize,
 }
 
 impl<S: Stream, N: Named, B: Given> Model for Desk<S, N, B> {
-    ghost use Rattle.std.specs.Prelude.{◌+◌, map, option_map, vec_capacity, vec_len};
+    ghost use Rattle.std.specs.Prelude.{◌+◌, length, map, option_map, vec_capacity, vec_len};
     ghost use Rattle.lz_board.specs.Seats.{part};
     ghost use Rattle.lz_serve.specs.Desks.{IsDesk, Passes, count_of};
 
     ghost Value = { Passes };
 
-    ghost view = { λ d. record { given = d.given; most = d.most; free = vec_len d.free + count_of d.meeting; calls = d.calls.items; ends = d.ends } };
+    ghost view = { λ d. record { given = d.given; most = d.most; free = vec_len d.free + count_of d.meeting; calls = d.calls.items; ends = d.ends; begun = d.crowd.begun; left = d.left; waiting = length d.crowd.queue } };
 
     ghost invariant = { λ d. IsDesk d.given d.most (vec_len d.free + count_of d.meeting) (vec_capacity d.free) (vec_capacity d.calls) d.crowd (option_map (λ free. (part free.pass).known) d.meeting) d.calls.items (map (λ free. (part free.pass).known) d.free.items) };
 }
@@ -90,6 +88,7 @@ impl<S: Stream, N: Named, B: Given> Desk<S, N, B> {
             tries: Moments::new(),
             gathering: Gathering::new(),
             pacing: Pacing::new(),
+            left: 0,
         })
     }
 
@@ -125,6 +124,7 @@ impl<S: Stream, N: Named, B: Given> Desk<S, N, B> {
             tries: _,
             gathering: _,
             pacing: _,
+            left: _,
         } = self;
         with_one(free, meeting)
     }
@@ -134,10 +134,11 @@ impl<S: Stream, N: Named, B: Given> Desk<S, N, B> {
     pub(crate) fn begin_all<D: Disk, G: StepGate, R: Wait>(&mut self, rt: &R, set: &Set<D, G, N>)
         ensures given { self.new.given ≡ self.old.given }
         ensures ends { self.old.ends ≡ true → self.new.calls ≡ self.old.calls }
+        ensures within { BeginsWithin self.old self.new }
     {
         let mut kept = set.keep();
         'passes: for _ in 0..self.free.len() {
-            if self.crowd.is_quiet() {
+            if self.left == 0 || self.crowd.is_quiet() {
                 return;
             }
             let Some(free) = self.free.pop() else {
@@ -149,6 +150,7 @@ impl<S: Stream, N: Named, B: Given> Desk<S, N, B> {
                 let Ok(()) = self.calls.push(asking) else {
                     unreachable!()
                 };
+                self.left -= 1;
             } else {
                 put_free(&mut self.free, asking.into_free());
                 return;
@@ -174,6 +176,7 @@ impl<S: Stream, N: Named, B: Given> Desk<S, N, B> {
         requires { Promises N.board N.format S.promised S.listed }
         ensures given { self.new.given ≡ self.old.given }
         ensures ends { self.old.ends ≡ true → (self.new.ends ≡ true) × All (AnswersOneOf self.old.calls) self.new.calls }
+        ensures within { BeginsWithin self.old self.new }
     {
         let tries = self.tries.pass(rt.monotonic().ok());
         let mut kept = set.keep();
@@ -188,7 +191,7 @@ impl<S: Stream, N: Named, B: Given> Desk<S, N, B> {
             }
             // The only pass is to rest before its next call where a client waits for a page.
             let is_wanted = self.meeting.is_none() && self.crowd.scans() > 0;
-            let rests = self.ends | is_wanted;
+            let rests = self.ends | (is_wanted | (self.left == 0));
             let asking = &mut self.calls[at];
             match play_call(
                 rt,
@@ -201,7 +204,7 @@ impl<S: Stream, N: Named, B: Given> Desk<S, N, B> {
                 rests,
                 tries,
             ) {
-                Next::GoesOn => {}
+                Next::GoesOn => self.left = self.left.saturating_sub(1),
                 Next::Waits => at += 1,
                 Next::Rests => {
                     let free = self.calls.swap_remove(at).into_free();
@@ -223,6 +226,7 @@ impl<S: Stream, N: Named, B: Given> Desk<S, N, B> {
     )
         ensures given { self.new.given ≡ self.old.given }
         ensures synced { All (λ call. call.stage ≢ Some stage.Syncs) self.new.calls }
+        ensures within { BeginsWithin self.old self.new }
     {
         let began = rt.monotonic().ok();
         let mut kept = set.keep();
@@ -235,20 +239,6 @@ impl<S: Stream, N: Named, B: Given> Desk<S, N, B> {
         if has_synced {
             self.gathering.note_sync(time_since(rt, began));
             self.crowd.forget_out();
-        }
-    }
-
-    /// Whether the next sync waits a little for clients that were just answered, by whose calls it would do as well: where a pass is
-    /// free for them.
-    pub(crate) fn gathers<R: Clock>(&mut self, rt: &R) -> bool
-        ensures { self.new.given ≡ self.old.given }
-    {
-        if self.calls.is_empty() || self.free.is_empty() || !self.crowd.has_out() {
-            return false;
-        }
-        match rt.monotonic() {
-            Ok(now) => self.gathering.holds(now),
-            Err(_) => false,
         }
     }
 
@@ -279,7 +269,7 @@ impl<S: Stream, N: Named, B: Given> Desk<S, N, B> {
         }
     }
 
-    /// Answers each client whose request waits, by a pass that is free and has seen what the clients have. The set has halted, which is what it
+    /// Answers each client whose requests wait, by a pass that is free and has seen what the clients have. The set has halted, which is what it
     /// tells then. Nothing is begun after it.
     pub(crate) fn answer_last<D, G, R, O>(
         &mut self,
@@ -310,37 +300,12 @@ impl<S: Stream, N: Named, B: Given> Desk<S, N, B> {
     pub(crate) fn tell_parted<O: Observer>(&mut self, observer: &O)
         ensures given { self.new.given ≡ self.old.given }
         ensures free { self.new.free ≡ self.old.free }
+        ensures within { BeginsWithin self.old self.new }
     {
         for _ in self.parted..self.crowd.parted() {
             observer.parted();
         }
         self.parted = self.crowd.parted();
-    }
-
-    /// For how long it is waited for something to be heard: not at all where there is something else to do.
-    pub(crate) fn patience(&self) -> Duration {
-        let patience = match (self.is_busy(), self.crowd.is_left()) {
-            (true, _) if self.only_waits() => MOMENT,
-            (true, _) => 0,
-            (false, true) => SHORT_PATIENCE,
-            (false, false) => PATIENCE,
-        };
-        Duration::from_millis(patience)
-    }
-
-    // Whether each call waits for slots, and no other can begin.
-    fn only_waits(&self) -> bool {
-        self.calls.iter().all(Asking::waits) && (self.free.is_empty() || self.crowd.is_quiet())
-    }
-
-    // Whether there is something to do, with nothing heard of the connections.
-    fn is_busy(&self) -> bool {
-        self.crowd.scans() > 0 || self.has_commands()
-    }
-
-    // Whether a command is under way, or one waits that can begin.
-    fn has_commands(&self) -> bool {
-        !self.rests() || !self.free.is_empty() && !self.crowd.is_quiet()
     }
 
     /// Whether a client was told that the service halted, or so many connections were served; 0 for no end.
@@ -368,7 +333,7 @@ fn time_since<R: Clock>(rt: &R, began: Option<Duration>) -> Option<Duration> {
     Some(now.saturating_sub(began))
 }
 
-// Answers each client whose request waits by this pass, which has seen what the clients have.
+// Answers each client whose requests wait by this pass, which has seen what the clients have.
 fn answer_each<S, D, G, N, B, R, O>(
     rt: &R,
     set: &Set<D, G, N>,
@@ -393,4 +358,5 @@ where
     'places: for token in 0..crowd.most() {
         answer_one(rt, set, crowd, token, free, observer, buffer);
     }
+    crowd.tend_back(observer, buffer);
 }

@@ -9,9 +9,6 @@ use std::alloc::{AllocError, Global};
 use std::collections::VecDeque;
 use std::marker::Model;
 
-/// For how many turns and requests room is kept where there are none.
-const FEW: usize = 1;
-
 /// The turns of exchanges, and the requests of theirs that wait.
 #[derive(Drop)]
 pub struct Exchanges {
@@ -118,12 +115,12 @@ impl Exchanges {
         self.turns.is_empty()
     }
 
-    /// Gives the room back, but for a little.
+    /// Gives the room back that isn't used.
     pub(crate) fn rest(&mut self)
         ensures { self.new ≡ self.old }
     {
-        self.turns.shrink_to(FEW);
-        self.requests.shrink_to(FEW);
+        self.turns.shrink_to(0);
+        self.requests.shrink_to(0);
     }
 
     /// For how many turns and requests it has room.

@@ -10,7 +10,7 @@ use std::net::{Shutdown, TcpStream};
 use std::time::Duration;
 
 // For how many seconds a read or a write waits before it sees whether the service is to end.
-const PATIENCE: u64 = 1;
+const PATIENCE_S: u64 = 1;
 
 /// A connection whose calls wait until something came or went, its client was idle for too long, or the service is to end.
 #[derive(Drop)]
@@ -27,7 +27,7 @@ impl<'a, O: Observer> Guest<'a, O> {
         observer: &'a O,
         idle: Option<Duration>,
     ) -> Guest<'a, O> {
-        let patience = Some(Duration::from_secs(PATIENCE));
+        let patience = Some(Duration::from_secs(PATIENCE_S));
         // Where no time can be set a call waits without an end.
         let _ = stream.set_read_timeout(patience);
         let _ = stream.set_write_timeout(patience);
@@ -36,7 +36,7 @@ impl<'a, O: Observer> Guest<'a, O> {
         Guest {
             stream,
             observer,
-            most: idle.map(|idle| idle.as_secs().checked_div(PATIENCE).unwrap_or(0)),
+            most: idle.map(|idle| idle.as_secs().checked_div(PATIENCE_S).unwrap_or(0)),
         }
     }
 

@@ -1,9 +1,8 @@
 //! Loops that serve a set together, each with passes and connections of its own.
-ghost use Rattle.std.specs.Prelude.{◌≡◌, ◌≤◌, true, false, All, vec_len};
-ghost use Rattle.std.specs.List.{Any};
-ghost use Rattle.lz_board.specs.Seats.{part};
+ghost use Rattle.std.specs.Prelude.{◌≡◌, ◌≤◌, All, vec_len};
 ghost use Rattle.lz_set.specs.Names.{MayCall};
-ghost use Rattle.lz_serve.specs.Halts.{IsCalm, IsCalmAfter, SawHalt};
+ghost use Rattle.lz_serve.specs.Halts.{IsCalmAfter};
+ghost use Rattle.lz_serve.specs.Services.{Serves, parts_of};
 
 use crate::desk::Desk;
 use crate::free_pass::FreePass;
@@ -29,6 +28,7 @@ use std::time::Clock;
 /// Serves connections by loops, one of them in this thread, each of which has a share of the passes and of the connections, and serves so
 /// many sessions, or without an end where `bounds.sessions` is 0. A loop ends as well once one of them has found the set halted. Where there are as
 /// many connections as there may be, further ones wait in the listener's queue.
+#[tactic(auto, using(crate::proofs::JoinedPasses::calm_after))]
 pub fn serve_loops<D, G, N, R, O>(
     rt: &R,
     listener: &Listener,
@@ -45,11 +45,7 @@ where
     R: Net + Threads + Wait + Clock + AllocGlobal + Sync,
     O: Observer + Sync,
     requires may_call { All (MayCall N.board) passes.items }
-    ensures may_call { All (MayCall N.board) result.passes.items }
-    ensures count { vec_len result.passes ≡ vec_len passes }
-    ensures unserved { result.unserved ≡ true → result.passes.items ≡ passes.items }
-    ensures halted { result.halted ≡ true → Any SawHalt result.passes.items }
-    ensures calm { All (λ pass. IsCalm (part pass)) passes.items → result.halted ≡ false → All (λ pass. IsCalm (part pass)) result.passes.items }
+    ensures { Serves N.board (parts_of passes.items) passes result }
 {
     let told = AtomicBool::new(false);
     let count = loops.count_for(passes.len());
@@ -131,11 +127,7 @@ where
     O: Observer + Sync,
     requires may_call { All (MayCall N.board) passes.items }
     requires calm { All (IsCalmAfter B.parts) passes.items }
-    ensures may_call { All (MayCall N.board) result.passes.items }
-    ensures count { vec_len result.passes ≡ vec_len passes }
-    ensures unserved { result.unserved ≡ true → result.passes.items ≡ passes.items }
-    ensures halted { result.halted ≡ true → Any SawHalt result.passes.items }
-    ensures calm { result.halted ≡ false → All (IsCalmAfter B.parts) result.passes.items }
+    ensures { Serves N.board B.parts passes result }
 {
     let mut left = sockets.len().saturating_add(1);
     let mut connections = connections;

@@ -2,7 +2,7 @@
 use std::time::Duration;
 
 /// How many milliseconds a moment has.
-pub(crate) const MOMENT: u64 = 1;
+pub(crate) const MOMENT_MS: u64 = 1;
 
 /// When something was done last that is done once a moment at most.
 #[derive(Drop)]
@@ -18,7 +18,7 @@ impl Moments {
     /// Whether a moment has passed since it said so last. Without a clock each call is a moment.
     pub(crate) fn pass(&mut self, now: Option<Duration>) -> bool {
         if let (Some(last), Some(now)) = (self.last, now) {
-            if now.saturating_sub(last) < Duration::from_millis(MOMENT) {
+            if now.saturating_sub(last) < Duration::from_millis(MOMENT_MS) {
                 return false;
             }
         }

@@ -4,7 +4,7 @@ use std::time::Duration;
 /// For how many times as long as pages took no further one is listed, while commands wait; and for how many milliseconds at most.
 const REST: u32 = 64;
 
-const MOST_REST: u64 = 100;
+const MOST_REST_MS: u64 = 100;
 
 /// When pages may be listed again, though commands wait.
 #[derive(Drop)]
@@ -28,7 +28,7 @@ impl Pacing {
     pub(crate) fn note(&mut self, began: Option<Duration>, now: Option<Duration>) {
         if let (Some(began), Some(now)) = (began, now) {
             let rest = now.saturating_sub(began).saturating_mul(REST);
-            self.next = now.saturating_add(rest.min(Duration::from_millis(MOST_REST)));
+            self.next = now.saturating_add(rest.min(Duration::from_millis(MOST_REST_MS)));
         }
     }
 }

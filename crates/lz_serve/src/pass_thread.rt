@@ -24,13 +24,13 @@ use std::time::{Clock, Duration};
 
 /// How many milliseconds a thread waits before it tries again where no connection could be had, as when no descriptors are
 /// left: twice as long each time, up to a second.
-const PAUSE: u64 = 20;
+const PAUSE_MS: u64 = 20;
 
-const LONGEST_PAUSE: u64 = 1_000;
+const LONGEST_PAUSE_MS: u64 = 1_000;
 
 /// For how many milliseconds, and how often, what a client still sends after a session's end is read and thrown away: a
 /// connection that is closed over unread bytes is reset, and the client may lose its last replies.
-const FAREWELL: u64 = 100;
+const FAREWELL_MS: u64 = 100;
 
 const FAREWELLS: usize = 16;
 
@@ -97,7 +97,7 @@ impl<'a, D: Disk, G: StepGate, N: Named, R: Wait + Clock + AllocGlobal, O: Obser
     // Serves one connection after the other, so many of them, or without an end at 0, and no more once it was told that the service halted.
     fn serve_sessions<B: Given>(&self, free: &mut FreePass<N, B>) {
         let mut served = 0u64;
-        let mut pause = PAUSE;
+        let mut pause = PAUSE_MS;
         if self.is_ended() {
             return;
         }
@@ -113,11 +113,11 @@ impl<'a, D: Disk, G: StepGate, N: Named, R: Wait + Clock + AllocGlobal, O: Obser
                 Err(error) => {
                     self.observer.unaccepted(error);
                     thread::sleep(self.rt, Duration::from_millis(pause));
-                    pause = pause.saturating_mul(2).min(LONGEST_PAUSE);
+                    pause = pause.saturating_mul(2).min(LONGEST_PAUSE_MS);
                     continue;
                 }
             };
-            pause = PAUSE;
+            pause = PAUSE_MS;
             served = served.wrapping_add(1);
             self.serve_stream(&stream, served, free);
             // Who waits at a listener that stays is left to the next service.
@@ -190,7 +190,7 @@ where
 
 // Ends the replies, and reads for a while what is still sent.
 fn take_leave(stream: &TcpStream) {
-    let patience = Some(Duration::from_millis(FAREWELL));
+    let patience = Some(Duration::from_millis(FAREWELL_MS));
     if stream.shutdown(Shutdown::Write).is_err() || stream.set_read_timeout(patience).is_err() {
         return;
     }

@@ -17,7 +17,7 @@ use lz_set::{Named, Pass};
 const MOST_READS: usize = 16;
 
 /// For how many milliseconds a client whose session is over is waited for.
-const FAREWELL: u64 = 100;
+const FAREWELL_MS: u64 = 100;
 
 /// What the client of a place wants.
 #[derive(Clone, Copy, PartialEq, Eq)]
@@ -48,8 +48,8 @@ pub(crate) struct Place<S: Stream> {
     client: Option<Client<S>>,
     /// There may be something to read.
     readable: bool,
-    /// Its client sends nothing more.
-    ends: bool,
+    /// It is read until nothing comes, also after less than there was room for.
+    drains: bool,
     /// It was answered, and wasn't tended to since.
     back: bool,
     /// It waits for a page, which was noted.
@@ -69,7 +69,7 @@ impl<S: Stream> Place<S> {
         Place {
             client: None,
             readable: false,
-            ends: false,
+            drains: false,
             back: false,
             lists: false,
             parts: false,
@@ -84,7 +84,7 @@ impl<S: Stream> Place<S> {
     {
         self.client = Some(client);
         self.readable = true;
-        self.ends = false;
+        self.drains = false;
         self.back = false;
         self.lists = false;
         self.parts = false;
@@ -159,11 +159,11 @@ impl<S: Stream> Place<S> {
     }
 
     /// Its connection can be read or written. One whose session is over is waited for no longer because of that.
-    pub(crate) fn hear(&mut self, ends: bool, now: u64)
+    pub(crate) fn hear(&mut self, drains: bool, now: u64)
         ensures { self.new.client ≡ self.old.client }
     {
         self.readable = true;
-        self.ends = self.ends || ends;
+        self.drains = self.drains || drains;
         if !self.leaves {
             self.moved = now;
         }
@@ -201,8 +201,8 @@ impl<S: Stream> Place<S> {
         }
     }
 
-    // Its client's next question, if it has one.
-    fn ask(&mut self, pass: &Pass) -> Option<Question>
+    /// Its client's next question to this pass, if it has one. The pass has seen what those had that answered the client.
+    pub(crate) fn ask(&mut self, pass: &Pass) -> Option<Question>
         requires { IfSome self.old.client (λ client. Begins client.seen (part pass.now).known) }
         ensures before { IfSome result (λ question. question.before ≡ pass.now) }
         ensures asked { IfSome result (λ question. IsAskedBy self.new.client question) }
@@ -226,29 +226,17 @@ impl<S: Stream> Place<S> {
         }
     }
 
-    /// Its client's question to this pass that waits, if one does. Where none does it is read once more.
-    pub(crate) fn take_last<O: Observer>(
-        &mut self,
-        pass: &Pass,
-        observer: &O,
-        buffer: &mut [u8],
-    ) -> Option<Question>
-        requires { IfSome self.old.client (λ client. Begins client.seen (part pass.now).known) }
-        ensures before { IfSome result (λ question. question.before ≡ pass.now) }
-        ensures asked { IfSome result (λ question. IsAskedBy self.new.client question) }
-        ensures later { IfSome result (ComesAfter self.old.client) }
-        ensures stays { Remains self.old.client self.new.client }
-        ensures kept { KeepsOwn self.old.client self.new.client }
-        ensures heard { KeepsHeard self.old.client self.new.client }
-        ensures seen { KeepsSeen self.old.client self.new.client }
-        ensures none { result ≡ None → HasNone self.new.client }
+    /// Reads its client once more, if none of its requests waits.
+    pub(crate) fn read_last<O: Observer>(&mut self, observer: &O, buffer: &mut [u8])
+        ensures { KeepsLinesOf self.old.client self.new.client }
     {
-        let client = self.client.as_mut()?;
+        let Some(client) = &mut self.client else {
+            return;
+        };
         if !client.waits() {
-            let _ = client.read(buffer, self.ends);
+            let _ = client.read(buffer, self.drains);
             client.tell_texts(observer);
         }
-        client.ask(pass)
     }
 
     /// Does for its client what needs no pass, in this millisecond. Among many that wait (`crowded`), replies of one whose lines wait go out
@@ -273,12 +261,8 @@ impl<S: Stream> Place<S> {
         if !holds_back && client.has_unsent() {
             client.write();
         }
-        for _ in 0..MOST_READS {
-            if self.parts || !self.readable || client.is_occupied() {
-                break;
-            }
-            self.readable = client.read(buffer, self.ends);
-            client.tell_texts(observer);
+        if self.readable && !self.parts {
+            self.readable = read_pieces(client, observer, buffer, self.drains);
         }
         // What was told of the pieces that were read.
         if !holds_back && client.has_unsent() {
@@ -330,13 +314,14 @@ impl<S: Stream> Place<S> {
     /// waited for so long. One that waits for its turn (`queued`) isn't closed before that, unless its session is to end.
     pub(crate) fn is_idle(&self, now: u64, idle: Option<u64>, queued: bool) -> bool {
         match &self.client {
-            Some(client) if (self.parts || !queued && !self.lists) && !client.is_asked() => {}
+            Some(client)
+                if (self.leaves || self.parts || !queued && !self.lists) && !client.is_asked() => {}
             _ => return false,
         }
         let still = now.saturating_sub(self.moved);
         match idle {
             Some(most) if still > most => true,
-            _ => self.leaves && still >= FAREWELL,
+            _ => self.leaves && still >= FAREWELL_MS,
         }
     }
 
@@ -358,8 +343,29 @@ fn note_page(lists: &mut bool) -> Wish {
     if was_noted { Wish::Nothing } else { Wish::Page }
 }
 
+// Reads pieces of a client's text, and tells what of them needs no pass, until there is something else to do for it. It says whether there may
+// be more to read.
+fn read_pieces<S: Stream, O: Observer>(
+    client: &mut Client<S>,
+    observer: &O,
+    buffer: &mut [u8],
+    drains: bool,
+) -> bool
+    ensures { KeepsLines client.old client.new }
+{
+    let mut readable = true;
+    for _ in 0..MOST_READS {
+        if !readable || client.is_occupied() {
+            break;
+        }
+        readable = client.read(buffer, drains);
+        client.tell_texts(observer);
+    }
+    readable
+}
+
 // Throws away what a client sends after its session's end: a connection that is closed over unread bytes is reset, and the client
-// may lose its last replies.
+// may lose its last replies. One that sends much is seen to again in its turn.
 fn see_off<S: Stream>(client: &mut Client<S>, buffer: &mut [u8]) -> Wish
     ensures { KeepsLines client.old client.new }
 {
@@ -370,5 +376,5 @@ fn see_off<S: Stream>(client: &mut Client<S>, buffer: &mut [u8]) -> Wish
             None => return Wish::Close,
         }
     }
-    Wish::Close
+    Wish::Turn
 }

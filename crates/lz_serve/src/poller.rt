@@ -7,8 +7,9 @@ use std::time::Duration;
 #[derive(Clone, Copy, Debug, PartialEq, Eq)]
 pub struct Ready {
     pub token: usize,
-    /// Its client sends nothing more, so nothing will tell of what is left to be read.
-    pub ends: bool,
+    /// It is to be read until nothing comes, since nothing may tell of what is left: its client sends nothing more, or has sent a byte as
+    /// urgent, before which a receiving stops short.
+    pub drains: bool,
 }
 
 /// Connections that come, and those that can be read or written.
@@ -23,7 +24,8 @@ pub trait Poller {
     type Stream: Stream;
 
     /// Waits until a connection has come, or one can be read or written, but not for longer than so. Puts those that can be read or
-    /// written at the end of `ready`: each of which that is so since its last `Later`, or since it gave less than there was room for.
+    /// written at the end of `ready`: each of which that is so since its last `Later`, or, where it doesn't drain, since it gave less than there
+    /// was room for.
     /// Where the system or memory fails it puts none, after a pause.
     fn poll(&mut self, patience: Duration, ready: &mut Vec<Ready>)
         ensures { came self.new ≤ came self.old };

@@ -1,9 +1,8 @@
 //! A service by a thread for each pass, and how a service ends.
-ghost use Rattle.std.specs.Prelude.{◌≡◌, [], true, false, All, vec_len};
-ghost use Rattle.std.specs.List.{Any};
-ghost use Rattle.lz_board.specs.Seats.{part};
+ghost use Rattle.std.specs.Prelude.{◌≡◌, true, false, All};
 ghost use Rattle.lz_set.specs.Names.{MayCall};
-ghost use Rattle.lz_serve.specs.Halts.{IsCalm, IsCalmAfter, SawHalt};
+ghost use Rattle.lz_serve.specs.Halts.{IsCalmAfter};
+ghost use Rattle.lz_serve.specs.Services.{Serves, parts_of};
 
 use crate::given::Given;
 use crate::listener::Listener;
@@ -73,11 +72,7 @@ where
     R: Threads + Wait + Clock + AllocGlobal + Sync,
     O: Observer + Sync,
     requires may_call { All (MayCall N.board) passes.items }
-    ensures may_call { All (MayCall N.board) result.passes.items }
-    ensures count { vec_len result.passes ≡ vec_len passes }
-    ensures unserved { result.unserved ≡ true → result.passes.items ≡ passes.items }
-    ensures halted { result.halted ≡ true → Any SawHalt result.passes.items }
-    ensures calm { All (λ pass. IsCalm (part pass)) passes.items → result.halted ≡ false → All (λ pass. IsCalm (part pass)) result.passes.items }
+    ensures { Serves N.board (parts_of passes.items) passes result }
 {
     let told = AtomicBool::new(false);
     let own = Host {
@@ -107,11 +102,7 @@ where
     O: Observer + Sync,
     requires may_call { All (MayCall N.board) passes.items }
     requires calm { All (IsCalmAfter B.parts) passes.items }
-    ensures may_call { All (MayCall N.board) result.passes.items }
-    ensures count { vec_len result.passes ≡ vec_len passes }
-    ensures unserved { result.unserved ≡ true → result.passes.items ≡ passes.items }
-    ensures halted { result.halted ≡ true → Any SawHalt result.passes.items }
-    ensures calm { result.halted ≡ false → All (IsCalmAfter B.parts) result.passes.items }
+    ensures { Serves N.board B.parts passes result }
 {
     match hosts_like(rt.alloc(), &own, passes.len().saturating_sub(1)) {
         Ok(others) => serve_by::<D, G, N, B, R, O>(

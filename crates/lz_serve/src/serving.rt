@@ -1,11 +1,10 @@
 //! The loop.
-ghost use Rattle.std.specs.Prelude.{◌≡◌, ◌≤◌, ◌+◌, [], IfOk, true, false, All, vec_capacity, vec_len};
-ghost use Rattle.std.specs.List.{Any};
-ghost use Rattle.lz_board.specs.Seats.{part};
+ghost use Rattle.std.specs.Prelude.{◌≡◌, ◌≤◌, ◌+◌, [], IfOk, All, vec_capacity, vec_len};
 ghost use Rattle.lz_set.specs.Names.{MayCall};
 ghost use Rattle.lz_serve.specs.Clients.{Keeps};
 ghost use Rattle.lz_serve.specs.Grants.{Promises};
-ghost use Rattle.lz_serve.specs.Halts.{IsCalm, IsCalmAfter, SawHalt};
+ghost use Rattle.lz_serve.specs.Halts.{IsCalmAfter};
+ghost use Rattle.lz_serve.specs.Services.{Serves, parts_of};
 
 use crate::crowd::Crowd;
 use crate::desk::Desk;
@@ -24,22 +23,19 @@ use std::alloc::{AllocError, Global};
 use std::marker::Brand;
 use std::sync::Wait;
 use std::sync::atomic::{AtomicBool, Ordering};
-use std::thread;
 use std::time::{Clock, Duration};
 
 /// For how many milliseconds, at its end, a loop goes on sending replies that are slowly taken, and how long each turn is then at most.
-const FAREWELL: u64 = 1_000;
+const FAREWELL_MS: u64 = 1_000;
 
-const FAREWELL_TURN: u64 = 100;
-
-/// For how many microseconds a loop sleeps where it holds a sync back, before it listens again.
-const GLIMPSE: u64 = 20;
+const FAREWELL_TURN_MS: u64 = 100;
 
 /// Serves connections, so many at once, by these passes in one thread, until a client was told that the service halted, here or by another loop, which
 /// sets `told`, the observer says that it is to end, or so many connections were served. Then the calls under way are played to their
 /// answers, and what is unsent is sent. Where the service halted each request that waits is answered too. The loop whose client was told
 /// so first tells the observer. Where no memory is left for its clients it serves none. It hands the poller back, from which no more
 /// connections have come than so.
+#[tactic(auto, using(crate::proofs::JoinedPasses::calm_after))]
 pub fn serve_loop<D, G, N, R, O, P>(
     rt: &R,
     poller: P,
@@ -59,11 +55,7 @@ where
     P: Poller,
     requires may_call { All (MayCall N.board) passes.items }
     requires promised { Promises N.board N.format P.Stream.promised P.Stream.listed }
-    ensures may_call { All (MayCall N.board) result.0.passes.items }
-    ensures count { vec_len result.0.passes ≡ vec_len passes }
-    ensures unserved { result.0.unserved ≡ true → result.0.passes.items ≡ passes.items }
-    ensures halted { result.0.halted ≡ true → Any SawHalt result.0.passes.items }
-    ensures calm { All (λ pass. IsCalm (part pass)) passes.items → result.0.halted ≡ false → All (λ pass. IsCalm (part pass)) result.0.passes.items }
+    ensures served { Serves N.board (parts_of passes.items) passes result.0 }
     ensures sessions { 1 ≤ bounds.sessions → P.came result.1 ≤ P.came poller + bounds.sessions }
 {
     serve_among::<D, G, N, Brand, R, O, P>(
@@ -100,11 +92,7 @@ where
     requires may_call { All (MayCall N.board) passes.items }
     requires calm { All (IsCalmAfter B.parts) passes.items }
     requires promised { Promises N.board N.format P.Stream.promised P.Stream.listed }
-    ensures may_call { All (MayCall N.board) result.0.passes.items }
-    ensures count { vec_len result.0.passes ≡ vec_len passes }
-    ensures unserved { result.0.unserved ≡ true → result.0.passes.items ≡ passes.items }
-    ensures halted { result.0.halted ≡ true → Any SawHalt result.0.passes.items }
-    ensures calm { result.0.halted ≡ false → All (IsCalmAfter B.parts) result.0.passes.items }
+    ensures served { Serves N.board B.parts passes result.0 }
     ensures sessions { 1 ≤ bounds.sessions → P.came result.1 ≤ P.came poller + bounds.sessions }
 {
     let Ok((desk, free, done)) = make_desk::<P::Stream, N, B>(rt.alloc(), passes.len(), connections)
@@ -226,17 +214,7 @@ where
         if is_ended(observer, told) {
             break;
         }
-        desk.list_in_turn(rt, set, observer, &mut buffer);
-        desk.begin_all(rt, set);
-        desk.play_all(rt, set, observer, &mut buffer);
-        if desk.gathers(rt) {
-            thread::sleep(rt, Duration::from_micros(GLIMPSE));
-        } else if !desk.rests() {
-            desk.sync_all(rt, set);
-            // Whose sync it was is answered before others are heard, so that they ask again while those are.
-            desk.play_all(rt, set, observer, &mut buffer);
-        }
-        desk.tell_parted(observer);
+        desk.play_turn(rt, set, observer, &mut buffer);
     }
     desk.finish(rt, set, observer, &mut buffer);
     if desk.halted() && !told.swap(true, Ordering::SeqCst) {
@@ -340,22 +318,32 @@ where
     ensures { Keeps crowd.old crowd.new }
 {
     crowd.part_all(observer, buffer);
-    let patience = Duration::from_millis(FAREWELL_TURN);
     if let Ok(began) = rt.monotonic() {
         'turns: for _ in 0..u64::MAX {
             if crowd.is_empty() || !is_within(rt, began) {
                 break;
             }
+            let patience = farewell_turn(crowd);
             listen(rt, poller, crowd, patience, None, ready, observer, buffer);
+            crowd.tend_queue(observer, buffer);
         }
     }
     crowd.close_all();
 }
 
+// For how long it is waited for something to be heard: not at all where a client sends on.
+fn farewell_turn<S: Stream>(crowd: &Crowd<S>) -> Duration {
+    if crowd.is_quiet() {
+        Duration::from_millis(FAREWELL_TURN_MS)
+    } else {
+        Duration::ZERO
+    }
+}
+
 // Whether it is no later than a farewell's time after this.
 fn is_within<R: Clock>(rt: &R, began: Duration) -> bool {
     match rt.monotonic() {
-        Ok(now) => now.saturating_sub(began) < Duration::from_millis(FAREWELL),
+        Ok(now) => now.saturating_sub(began) < Duration::from_millis(FAREWELL_MS),
         Err(_) => false,
     }
 }

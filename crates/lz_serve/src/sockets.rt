@@ -19,10 +19,10 @@ const EVENTS: usize = 1_024;
 const LISTENER: Token = Token(usize::MAX);
 
 /// For how many milliseconds a loop waits before it tries again where it can't ask what is ready.
-const PAUSE: u64 = 20;
+const PAUSE_MS: u64 = 20;
 
 /// For how many milliseconds a loop leaves a connection to those that have fewer.
-const COURTESY: u64 = 2;
+const COURTESY_MS: u64 = 2;
 
 /// What a loop waits for: a listener, which it may share with others, and the connections that it took there.
 pub struct Sockets<'a, R: Clock> {
@@ -124,7 +124,7 @@ impl<'a, R: Clock> Sockets<'a, R> {
             return false;
         };
         let since = self.left.unwrap_or(now);
-        let is_left = now.saturating_sub(since) < Duration::from_millis(COURTESY);
+        let is_left = now.saturating_sub(since) < Duration::from_millis(COURTESY_MS);
         self.left = if is_left { Some(since) } else { None };
         is_left
     }
@@ -137,14 +137,14 @@ impl<'a, R: Clock> Poller for Sockets<'a, R> {
 
     fn poll(&mut self, patience: Duration, ready: &mut Vec<Ready>) {
         let patience = match self.left {
-            Some(_) => patience.min(Duration::from_millis(COURTESY)),
+            Some(_) => patience.min(Duration::from_millis(COURTESY_MS)),
             None => patience,
         };
         // The system tells of a change once, so it isn't asked before there is room for what it tells.
         if ready.reserve(EVENTS).is_err()
             || self.poll.poll(&mut self.events, Some(patience)).is_err()
         {
-            thread::sleep(self.rt, Duration::from_millis(PAUSE));
+            thread::sleep(self.rt, Duration::from_millis(PAUSE_MS));
             return;
         }
         for event in self.events.iter() {
@@ -153,7 +153,7 @@ impl<'a, R: Clock> Poller for Sockets<'a, R> {
             } else {
                 let _ = ready.push(Ready {
                     token: event.token().0,
-                    ends: event.is_read_closed(),
+                    drains: event.is_read_closed() || event.is_priority(),
                 });
             }
         }
@@ -177,10 +177,10 @@ impl<'a, R: Clock> Poller for Sockets<'a, R> {
         let mut stream = TcpStream::from_std(stream);
         // A reply goes out at once; where that can't be asked for it may go out later.
         let _ = stream.set_nodelay(true);
-        let both = Interest::READABLE | Interest::WRITABLE;
+        let wanted = Interest::READABLE | Interest::WRITABLE | Interest::PRIORITY;
         self.poll
             .registry()
-            .register(&mut stream, Token(token), both)?;
+            .register(&mut stream, Token(token), wanted)?;
         self.loads.add(self.index);
         Ok(Some(Socket {
             stream,

@@ -1,8 +1,8 @@
 //! Workers, each with a share of a set's passes, in threads.
-ghost use Rattle.std.specs.Prelude.{◌≡◌, ◌≤◌, [], true, false, All, IfSome, vec_capacity, vec_len};
-ghost use Rattle.std.specs.List.{Any};
+ghost use Rattle.std.specs.Prelude.{◌≡◌, ◌≤◌, [], All, IfSome, vec_capacity, vec_len};
 ghost use Rattle.lz_set.specs.Names.{MayCall};
-ghost use Rattle.lz_serve.specs.Halts.{IsCalmAfter, SawHalt};
+ghost use Rattle.lz_serve.specs.Halts.{IsCalmAfter};
+ghost use Rattle.lz_serve.specs.Services.{Serves};
 
 use crate::desk::Desk;
 use crate::free_pass::{FreePass, hand_back};
@@ -91,11 +91,7 @@ where
     requires may_call { All (MayCall N.board) passes.items }
     requires calm { All (IsCalmAfter B.parts) passes.items }
     requires desk { IfSome desk (λ d. (d.given ≡ 0) × (d.free ≡ 0) × (vec_len passes ≤ d.most)) }
-    ensures may_call { All (MayCall N.board) result.passes.items }
-    ensures count { vec_len result.passes ≡ vec_len passes }
-    ensures unserved { result.unserved ≡ true → result.passes.items ≡ passes.items }
-    ensures halted { result.halted ≡ true → Any SawHalt result.passes.items }
-    ensures calm { result.halted ≡ false → All (IsCalmAfter B.parts) result.passes.items }
+    ensures { Serves N.board B.parts passes result }
 {
     let Ok(spare) = Spare::<N, B>::of(rt.alloc(), others.len(), passes.len()) else {
         return none_served(passes, observer, Lack::Memory);

@@ -3,7 +3,7 @@ use Rattle.std.proofs.Common.{◌≡◌, ℕ, suc, List, [], ◌∷◌, ◌++◌
 use Rattle.lz_vault.specs.{Opens.{open_count}, Stages.{Cell}, declared.vault.Stage.{Stage, TheVariants.{Closed, Torn, KeyLoose, Keyed, Opening, Open, Closing}}}
 use Rattle.lz_list.specs.{declared.publishing.Publishing.TheVariants.{Linked as linked}, Traces.{Trace}}
 use Rattle.lz_board.specs.{declared.view.{Note.{Note}, Part.{Part}}, Notes.{trace_of}, Seats.{BoardId}}
-use Rattle.lz_tie.specs.NotedRuns.{IsTied}
+use Rattle.lz_refinement.specs.NotedRuns.{IsTied}
 use Rattle.lz_set.{specs.Counts.{CountsOpen}, proofs.TiedRows.{publishes_in_a_call, publishing_call, replies_unasked, unasked}}
 
 -- a slot of 12 at this stage

@@ -1,12 +1,12 @@
 -- Worked rows: what no lives of sets that follow on one another are.
 use Rattle.std.proofs.Common.{◌≡◌, ℕ, true, List, [], ◌∷◌, ◌++◌, None, refl, sym, arith}
 use mathlib.Core.Bool.{false≢true}
-use Rattle.lz_slot.specs.{declared.{command.Command.TheVariants.{Add}, format.Format.TheVariants.{Two}, history.Mark.TheVariants.{Call, Answer}}, Bytes.{Holds}}
+use Rattle.lz_slot.specs.{declared.{command.Command.TheVariants.{Add}, format.Format.TheVariants.{Two}, history.HistoryEvent.TheVariants.{Call, Answer}}, Bytes.{Holds}}
 use Rattle.lz_slot.specs.{Histories.{History, ChainTo, Fits}, Sets.{Keys}}
 use Rattle.lz_list.specs.declared.publishing.Publishing.TheVariants.{Linked as linked}
 use Rattle.lz_machine.{specs.Alone.{IsPlain}, proofs.{Alone.Service.{served}, Open.FirstPoint.{one_set}}}
 use Rattle.lz_board.specs.{declared.view.What.TheVariants.{Called}, Notes.{note_by}}
-use Rattle.lz_tie.specs.{Holds.{no_board}, Moments.{GrowsTo}, RunningSets.{members_of}}
+use Rattle.lz_refinement.specs.{Holds.{no_board}, Moments.{GrowsTo}, RunningSets.{members_of}}
 
 abbrev nothing : Keys
 nothing = members_of []

@@ -5,9 +5,9 @@ use Rattle.lz_disk.specs.{Devices.{Device}, Images.{Medium, IsImage, IsSound}}
 use Rattle.lz_machine.{specs.{Runs.{State, disk_of}, Yards.{Yard}}, proofs.{Open.FirstPoint.{fits_same, one_set}, Theorem.OneAdd.{run_sound}}}
 use Rattle.lz_board.specs.{declared.view.Note.{Note}, Seats.{BoardId}}
 use Rattle.lz_list.specs.Addresses.{sizes_in}
-use Rattle.lz_tie.specs.{Holds.{IsLocked}, Moments.{ExplainsBegun, ExplainsFrom, GrowsTo, IsReply, RepliesStay, Stays}, RunningSets.{members_of}}
-use Rattle.lz_tie.proofs.{Marks.RunningSet.{history_of}, Moments.GrownNotes.{grows_on, same_grows}, Start.FirstSets.{begins_with_read}}
-use Rattle.lz_tie.proofs.Start.OpenedYard.{opened_locked, opened_sizes}
+use Rattle.lz_refinement.specs.{Holds.{IsLocked}, Moments.{ExplainsBegun, ExplainsFrom, GrowsTo, IsReply, RepliesStay, Stays}, RunningSets.{members_of}}
+use Rattle.lz_refinement.proofs.{Marks.RunningSet.{history_of}, Moments.GrownNotes.{grows_on, same_grows}, Start.FirstSets.{begins_with_read}}
+use Rattle.lz_refinement.proofs.Start.OpenedYard.{opened_locked, opened_sizes}
 use Rattle.lz_set.specs.JoinedLives.{AfterReply, IsSeen, Lived, LivesJoin, MayLeave, life_of}
 
 -- each reply among the notes stays

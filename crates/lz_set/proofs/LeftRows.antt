@@ -5,7 +5,7 @@ use Rattle.std.proofs.Common.{◌≡◌, inl, inr, ⊎_elim, ℕ, ◌<◌, true,
 use Rattle.std.proofs.Common.{append_assoc, lit≤, arith}
 use mathlib.Core.Bool.{false≢true}
 use Rattle.lz_slot.specs.declared.{command.Command.TheVariants.{Add, Has}, format.Format.TheVariants.{Two}}
-use Rattle.lz_slot.specs.declared.history.{Cut.TheVariants.{Halted as cut_halted, Device as cut_device}, Mark.TheVariants.{Call, Answer, Refused, Cut}}
+use Rattle.lz_slot.specs.declared.history.{Cut.TheVariants.{Halted as cut_halted, Device as cut_device}, HistoryEvent.TheVariants.{Call, Answer, Refused, Cut}}
 use Rattle.lz_slot.specs.{declared.history.Refusal.TheVariants.{Full as refused_full}, Bytes.{Holds}, Counted.{of_pass}, Histories.{Runs}, Sets.{Keys}}
 use Rattle.lz_disk.specs.{Devices.{Device}, Images.{IsImage}}
 use Rattle.lz_vault.specs.Vaults.{last_sync}
@@ -15,8 +15,8 @@ use Rattle.lz_list.{specs.{declared.layout.Sizes.{Sizes}, Pinned.{Stood}, Traces
 use Rattle.lz_machine.{specs.{Halts.{told_device}, Yards.{idle_actor}}, proofs.Open.FirstPoint.{one_set}}
 use Rattle.lz_board.specs.{declared.view.{Note.{Note}, What.TheVariants.{Called, Played}}, Notes.{as_list, load_note, note_by, shape_of_sizes, trace_of}}
 use Rattle.lz_board.specs.{Noting.{AllLeft, HasLeft}, Seats.{BoardId}}
-use Rattle.lz_tie.specs.{Marks.{marks_in}, Moments.{ExplainsBegun}, Reuse.{UseTold}, RunningSets.{Explains, members_of}}
-use Rattle.lz_tie.proofs.MomentRows.{S0, board, has_still, later, reply_lost}
+use Rattle.lz_refinement.specs.{Marks.{marks_in}, Moments.{ExplainsBegun}, Reuse.{UseTold}, RunningSets.{Explains, members_of}}
+use Rattle.lz_refinement.proofs.MomentRows.{S0, board, has_still, later, reply_lost}
 use Rattle.lz_set.{specs.Left.{IsLeft}, proofs.TiedRows.{publishes_in_a_call, publishing_call, replies_unasked, unasked}}
 
 -- Pass 1 has added 12, which was answered. A text that lacks it isn't left now, nor since the reply.

@@ -10,7 +10,7 @@ use Rattle.lz_machine.{specs.Yards.{Yard, first_trace, slots_read, use_read}, pr
 use Rattle.lz_machine.proofs.Alone.Size.{none_distinct}
 use Rattle.lz_yard.specs.Filling.{OpensYard}
 use Rattle.lz_board.{specs.{Opened.{opened_by}, Seats.{BoardId}}, proofs.Start.FirstWords.{opens_text}}
-use Rattle.lz_tie.specs.RunningSets.{members_of}
+use Rattle.lz_refinement.specs.RunningSets.{members_of}
 
 -- an open takes a slot for each key that the text holds
 one_taken : (r : SlotRead) (s : ℕ) → cond (is_taken (use_read r)) 1 0 ≡ length (held_key r s)

@@ -6,7 +6,7 @@ use Rattle.lz_list.specs.{Words.{Words}, declared.layout.Sizes.{Sizes}, Addresse
 use Rattle.lz_machine.specs.Yards.{Yard}
 use Rattle.lz_yard.specs.Filling.{OpensYard}
 use Rattle.lz_board.specs.{declared.{board.Pen.{Pen}, pass.Pass.{Pass}}, Opened.{opened_by}, Plays.{parts_from}, Seats.{BoardId, IsNew, IsPenOf, notes, part}}
-use Rattle.lz_tie.{specs.Holds.{sizes_of}, proofs.Start.OpenedYard.{opened_locked, opened_sizes}}
+use Rattle.lz_refinement.{specs.Holds.{sizes_of}, proofs.Start.OpenedYard.{opened_locked, opened_sizes}}
 use Rattle.lz_set.{specs.Blanks.{IsBlank}, proofs.Members.{begins_with}}
 
 pub blank : (b : BoardId) (p : Pen) (before after : Device) (B S : ℕ) (y : Yard) (w : Words) (ps : List Pass) → OpensYard before after B S y → w ≡ y.words

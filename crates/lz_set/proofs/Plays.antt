@@ -7,11 +7,11 @@ use Rattle.lz_machine.specs.declared.caller.Progress.{Progress, TheVariants.{Pla
 use Rattle.lz_machine.specs.declared.event.{Event.{Event, TheVariants.{SeePin, Sync as SyncOf}}, Outcome.{Outcome, TheVariants.{OldFile, Fault}}, Reply.{Reply}}
 use Rattle.lz_machine.specs.{declared.kind.Kind.{Kind, TheVariants.{Hop, Invoke, Sync}}, Calls.{event_at, loaded}, Kinds.{kind_of}}
 use Rattle.lz_machine.specs.{Orders.{Calling, shape_with}, Runs.{reply_at}, Yards.{Shape, Yard}}
-use Rattle.lz_caller.specs.Begun.{begun_after}
+use Rattle.lz_yard.specs.Begun.{begun_after}
 use Rattle.lz_board.specs.declared.view.{Note.{Note}, Part.{Part}, Load.{Load}, What.{What, TheVariants.{Called, Played, Found}}}
 use Rattle.lz_board.specs.{Notes.{load_note, note_by, stamped}, Seats.{BoardId}}
-use Rattle.lz_tie.specs.{declared.playing.Turn.{Turn}, Held.{Advanced}, Counting.{Counts, CountsOn}, Holds.{LockedOver}}
-use Rattle.lz_set.specs.declared.underway.Stage.{Stage, TheVariants.{Syncs, Busy, Answers}}
+use Rattle.lz_refinement.specs.{declared.playing.Turn.{Turn}, Held.{Advanced}, Counting.{Counts, CountsOn}, Holds.{LockedOver}}
+use Rattle.lz_set.specs.declared.underway.Blocked.{Blocked, TheVariants.{Syncs, Busy, Answers}}
 use Rattle.lz_set.specs.Stages.{NoneOf, PlaysOne, StandsAt, StandsBefore, StepsBut, StepsUnfailed, StepsWithout, StopsBefore, kind_of_failed, kind_of_step}
 
 -- neither a loaded pin word nor the yard's shape makes it another kind of event
@@ -138,13 +138,13 @@ held_unfailed e h mid h' one p covered = without_then kind_of_failed Sync h mid 
     go e p covered = so_unfailed Sync mid h' (one_without (kind_of e) mid h' (λ is. cc) p)
 
 -- a call stands before the event at which it stops, as was seen under the lock that is kept
-pub stands_before : {D : Type 0} (kept : Option (LockedOver D)) (seen held : LockedOver D) (stage : Stage) (k : Calling) (e : Event) → kept ≡ Some held → seen ≡ held → e ≡ event_at (shape_with k) k.command k.progress
+pub stands_before : {D : Type 0} (kept : Option (LockedOver D)) (seen held : LockedOver D) (stage : Blocked) (k : Calling) (e : Event) → kept ≡ Some held → seen ≡ held → e ≡ event_at (shape_with k) k.command k.progress
     → StopsBefore seen.yard stage e → IsSomeAnd kept (λ l. StandsBefore l.yard stage k)
 stands_before {D} kept seen held stage k e keeps same next stops =
     subst (λ (o : Option (LockedOver D)). IsSomeAnd o (λ l. StandsBefore l.yard stage k)) (sym keeps)
     (subst (λ (l : LockedOver D). StopsBefore l.yard stage (event_at (shape_with k) k.command k.progress)) same (subst (λ (f : Event). StopsBefore seen.yard stage f) next stops))
 
-pub stands_at : (y : Yard) (stage : Stage) (k : Calling) (e : Event) → e ≡ event_at (shape_with k) k.command k.progress → StopsBefore y stage e → StandsAt stage k
+pub stands_at : (y : Yard) (stage : Blocked) (k : Calling) (e : Event) → e ≡ event_at (shape_with k) k.command k.progress → StopsBefore y stage e → StandsAt stage k
 stands_at y Syncs k e next stops = (stops.0, sym next ∙ stops.1)
 stands_at y Busy k e next stops = (stops.0, stops.1, sym next ∙ stops.2)
 stands_at y Answers k e next stops = absurd stops

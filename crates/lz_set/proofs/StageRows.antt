@@ -11,8 +11,8 @@ use Rattle.lz_machine.specs.declared.caller.Progress.{Progress, TheVariants.{Pla
 use Rattle.lz_machine.specs.declared.{caller.Sequence.TheVariants.{Adding}, event.{Event.TheVariants.{Claim, Sync, WriteOpen}, Reply.TheVariants.{No}}}
 use Rattle.lz_machine.specs.{declared.kind.Kind.{Kind}, Orders.{Calling}, Yards.{Yard}}
 use Rattle.lz_board.specs.{declared.view.{Note.{Note}, Part.{Part}, What.TheVariants.{Called, Played}}, Notes.{note_by}, Plays.{no_sizes}}
-use Rattle.lz_tie.proofs.CoveredRows.{yard_at}
-use Rattle.lz_set.specs.declared.underway.Stage.TheVariants.{Syncs, Busy, Answers}
+use Rattle.lz_refinement.proofs.CoveredRows.{yard_at}
+use Rattle.lz_set.specs.declared.underway.Blocked.TheVariants.{Syncs, Busy, Answers}
 use Rattle.lz_set.specs.Stages.{HasPlayed, NoneOf, PlaysOne, StandsAt, StepsUnfailed, StepsWithout, StopsBefore, kind_of_failed, kind_of_step}
 
 -- an adding of 9 in slot 1 that has come so far

@@ -8,7 +8,7 @@ use Rattle.lz_list.specs.{declared.publishing.Publishing.TheVariants.{Linked as 
 use Rattle.lz_machine.specs.Runs.{State, Up, Service, Caller, Start, Transition, Calls, Turn, Fails, caller_at, first_point, opened_service, run}
 use Rattle.lz_machine.{specs.Yards.{Yard}, proofs.Open.FoundSlots.{pass_of}}
 use Rattle.lz_board.specs.{declared.view.{Note.{Note}, What.TheVariants.{Called, Played}}, Notes.{note_by}}
-use Rattle.lz_tie.specs.NotedRuns.{IsTied, TellsOne, TellsStep, TellsTurn, TellsFault}
+use Rattle.lz_refinement.specs.NotedRuns.{IsTied, TellsOne, TellsStep, TellsTurn, TellsFault}
 
 -- a reply where no call was made
 abbrev pub unasked : Note

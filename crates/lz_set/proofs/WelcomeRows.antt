@@ -5,7 +5,7 @@ use Rattle.lz_disk.specs.Devices.{Device}
 use Rattle.lz_list.specs.{declared.publishing.Publishing.TheVariants.{Linked as linked}, Traces.{Trace}}
 use Rattle.lz_board.specs.{declared.view.{Note.{Note}, Part.{Part}, What.TheVariants.{Called}}, Notes.{note_by, shape_of_sizes, steps_of, trace_of}}
 use Rattle.lz_board.specs.Seats.{BoardId, first_of}
-use Rattle.lz_tie.{specs.{Marks.{marks_in}, OwnCalls.{calls_of, shown, told, unnumbered}, Sessions.{marks_alone}}, proofs.MomentRows.{board, later}}
+use Rattle.lz_refinement.{specs.{Marks.{marks_in}, OwnCalls.{calls_of, shown, told, unnumbered}, Sessions.{marks_alone}}, proofs.MomentRows.{board, later}}
 use Rattle.lz_set.specs.Left.{IsLeftWith, IsWelcome}
 
 -- a call of this pass

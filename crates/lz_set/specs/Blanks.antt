@@ -5,7 +5,7 @@ use Rattle.lz_disk.specs.Devices.{Device}
 use Rattle.lz_allot.specs.Uses.{counts}
 use Rattle.lz_machine.specs.Yards.{Yard}
 use Rattle.lz_board.specs.{declared.{board.Pen.{Pen}, pass.Pass.{Pass}}, Plays.{parts_from}, Seats.{BoardId, IsNew, IsPenOf, notes as notes_of, part}}
-use Rattle.lz_tie.specs.{Holds.{IsLocked}, Lives.{LivesOn}, Moments.{LeftSince}, RunningSets.{members_of}}
+use Rattle.lz_refinement.specs.{Holds.{IsLocked}, Lives.{LivesOn}, Moments.{LeftSince}, RunningSets.{members_of}}
 
 -- The board that its name will have, its yard and its disk.
 pub record BlankOver (D : Type 0) : Type 0 where

@@ -4,7 +4,7 @@ use Rattle.lz_disk.specs.Images.{Medium}
 use Rattle.lz_vault.specs.Opens.{open_count}
 use Rattle.lz_machine.specs.Yards.{Yard}
 use Rattle.lz_board.specs.{declared.view.{Note.{Note}, Part.{Part}}, Notes.{Extends, trace_of}, Plays.{knowing}, Seats.{BoardId}}
-use Rattle.lz_tie.specs.NotedRuns.{IsTied}
+use Rattle.lz_refinement.specs.NotedRuns.{IsTied}
 
 -- So many slots are open for sure at a moment between what the pass had seen before and what it has seen after, which is all that was published by then.
 -- A slot whose opening isn't durable yet is none of them, nor is one that is being closed.

@@ -4,7 +4,7 @@ use Rattle.lz_slot.specs.{Bytes.{Holds}, Histories.{Life, ChainTo}, Sets.{Keys}}
 use Rattle.lz_disk.specs.{Devices.{Device}, Images.{IsImage}}
 use Rattle.lz_yard.specs.Filling.{OpensYard}
 use Rattle.lz_board.specs.{declared.view.Note.{Note}, Notes.{shape_of_sizes}, Opened.{opened_by}, Seats.{BoardId}}
-use Rattle.lz_tie.specs.{Holds.{sizes_of}, Marks.{marks_in}, Moments.{GrowsTo, IsReply}, RunningSets.{members_of}}
+use Rattle.lz_refinement.specs.{Holds.{sizes_of}, Marks.{marks_in}, Moments.{GrowsTo, IsReply}, RunningSets.{members_of}}
 use Rattle.lz_set.specs.{Blanks.{BlankOver}, Left.{IsLeft}}
 
 -- A closed set leaves a text: what is read then, or what a crash leaves of its disk.

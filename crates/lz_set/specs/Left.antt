@@ -5,8 +5,8 @@ use Rattle.lz_vault.specs.Vaults.{last_sync}
 use Rattle.lz_list.specs.Traces.{halt_word}
 use Rattle.lz_machine.specs.{Halts.{HaltLasts, told_device}, Marks.{IsTold}, Yards.{Yard}}
 use Rattle.lz_board.specs.{declared.view.{Note.{Note}, Part.{Part}}, Notes.{Extends, shape_of_sizes, steps_of, trace_of}, Plays.{knowing}, Seats.{BoardId}}
-use Rattle.lz_tie.specs.{Holds.{IsLocked}, Marks.{AreOfPasses, marks_in}, Moments.{ExplainedSince, RepliesStay}, OwnCalls.{TellsOwn}, RunningSets.{HasHistory}}
-use Rattle.lz_tie.specs.Sessions.{TellsAlone}
+use Rattle.lz_refinement.specs.{Holds.{IsLocked}, Marks.{AreOfPasses, marks_in}, Moments.{ExplainedSince, RepliesStay}, OwnCalls.{TellsOwn}, RunningSets.{HasHistory}}
+use Rattle.lz_refinement.specs.Sessions.{TellsAlone}
 
 -- Whatever a crash leaves of the disk now explains what these notes show of calls and answers, and each text that a crash might
 -- have left since it was like `first` what a beginning of them shows; one that it might have left since a reply was noted explains that

@@ -5,10 +5,10 @@ use Rattle.lz_machine.specs.declared.{event.{Event.{Event, TheVariants.{Claim, S
 use Rattle.lz_machine.specs.{declared.kind.Kind.TheVariants.{Invoke}, Calls.{event_at}, Kinds.{kind_of}, Orders.{Calling, shape_with}, Runs.{reply_at}}
 use Rattle.lz_machine.specs.{Table.{is_sure, is_taken}, Yards.{Yard}}
 use Rattle.lz_board.specs.{declared.view.{Note.{Note}, Part.{Part}, What.{What, TheVariants.{Called, Played, Found}}}, Notes.{load_note, note_by, stamped}}
-use Rattle.lz_set.specs.declared.underway.Stage.{Stage, TheVariants.{Syncs, Busy, Answers}}
+use Rattle.lz_set.specs.declared.underway.Blocked.{Blocked, TheVariants.{Syncs, Busy, Answers}}
 
 -- where a call stands that stopped at this stage: before a Sync, before a Claim, or with its reply
-abbrev pub StandsAt : Stage → Calling → Type 0
+abbrev pub StandsAt : Blocked → Calling → Type 0
 StandsAt Syncs k = (slot : ℕ) × (event_at (shape_with k) k.command k.progress ≡ Sync slot)
 StandsAt Busy k = (pred : Place) × (curr : Option ℕ) × (event_at (shape_with k) k.command k.progress ≡ Claim pred curr)
 StandsAt Answers k = (reply : Reply) × (reply_at k.progress ≡ Some reply)
@@ -51,11 +51,11 @@ StepsUnfailed kind h h' = StepsBut kind_of_failed kind h h'
 
 -- why a call stops before an event, over this yard: it is the Sync of a slot whose last write isn't durable, so that it calls the device; or
 -- the Claim of a pair of which another call has a lock
-abbrev pub StopsBefore : Yard → Stage → Event → Type 0
+abbrev pub StopsBefore : Yard → Blocked → Event → Type 0
 StopsBefore y Syncs e = (slot : ℕ) × (e ≡ Sync slot) × (is_sure y slot ≡ false)
 StopsBefore y Busy e = (pred : Place) × (curr : Option ℕ) × (e ≡ Claim pred curr) × (is_taken y pred curr ≡ true)
 StopsBefore y Answers e = ⊥
 
 -- the call stands before such an event
-abbrev pub StandsBefore : Yard → Stage → Calling → Type 0
+abbrev pub StandsBefore : Yard → Blocked → Calling → Type 0
 StandsBefore y stage k = StopsBefore y stage (event_at (shape_with k) k.command k.progress)

@@ -1,7 +1,7 @@
 //! A set that has no name yet.
 ghost use Rattle.std.specs.Prelude.{◌≡◌, All};
 ghost use Rattle.lz_slot.specs.Sets.{HasMembers};
-ghost use Rattle.lz_tie.specs.RunningSets.{members_of};
+ghost use Rattle.lz_refinement.specs.RunningSets.{members_of};
 ghost use Rattle.lz_set.specs.Blanks.{AreNew, MayBeNamed};
 ghost use Rattle.lz_set.specs.Names.{MayCall};
 
@@ -9,7 +9,7 @@ use crate::gate::StepGate;
 use crate::set::Set;
 use lz_board::{Board, Pass, Pen};
 use lz_disk::Disk;
-use lz_tie::{Locked, Named};
+use lz_refinement::{Locked, Named};
 use lz_yard::Yard;
 use std::marker::Model;
 

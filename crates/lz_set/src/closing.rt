@@ -11,7 +11,7 @@ use crate::gate::StepGate;
 use crate::set::Set;
 use lz_board::{Board, Pass};
 use lz_disk::Disk;
-use lz_tie::{Locked, Named};
+use lz_refinement::{Locked, Named};
 
 impl<D: Disk, G: StepGate, N: Named> Set<D, G, N> {
     /// Ends the life, and hands the disk back as it is: whatever a crash leaves of it explains what callers have seen.

@@ -17,7 +17,7 @@ const LOOKS: u32 = 100;
 /// plays on as a value never runs, and never waits here. The counts go down only under the lock, so nobody goes to sleep over a
 /// count that has just become 0.
 ///
-/// No call waits for ever. Whoever runs waits for nothing but the lock, whose holders, a `Kept`'s too, wait for nothing but the
+/// No call waits for ever. Whoever runs waits for nothing but the lock, whose holders, a `HeldLock`'s too, wait for nothing but the
 /// device (each sync returns, also one that fails). So whoever runs comes to an answer, to a sync or to a taken node, and runs
 /// no more. With the last of them the sync is played: by that call itself, where it came to a sync, and else by one of those
 /// that wait, which it wakes. While new calls come all the time, as many answers as there are passes end the wait. After the

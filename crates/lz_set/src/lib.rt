@@ -6,7 +6,7 @@
 //! calls that run have come to one of theirs, and covers what they wrote; one whose slot is covered calls no device, and is played
 //! at once.
 //! A thread that is to have many calls under way plays each as a value, `Underway`: `begin`, `go_on` from one stage to the next,
-//! `sync` where the call stands before one, and `answer`. By one `Kept` (`keep`) it keeps the lock from one of these to the next.
+//! `sync` where the call stands before one, and `answer`. By one `HeldLock` (`keep`) it keeps the lock from one of these to the next.
 //! `glance` looks up without any lock, and `list` tells the members page by page. A program's work stands in a function
 //! generic in the set's name, which is called with std's `Brand`:
 //!
@@ -24,7 +24,7 @@
 //! }
 //! ```
 //!
-//! Proved: what threads do is a run of the machine, each time the lock is got (`lz_tie::Locked`), and each answer is what
+//! Proved: what threads do is a run of the machine, each time the lock is got (`lz_refinement::Locked`), and each answer is what
 //! the table of answers promises its thread, in terms of what its pass had seen before the call and has seen after it. The lives of
 //! sets that are opened one after the other are a chain (`laws`).
 #![tactic(auto)]
@@ -34,7 +34,7 @@ mod closing;
 mod fault;
 mod gate;
 mod group_commit;
-mod kept;
+mod held_lock;
 pub mod laws;
 mod set;
 mod underway;
@@ -42,8 +42,8 @@ mod underway;
 pub use blank::Blank;
 pub use fault::Fault;
 pub use gate::{NoGate, StepGate};
-pub use kept::Kept;
+pub use held_lock::HeldLock;
 pub use lz_board::{Glance, GlanceFault, ListFault, Page, Pass};
-pub use lz_tie::Named;
+pub use lz_refinement::Named;
 pub use set::Set;
-pub use underway::{Stage, Underway};
+pub use underway::{Blocked, Underway};

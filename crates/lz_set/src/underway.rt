@@ -11,9 +11,9 @@ ghost use Rattle.lz_machine.specs.Runs.{reply_at};
 ghost use Rattle.lz_machine.specs.Table.{is_sure};
 ghost use Rattle.lz_board.specs.declared.view.Part.{Part};
 ghost use Rattle.lz_board.specs.Seats.{IsOf, part};
-ghost use Rattle.lz_tie.specs.Answers.{Answers};
-ghost use Rattle.lz_tie.specs.Counting.{Counts, CountsOn, IsCounted};
-ghost use Rattle.lz_tie.specs.OneCaller.{IsPlainAnswer, keys_in};
+ghost use Rattle.lz_refinement.specs.Answers.{Answers};
+ghost use Rattle.lz_refinement.specs.Counting.{Counts, CountsOn, IsCounted};
+ghost use Rattle.lz_refinement.specs.OneCaller.{IsPlainAnswer, keys_in};
 ghost use Rattle.lz_set.specs.Answers.{reply_of};
 ghost use Rattle.lz_set.specs.Names.{MayCall};
 ghost use Rattle.lz_set.specs.Stages.{HasPlayed, PlaysOne, StandsAt, StandsBefore, StepsUnfailed, StepsWithout, StopsBefore};
@@ -21,15 +21,15 @@ ghost use Rattle.lz_set.specs.Stages.{HasPlayed, PlaysOne, StandsAt, StandsBefor
 use crate::fault::Fault;
 use crate::gate::StepGate;
 use crate::group_commit::Stay;
-use crate::kept::{Held, Kept};
+use crate::held_lock::{Held, HeldLock};
 use crate::set::Set;
 use lz_board::Pass;
-use lz_caller::Caller;
 use lz_disk::Disk;
 use lz_list::Word;
 use lz_machine::{Event, Kind, Reply};
+use lz_refinement::{Locked, Named, load_next, walk_on};
 use lz_slot::Command;
-use lz_tie::{Locked, Named, load_next, walk_on};
+use lz_yard::Caller;
 use std::marker::Model;
 use std::sync::Wait;
 
@@ -50,7 +50,7 @@ impl Model for Underway {
 
 /// Why a call stopped.
 #[derive(Clone, Copy, Debug, PartialEq, Eq)]
-pub enum Stage {
+pub enum Blocked {
     /// Its next event is a Sync, which calls the device.
     Syncs,
     /// Its next event is the Claim of a node that another call holds.
@@ -65,7 +65,7 @@ impl<D: Disk, G: StepGate, N: Named> Set<D, G, N> {
     pub fn begin<'a, R: Wait>(
         &'a self,
         rt: &R,
-        kept: &mut Kept<'a, D, N>,
+        kept: &mut HeldLock<'a, D, N>,
         pass: &mut Pass,
         command: Command,
     ) -> Underway
@@ -83,22 +83,22 @@ impl<D: Disk, G: StepGate, N: Named> Set<D, G, N> {
     pub fn go_on<'a, R: Wait>(
         &'a self,
         rt: &R,
-        kept: &mut Kept<'a, D, N>,
+        kept: &mut HeldLock<'a, D, N>,
         pass: &mut Pass,
         call: &mut Underway,
-    ) -> Stage
+    ) -> Blocked
         requires pass { IsOf N.board pass.old }
         requires counted { IsCounted N.board call.old (part pass.old) }
         ensures pass { IsOf N.board pass.new }
         ensures counts { CountsOn N.board call.old (part pass.old) call.new (part pass.new) }
         ensures stands { StandsAt result call.new }
         ensures steps { StepsUnfailed Kind.Sync (part pass.old) (part pass.new) }
-        ensures before { result ≢ Stage.Answers → IsSomeAnd kept.new (λ l. StandsBefore l.yard result call.new) }
+        ensures before { result ≢ Blocked.Answers → IsSomeAnd kept.new (λ l. StandsBefore l.yard result call.new) }
     {
         for _ in rt.forever() {
             self.walk(rt, kept, pass, call);
             if call.caller.reply().is_some() {
-                return Stage::Answers;
+                return Blocked::Answers;
             }
             let event = call.caller.next();
             let asked = event;
@@ -120,13 +120,13 @@ impl<D: Disk, G: StepGate, N: Named> Set<D, G, N> {
     pub fn sync<'a, R: Wait>(
         &'a self,
         rt: &R,
-        kept: &mut Kept<'a, D, N>,
+        kept: &mut HeldLock<'a, D, N>,
         pass: &mut Pass,
         call: &mut Underway,
     )
         requires pass { IsOf N.board pass.old }
         requires counted { IsCounted N.board call.old (part pass.old) }
-        requires stands { StandsAt Stage.Syncs call.old }
+        requires stands { StandsAt Blocked.Syncs call.old }
         ensures pass { IsOf N.board pass.new }
         ensures counts { CountsOn N.board call.old (part pass.old) call.new (part pass.new) }
         ensures played { HasPlayed Kind.Sync (part pass.old) (part pass.new) }
@@ -141,13 +141,13 @@ impl<D: Disk, G: StepGate, N: Named> Set<D, G, N> {
     pub fn answer<'a, R: Wait>(
         &'a self,
         rt: &R,
-        kept: &mut Kept<'a, D, N>,
+        kept: &mut HeldLock<'a, D, N>,
         pass: &mut Pass,
         call: Underway,
     ) -> Result<bool, Fault>
         requires pass { IsOf N.board pass.old }
         requires counted { IsCounted N.board call (part pass.old) }
-        requires stands { StandsAt Stage.Answers call }
+        requires stands { StandsAt Blocked.Answers call }
         ensures pass { MayCall N.board pass.new }
         ensures steps { StepsWithout Kind.Sync (part pass.old) (part pass.new) }
         ensures answers { (c : Asked) (format : Format) (before : Part) → before.sizes ≡ N.board.sizes → Counts N.board c format before call (part pass.old) → Answers format c (reply_of result) before (part pass.new) }
@@ -172,12 +172,12 @@ impl<D: Disk, G: StepGate, N: Named> Set<D, G, N> {
         let mut call = self.invoke(rt, &mut kept, pass, command, stay);
         for _ in rt.forever() {
             match self.go_on(rt, &mut kept, pass, &mut call) {
-                Stage::Syncs => self.sync_for_all(rt, &mut kept, pass, &mut call),
-                Stage::Busy => {
+                Blocked::Syncs => self.sync_for_all(rt, &mut kept, pass, &mut call),
+                Blocked::Busy => {
                     let locked = self.lock(rt, &mut kept, &mut call.stay);
                     kept.keep(self.commits.await_node(rt, locked, &mut call.stay));
                 }
-                Stage::Answers => {
+                Blocked::Answers => {
                     let answer = self.end(rt, &mut kept, pass, &mut call);
                     kept.give_back();
                     self.commits.wake(&mut call.stay);
@@ -192,7 +192,7 @@ impl<D: Disk, G: StepGate, N: Named> Set<D, G, N> {
     fn invoke<'a, R: Wait>(
         &'a self,
         rt: &R,
-        kept: &mut Kept<'a, D, N>,
+        kept: &mut HeldLock<'a, D, N>,
         pass: &mut Pass,
         command: Command,
         stay: Stay,
@@ -215,7 +215,13 @@ impl<D: Disk, G: StepGate, N: Named> Set<D, G, N> {
     }
 
     // The loads that come next, up to an event that is none. They take no lock, so it is given back before the first.
-    fn walk<R: Wait>(&self, rt: &R, kept: &mut Kept<'_, D, N>, pass: &mut Pass, call: &mut Underway)
+    fn walk<R: Wait>(
+        &self,
+        rt: &R,
+        kept: &mut HeldLock<'_, D, N>,
+        pass: &mut Pass,
+        call: &mut Underway,
+    )
         requires pass { IsOf N.board pass.old }
         requires counted { IsCounted N.board call.old (part pass.old) }
         ensures pass { IsOf N.board pass.new }
@@ -268,13 +274,13 @@ impl<D: Disk, G: StepGate, N: Named> Set<D, G, N> {
     fn sync_for_all<'a, R: Wait>(
         &'a self,
         rt: &R,
-        kept: &mut Kept<'a, D, N>,
+        kept: &mut HeldLock<'a, D, N>,
         pass: &mut Pass,
         call: &mut Underway,
     )
         requires pass { IsOf N.board pass.old }
         requires counted { IsCounted N.board call.old (part pass.old) }
-        requires stands { StandsAt Stage.Syncs call.old }
+        requires stands { StandsAt Blocked.Syncs call.old }
         ensures pass { IsOf N.board pass.new }
         ensures counts { CountsOn N.board call.old (part pass.old) call.new (part pass.new) }
     {
@@ -292,13 +298,13 @@ impl<D: Disk, G: StepGate, N: Named> Set<D, G, N> {
     fn end<'a, R: Wait>(
         &'a self,
         rt: &R,
-        kept: &mut Kept<'a, D, N>,
+        kept: &mut HeldLock<'a, D, N>,
         pass: &mut Pass,
         call: &mut Underway,
     ) -> Result<bool, Fault>
         requires pass { IsOf N.board pass.old }
         requires counted { IsCounted N.board call.old (part pass.old) }
-        requires stands { StandsAt Stage.Answers call.old }
+        requires stands { StandsAt Blocked.Answers call.old }
         ensures pass { MayCall N.board pass.new }
         ensures steps { StepsWithout Kind.Sync (part pass.old) (part pass.new) }
         ensures answers { (c : Asked) (format : Format) (before : Part) → before.sizes ≡ N.board.sizes → Counts N.board c format before call.old (part pass.old) → Answers format c (reply_of result) before (part pass.new) }
@@ -324,13 +330,13 @@ impl<D: Disk, G: StepGate, N: Named> Set<D, G, N> {
 }
 
 // At which stage a call stops before this event: where it would call the device, or claim what is taken.
-fn stop_before<N: Named, D: Disk>(locked: &Locked<N, D>, event: Event) -> Option<Stage>
+fn stop_before<N: Named, D: Disk>(locked: &Locked<N, D>, event: Event) -> Option<Blocked>
     ensures stops { IfSome result (λ stage. StopsBefore locked.now.yard stage event) }
     ensures goes { result ≡ None → (slot : ℕ) → event ≡ Sync slot → is_sure locked.now.yard slot ≡ true }
 {
     match event {
-        Event::Sync(slot) if !locked.is_covered(slot) => Some(Stage::Syncs),
-        Event::Claim(pred, curr) if locked.is_taken(pred, curr) => Some(Stage::Busy),
+        Event::Sync(slot) if !locked.is_covered(slot) => Some(Blocked::Syncs),
+        Event::Claim(pred, curr) if locked.is_taken(pred, curr) => Some(Blocked::Busy),
         _ => None,
     }
 }

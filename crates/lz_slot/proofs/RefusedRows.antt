@@ -2,7 +2,7 @@
 use Rattle.std.proofs.Common.{◌≡◌, inl, inr, ⊎_elim, ℕ, ◌+◌, ◌*◌, ◌≤◌, ◌<◌, suc, true, false, List, [], ◌∷◌, ◌++◌, replicate, refl, sym, subst, arith}
 use Rattle.std.proofs.lemmas.Bool.{true≢false}
 use Rattle.lz_slot.specs.{Sets.{Keys, members}, Histories.{History, Fits, IsCalled, ChainTo, lives, count_of}, Bytes.{Holds, header_body, slot_body}}
-use Rattle.lz_slot.specs.declared.{command.Command.{Command, TheVariants.{Add}}, history.Mark.TheVariants.{Call, Answer, Refused, Crash, Opened}}
+use Rattle.lz_slot.specs.declared.{command.Command.{Command, TheVariants.{Add}}, history.HistoryEvent.TheVariants.{Call, Answer, Refused, Crash, Opened}}
 use Rattle.lz_slot.specs.declared.{history.Refusal.TheVariants.{Full}, format.Format.TheVariants.{One}}
 
 -- one answered call

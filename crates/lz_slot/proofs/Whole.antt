@@ -55,7 +55,7 @@ spells_again (b ∷ bytes) fits =
     let rest = spells_again bytes (λ i. fits (suc i)) in
     (λ i. here i ∷ rest i)
 
-never_shut : (bytes : List ℕ) → is_shut (spelled bytes) ≡ false
+pub never_shut : (bytes : List ℕ) → is_shut (spelled bytes) ≡ false
 never_shut [] = refl
 never_shut (b ∷ bytes) =
     let rest = never_shut bytes in
@@ -70,7 +70,7 @@ all_paired (b ∷ bytes) fits =
     grind (arith, nat_tests)
 
 -- what a slot says, by whether it is shut, whether it is all zeros, whether its bytes are paired, and its number
-abbrev whole_tests : Bool → Bool → Bool → ℕ → SlotRead
+abbrev pub whole_tests : Bool → Bool → Bool → ℕ → SlotRead
 whole_tests shut none pairs x = if shut then (if none then Closed else Torn) else if pairs && nat_le x largest_key then Member x else BadKey
 
 whole_says : (shut none pairs : Bool) (x k : ℕ) → shut ≡ false → pairs ≡ true → x ≡ k → k ≤ largest_key → whole_tests shut none pairs x ≡ Member k
@@ -79,7 +79,7 @@ whole_says shut none pairs x k opened paired same low = grind (arith, nat_tests)
 whole_passes : (shut none pairs : Bool) (x k : ℕ) → whole_tests shut none pairs x ≡ Member k → (shut ≡ false) × (pairs ≡ true) × (x ≡ k) × (k ≤ largest_key)
 whole_passes shut none pairs x k is = grind (arith, nat_tests)
 
-bytes_fit : (k i : ℕ) → get_or (big_bytes 8 k) i 0 < 256
+pub bytes_fit : (k i : ℕ) → get_or (big_bytes 8 k) i 0 < 256
 bytes_fit k (suc (suc (suc (suc (suc (suc (suc (suc i)))))))) = omega arith
 bytes_fit k _ = omega arith
 

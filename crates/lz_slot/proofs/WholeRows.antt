@@ -1,7 +1,7 @@
 -- Worked rows: the bytes of slots of format 4, what is read of them, and what isn't.
 use Rattle.std.proofs.Common.{◌≡◌, ◌⊎◌, inl, inr, ℕ, [], ◌∷◌, ◌++◌, replicate, refl, arith}
 use Rattle.lz_slot.specs.{declared.slot.SlotRead.{SlotRead, TheVariants.{Closed, Torn, Member, BadKey}}, Limits.{largest_key}}
-use Rattle.lz_slot.specs.Whole.{whole_slot, whole_read, IsPartOf}
+use Rattle.lz_slot.specs.Whole.{whole_slot, whole_read, IsPartOf, with_flip}
 
 -- the highest four bits come first
 zero_slot : whole_slot 0 ≡ replicate 16 15
@@ -29,9 +29,9 @@ last_zero = refl
 zero_amid : whole_read (replicate 7 255 ++ 0 ∷ replicate 8 255) ≡ Torn
 zero_amid = refl
 
--- a byte that isn't paired, as after one flipped bit, and a rank that no key has
-flipped_bit : whole_read (14 ∷ replicate 15 15) ≡ BadKey
-flipped_bit = refl
+-- a byte that isn't paired, and a rank that no key has
+unpaired : whole_read (14 ∷ replicate 15 15) ≡ BadKey
+unpaired = refl
 
 no_zero_is_open : whole_read (replicate 16 255) ≡ BadKey
 no_zero_is_open = refl
@@ -60,3 +60,14 @@ not_of_other_bytes part = other (part.1 0 (omega arith))
     other : ((◌≡◌ {A = ℕ} 30 0) ⊎ (◌≡◌ {A = ℕ} 30 15)) → ⊥
     other (inl e) = absurd (omega (arith, e))
     other (inr e) = absurd (omega (arith, e))
+
+-- the lowest bit of the first byte, and the highest of the last one
+lowest_flip : with_flip (whole_slot 0) 0 0 ≡ 14 ∷ replicate 15 15
+lowest_flip = refl
+
+highest_flip : with_flip (whole_slot 0) 15 7 ≡ replicate 15 15 ++ 143 ∷ []
+highest_flip = refl
+
+-- two flips may make another key
+two_flips : whole_read (with_flip (with_flip (whole_slot 0) 15 4) 15 0) ≡ Member 1
+two_flips = refl

@@ -1,5 +1,5 @@
 -- The slots of format 4: each byte is four bits of the rank and, below them, their complement. None of them is zero.
-use Rattle.std.specs.Prelude.{◌≡◌, ◌⊎◌, ℕ, ◌+◌, ◌*◌, ◌/◌, ◌%◌, ◌<◌, Bool, true, ◌&&◌, ◌==◌, nat_le, List, [], ◌∷◌, length, slice_index, if◌then◌else◌}
+use Rattle.std.specs.Prelude.{◌≡◌, ◌⊎◌, ℕ, zero, suc, ◌+◌, ◌-◌, ◌*◌, ◌/◌, ◌%◌, ◌^◌, ◌<◌, Bool, true, ◌&&◌, ◌==◌, nat_le, List, [], ◌∷◌, length, slice_index, replicate, if◌then◌else◌}
 use Rattle.std.specs.List.{list_all, list_any}
 use Rattle.byteorder.specs.Endian.{big_number, big_bytes}
 use Rattle.lz_slot.specs.{Limits.{largest_key}, declared.slot.SlotRead.{SlotRead, TheVariants.{Closed, Torn, Member, BadKey}}}
@@ -45,3 +45,19 @@ MixturesAreWhole = (k : ℕ) (t : List ℕ) → IsPartOf t (whole_slot k) → (i
 -- and each mixture of zeros with a closed slot is closed, whatever its bytes are
 abbrev pub ShutStaysShut : Type 0
 ShutStaysShut = (bytes t : List ℕ) → IsPartOf t bytes → is_shut bytes ≡ true → is_shut t ≡ true
+
+-- a byte with one of its bits turned
+abbrev pub flipped : ℕ → ℕ → ℕ
+flipped bit byte = if (byte / 2 ^ bit) % 2 == 0 then byte + 2 ^ bit else byte - 2 ^ bit
+
+-- bytes with one bit of one of them turned
+abbrev pub with_flip : List ℕ → ℕ → ℕ → List ℕ
+with_flip [] at bit = []
+with_flip (x ∷ bytes) zero bit = flipped bit x ∷ bytes
+with_flip (x ∷ bytes) (suc at) bit = x ∷ with_flip bytes at bit
+
+-- one bit turned in a key's slot makes it no key's, and in one that is closed it makes no key
+abbrev pub FlipsAreNoKeys : Type 0
+FlipsAreNoKeys =
+    (k at bit : ℕ) → at < 16 → bit < 8
+    → (whole_read (with_flip (whole_slot k) at bit) ≡ BadKey) × (whole_read (with_flip (replicate 16 0) at bit) ≡ Torn)

@@ -8,7 +8,7 @@ ghost use Rattle.lz_yard.specs.Filling.{AreTables, taken_among, with_first, with
 use lz_allot::Allot;
 use lz_disk::Disk;
 use lz_list::{Flags, LinkWord, List, Place, Word, Words, next_to};
-use lz_machine::{Actor, Hold};
+use lz_machine::{Actor, LockPhase};
 use lz_slot::Slot;
 use lz_vault::{Stage, Vault};
 use std::alloc::{AllocError, Global};
@@ -16,7 +16,7 @@ use std::alloc::{AllocError, Global};
 // What an actor has in hand at first.
 const IDLE: Actor = Actor {
     slot: None,
-    hold: Hold::Nothing,
+    hold: LockPhase::Nothing,
     pred: Place::Bucket(0),
     curr: None,
     refused: false,

@@ -3,67 +3,67 @@ ghost use Rattle.std.specs.Prelude.{◌≡◌};
 ghost use Rattle.lz_machine.specs.Table.{has_checked, has_closed, has_marked, has_opened, is_old, is_played_dead, may_check, may_claim, may_release, may_retire, released, stays_out};
 
 use lz_list::LAST_PIN;
-use lz_machine::{Actor, Event, Hold};
+use lz_machine::{Actor, Event, LockPhase};
 use lz_slot::{Command, Format};
 
-pub(crate) fn may_claim(hold: Hold) -> bool
+pub(crate) fn may_claim(hold: LockPhase) -> bool
     ensures { result ≡ may_claim hold }
 {
-    matches!(hold, Hold::Nothing | Hold::Released)
+    matches!(hold, LockPhase::Nothing | LockPhase::Released)
 }
 
-pub(crate) fn may_check(hold: Hold) -> bool
+pub(crate) fn may_check(hold: LockPhase) -> bool
     ensures { result ≡ may_check hold }
 {
-    matches!(hold, Hold::Locks | Hold::Checked)
+    matches!(hold, LockPhase::Locks | LockPhase::Checked)
 }
 
-pub(crate) fn has_checked(hold: Hold) -> bool
+pub(crate) fn has_checked(hold: LockPhase) -> bool
     ensures { result ≡ has_checked hold }
 {
-    matches!(hold, Hold::Checked)
+    matches!(hold, LockPhase::Checked)
 }
 
-pub(crate) fn has_opened(hold: Hold) -> bool
+pub(crate) fn has_opened(hold: LockPhase) -> bool
     ensures { result ≡ has_opened hold }
 {
-    matches!(hold, Hold::GateOpened)
+    matches!(hold, LockPhase::GateOpened)
 }
 
-pub(crate) fn has_closed(hold: Hold) -> bool
+pub(crate) fn has_closed(hold: LockPhase) -> bool
     ensures { result ≡ has_closed hold }
 {
-    matches!(hold, Hold::GateClosed)
+    matches!(hold, LockPhase::GateClosed)
 }
 
-pub(crate) fn has_marked(hold: Hold) -> bool
+pub(crate) fn has_marked(hold: LockPhase) -> bool
     ensures { result ≡ has_marked hold }
 {
-    matches!(hold, Hold::Marked)
+    matches!(hold, LockPhase::Marked)
 }
 
-pub(crate) fn may_release(hold: Hold) -> bool
+pub(crate) fn may_release(hold: LockPhase) -> bool
     ensures { result ≡ may_release hold }
 {
     matches!(
         hold,
-        Hold::Locks | Hold::Checked | Hold::Linked | Hold::Unlinked
+        LockPhase::Locks | LockPhase::Checked | LockPhase::Linked | LockPhase::Unlinked
     )
 }
 
-pub(crate) fn may_retire(hold: Hold) -> bool
+pub(crate) fn may_retire(hold: LockPhase) -> bool
     ensures { result ≡ may_retire hold }
 {
-    matches!(hold, Hold::Released)
+    matches!(hold, LockPhase::Released)
 }
 
 // What an actor may do once it has given its locks back.
-pub(crate) fn released(hold: Hold) -> Hold
+pub(crate) fn released(hold: LockPhase) -> LockPhase
     ensures { result ≡ released hold }
 {
     match hold {
-        Hold::Unlinked => Hold::Released,
-        _ => Hold::Nothing,
+        LockPhase::Unlinked => LockPhase::Released,
+        _ => LockPhase::Nothing,
     }
 }
 

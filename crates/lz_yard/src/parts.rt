@@ -11,7 +11,7 @@ ghost use Rattle.lz_yard.specs.Parts.{with_actors};
 use lz_allot::Allot;
 use lz_disk::Disk;
 use lz_list::{List, Place, Word, word_of};
-use lz_machine::{Actor, Hold};
+use lz_machine::{Actor, LockPhase};
 use lz_slot::Slot;
 use lz_vault::{MAX_SYNCS, Stage, Vault};
 use std::marker::Model;
@@ -86,7 +86,7 @@ impl<D: Disk> Parts<D> {
     }
 
     // An actor has come so far.
-    pub(crate) fn set_hold(&mut self, actor: usize, hold: Hold)
+    pub(crate) fn set_hold(&mut self, actor: usize, hold: LockPhase)
         requires low { 1 ≤ actor }
         requires high { actor ≤ length self.old.yard.actors }
         ensures yard { self.new.yard ≡ with_actors self.old.yard (set_actor self.old.yard actor (with_hold (actor_at self.old.yard actor) hold)) }

@@ -15,7 +15,7 @@ use crate::parts::Parts;
 use lz_disk::Disk;
 use lz_flush::settle;
 use lz_list::{LinkWord, Place, Word, link_of, next_to};
-use lz_machine::{Actor, Event, Hold, Outcome};
+use lz_machine::{Actor, Event, LockPhase, Outcome};
 use lz_slot::{Command, Key, Slot};
 use lz_vault::VaultFault;
 
@@ -191,7 +191,7 @@ impl<D: Disk> Parts<D> {
         }
         let hand = self.actor(actor);
         self.actors[actor - 1] = Actor {
-            hold: Hold::Locks,
+            hold: LockPhase::Locks,
             pred,
             curr,
             ..hand
@@ -206,10 +206,10 @@ impl<D: Disk> Parts<D> {
     {
         let hand = self.actor(actor);
         if self.list.check(hand.pred, hand.curr) {
-            self.set_hold(actor, Hold::Checked);
+            self.set_hold(actor, LockPhase::Checked);
             Ok(Outcome::True)
         } else {
-            self.set_hold(actor, Hold::Locks);
+            self.set_hold(actor, LockPhase::Locks);
             Ok(Outcome::False)
         }
     }
@@ -226,7 +226,7 @@ impl<D: Disk> Parts<D> {
         self.vault.open_gate(slot, key)?;
         let hand = self.actor(actor);
         self.list.set(Word::Link(slot), next_to(hand.curr));
-        self.set_hold(actor, Hold::GateOpened);
+        self.set_hold(actor, LockPhase::GateOpened);
         Ok(Outcome::Done)
     }
 
@@ -240,7 +240,7 @@ impl<D: Disk> Parts<D> {
         self.list.link(hand.pred, slot);
         self.actors[actor - 1] = Actor {
             slot: None,
-            hold: Hold::Linked,
+            hold: LockPhase::Linked,
             ..hand
         };
         Ok(Outcome::Done)
@@ -253,7 +253,7 @@ impl<D: Disk> Parts<D> {
     {
         let node = self.node(actor);
         self.vault.close_gate(node)?;
-        self.set_hold(actor, Hold::GateClosed);
+        self.set_hold(actor, LockPhase::GateClosed);
         Ok(Outcome::Done)
     }
 
@@ -264,7 +264,7 @@ impl<D: Disk> Parts<D> {
     {
         let node = self.node(actor);
         self.list.mark(node);
-        self.set_hold(actor, Hold::Marked);
+        self.set_hold(actor, LockPhase::Marked);
         Ok(Outcome::Done)
     }
 
@@ -310,7 +310,7 @@ impl<D: Disk> Parts<D> {
         let node = self.node(actor);
         let hand = self.actor(actor);
         self.list.unlink(hand.pred, node);
-        self.set_hold(actor, Hold::Unlinked);
+        self.set_hold(actor, LockPhase::Unlinked);
         Ok(Outcome::Done)
     }
 
@@ -321,7 +321,7 @@ impl<D: Disk> Parts<D> {
     {
         let node = self.node(actor);
         self.allot.retire(node);
-        self.set_hold(actor, Hold::Nothing);
+        self.set_hold(actor, LockPhase::Nothing);
         Ok(Outcome::Done)
     }
 

@@ -1,6 +1,8 @@
 //! A reader and a writer that fail at each place of the commands.
 use crate::commands::{HELD, TWO_SLOTS, disk_with};
-use lazyset_commands::{Shown, check_of_on, judge_on, make_on, rehearse_on, renew_on, survey_on};
+use lazyset_set_commands::{
+    Shown, check_of_on, judge_on, make_on, rehearse_on, renew_on, survey_on,
+};
 use lz_slot::Format;
 use std::alloc::Global;
 use std::test::Fail;

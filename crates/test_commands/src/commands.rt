@@ -3,7 +3,7 @@ ghost use Rattle.std.specs.Prelude.{IfOk};
 ghost use Rattle.lz_disk.specs.Records.{device_of};
 ghost use Rattle.lz_vault.specs.Opens.{MayOpen};
 
-use lazyset_commands::{make_on, run_on};
+use lazyset_set_commands::{make_on, run_on};
 use lz_disk::MemoryDisk;
 use lz_slot::Format;
 use lz_vault::suit;

@@ -1,6 +1,6 @@
 //! Copies of what a service tells: what is asked, made and told, and a connection, a writer and a device that fail.
 use crate::commands::disk_with;
-use lazyset_commands::copy_on;
+use lazyset_set_commands::copy_on;
 use lz_disk::MemoryDisk;
 use lz_slot::Format;
 use std::alloc::{AllocError, Global};
@@ -117,7 +117,7 @@ const NO_PAGES: [&[u8]; 8] = [
     b"*2\r\n$1\r\n0\r\n*1\r\n$3\r\nred\r\n",
     b"*2\r\n$1\r\n0\r\n*1\r\n$19\r\n1000000000000000000\r\n",
     b"*3\r\n$1\r\n0\r\n",
-    b"*2\r\n$1\r\n0\r\n*1025\r\n",
+    b"*2\r\n$1\r\n0\r\n*8193\r\n",
 ];
 
 #[test]

@@ -5,7 +5,7 @@ ghost use Rattle.lz_disk.specs.Images.{IsImage};
 ghost use Rattle.lz_vault.specs.Makes.{IsUnmadeOrHolds};
 
 use crate::commands::{HELD, Ran, TWO_SLOTS, disk_with};
-use lazyset_commands::{Status, make_on, run_on};
+use lazyset_set_commands::{Status, make_on, run_on};
 use lz_disk::{Disk, FileDisk, MemoryDisk, Pick};
 use lz_slot::Format;
 use lz_vault::suit;

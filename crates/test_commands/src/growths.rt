@@ -2,7 +2,7 @@
 ghost use Rattle.std.specs.Prelude.{◌≡◌};
 
 use crate::commands::disk_with;
-use lazyset_commands::{Shelf, Shown, Standing, grow_on, survey_on};
+use lazyset_set_commands::{Shelf, Shown, Standing, grow_on, survey_on};
 use lz_disk::{DeviceFault, Disk, MemoryDisk};
 use lz_slot::Format;
 use std::alloc::{AllocError, Global};
@@ -209,11 +209,12 @@ struct Forgetful {
 }
 
 impl Disk for Forgetful {
+    ghost use Rattle.std.specs.Prelude.{None};
     ghost use Rattle.lz_disk.specs.Files.{file_device, file_timely};
 
-    ghost device = { λ it. file_device it.disk.calls it.disk.failures };
+    ghost device = { λ it. file_device it.disk.calls it.disk.failures None };
 
-    ghost timely = { λ it honest. file_timely it.disk.calls it.disk.failures honest };
+    ghost timely = { λ it honest. file_timely it.disk.calls it.disk.failures None honest };
 
     fn size(&mut self) -> Result<u64, DeviceFault> {
         self.disk.size()

@@ -1,6 +1,6 @@
 //! Makings from lists of keys: what is made and told, and a reader, a writer and a device that fail.
 use crate::commands::{Ran, disk_with};
-use lazyset_commands::{Shown, make_keys_on, survey_on};
+use lazyset_set_commands::{Shown, make_keys_on, survey_on};
 use lz_disk::MemoryDisk;
 use lz_slot::Format;
 use std::alloc::{AllocError, Global};

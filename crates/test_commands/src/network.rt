@@ -144,7 +144,10 @@ impl<'a> Poller for Switch<'a> {
         };
         for token in 0..self.places {
             if network.chance(2) == 0 {
-                let _ = ready.push(Ready { token, ends: false });
+                let _ = ready.push(Ready {
+                    token,
+                    drains: false,
+                });
             }
         }
     }

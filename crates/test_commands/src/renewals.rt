@@ -1,6 +1,6 @@
 //! A renewal whose device calls fail in turn.
 use crate::commands::disk_with;
-use lazyset_commands::{Shown, renew_on, survey_on};
+use lazyset_set_commands::{Shown, renew_on, survey_on};
 use lz_disk::MemoryDisk;
 use lz_slot::Format;
 use std::alloc::{AllocError, Global};

@@ -1,6 +1,6 @@
 //! Where a reader or a writer of a run fails, or is interrupted.
 use crate::commands::{TWO_SLOTS, disk_with};
-use lazyset_commands::run_on;
+use lazyset_set_commands::run_on;
 use std::alloc::AllocError;
 use std::io;
 use std::io::{ErrorKind, Read, Write};

@@ -1,6 +1,6 @@
 //! Surveys of files that come from a reader: in pieces, cut short, too long, and from a reader that fails.
 use crate::commands::HELD;
-use lazyset_commands::{Shown, check_of_on, survey_on, torn_slots};
+use lazyset_set_commands::{Shown, check_of_on, survey_on, torn_slots};
 use std::alloc::{AllocError, Global};
 use std::test::Fail;
 use test_support::Slow;

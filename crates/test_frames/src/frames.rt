@@ -37,14 +37,17 @@ fn frames_that_come_byte_by_byte_are_given(rt: HostRuntime) -> Result<(), Fail> 
 fn a_frame_has_many_words_and_not_more(rt: HostRuntime) -> Result<(), Fail> {
     let mut frames = Frames::new(rt.alloc(), Naming::Rooms);
     let mut items = VecDeque::new(rt.alloc());
-    frames.feed_into(b"*1024\r\n$6\r\nEXISTS\r\n", &mut items)?;
-    for _ in 0..1_023 {
-        frames.feed_into(b"$1\r\n7\r\n", &mut items)?;
-    }
-    let item = items.pop_front().ok_or("an item")?;
     let key = Key::new(7).ok_or("a key")?;
-    assert!(rt; is_asking(&item, Form::Found, [Request::Has(key); 1_023].as_slice()));
-    frames.feed_into(b"*1025\r\n", &mut items)?;
+    let mut text = Vec::from_slice(rt.alloc(), b"*8192\r\n$6\r\nEXISTS\r\n")?;
+    let mut asked = Vec::new(rt.alloc());
+    for _ in 0..8_191 {
+        text.extend_from_slice(b"$1\r\n7\r\n")?;
+        asked.push(Request::Has(key))?;
+    }
+    frames.feed_into(text.as_slice(), &mut items)?;
+    let item = items.pop_front().ok_or("an item")?;
+    assert!(rt; is_asking(&item, Form::Found, asked.as_slice()));
+    frames.feed_into(b"*8193\r\n", &mut items)?;
     let item = items.pop_front().ok_or("an item")?;
     assert!(rt; is_last(&item, b"-ERR Protocol error: invalid multibulk length\r\n"));
     Ok(())

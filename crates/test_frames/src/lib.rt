@@ -9,3 +9,5 @@ mod greetings;
 mod queries;
 #[cfg(test)]
 mod texts;
+#[cfg(test)]
+mod transactions;

@@ -51,7 +51,9 @@ fn keys_of_no_set_have_the_name_of_no_bytes(rt: HostRuntime) -> Result<(), Fail>
     frames.feed_into(b"select 9\r\nexists a 5\r\n", &mut items)?;
     frames.feed_into(b"*3\r\n$5\r\nSETNX\r\n$0\r\n\r\n$1\r\n1\r\n", &mut items)?;
     let selected = items.pop_front().ok_or("an item")?;
-    assert!(rt; is_saying(&selected, b"+OK\r\n"));
+    let refused =
+        b"-ERR SELECT: with --text there is database 0 alone; give each application's sets names of their own\r\n";
+    assert!(rt; is_saying(&selected, refused.as_slice()));
     let found = items.pop_front().ok_or("an item")?;
     let first = Key::new(564_030_590_739_040_361).ok_or("a key")?;
     let second = Key::new(97_039_488_880_705_532).ok_or("a key")?;

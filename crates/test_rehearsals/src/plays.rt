@@ -2,17 +2,17 @@
 use lz_core::{PlayFault, Step, World};
 use lz_disk::Pick;
 use lz_rehearsal::write_marks;
-use lz_slot::{Command, Format, Key, Mark};
+use lz_slot::{Command, Format, HistoryEvent, Key};
 use std::alloc::{AllocError, Global};
 use std::test::Fail;
 
 // The marks of a play. Nothing of what a play promises is asked here.
-fn play(world: &mut World, alloc: Global, steps: &[Step]) -> Result<Vec<Mark>, PlayFault> {
+fn play(world: &mut World, alloc: Global, steps: &[Step]) -> Result<Vec<HistoryEvent>, PlayFault> {
     world.play(alloc, steps)
 }
 
 // The text of marks.
-fn text_of(alloc: Global, marks: &[Mark]) -> Vec<u8> {
+fn text_of(alloc: Global, marks: &[HistoryEvent]) -> Vec<u8> {
     let mut output: Vec<u8> = Vec::new(alloc);
     let _ = write_marks(&mut output, marks);
     output

@@ -8,7 +8,7 @@ ghost use Rattle.test_threads.specs.Plays.{IsPlay};
 use crate::partners::{fill, two_passes};
 use crate::values::{Lock, Play, Shared, answer, begin, comes_to, syncs};
 use lz_disk::MemoryDisk;
-use lz_set::{Blank, Named, NoGate, Pass, Set, Stage};
+use lz_set::{Blank, Blocked, Named, NoGate, Pass, Set};
 use lz_slot::{Command, Key};
 use std::alloc::Global;
 use std::marker::Brand;
@@ -38,7 +38,7 @@ fn count_around_sync<'a, N: Named, R: Wait>(
     ensures own { MayCall N.board own.new }
     ensures play { IsPlay N.board play.new.pass play.new.call }
 {
-    let comes = comes_to(rt, set, kept, play, Stage::Syncs);
+    let comes = comes_to(rt, set, kept, play, Blocked::Syncs);
     kept.give_back();
     let before = set.count(rt, own);
     let played = syncs(rt, set, kept, play);

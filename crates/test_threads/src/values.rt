@@ -7,7 +7,7 @@ ghost use Rattle.test_threads.specs.Plays.{IsPlay};
 
 use crate::partners::two_passes;
 use lz_disk::MemoryDisk;
-use lz_set::{Blank, Fault, Kept, Named, NoGate, Pass, Set, Stage, Underway};
+use lz_set::{Blank, Blocked, Fault, HeldLock, Named, NoGate, Pass, Set, Underway};
 use lz_slot::{Command, Key};
 use std::alloc::Global;
 use std::marker::Brand;
@@ -17,7 +17,7 @@ use test_support::{keys_in, made};
 
 pub type Shared<N> = Set<MemoryDisk, NoGate, N>;
 
-pub type Lock<'a, N> = Kept<'a, MemoryDisk, N>;
+pub type Lock<'a, N> = HeldLock<'a, MemoryDisk, N>;
 
 pub type Answer = Result<bool, Fault>;
 
@@ -50,7 +50,7 @@ pub fn comes_to<'a, N: Named, R: Wait>(
     set: &'a Shared<N>,
     kept: &mut Lock<'a, N>,
     play: &mut Play,
-    stage: Stage,
+    stage: Blocked,
 ) -> bool
     requires { IsPlay N.board play.old.pass play.old.call }
     ensures { IsPlay N.board play.new.pass play.new.call }
@@ -69,7 +69,7 @@ pub fn syncs<'a, N: Named, R: Wait>(
     ensures { IsPlay N.board play.new.pass play.new.call }
 {
     match set.go_on(rt, kept, &mut play.pass, &mut play.call) {
-        Stage::Syncs => {
+        Blocked::Syncs => {
             set.sync(rt, kept, &mut play.pass, &mut play.call);
             true
         }
@@ -89,7 +89,7 @@ pub fn answer<'a, N: Named, R: Wait>(
 {
     let Play { mut pass, mut call } = play;
     match set.go_on(rt, kept, &mut pass, &mut call) {
-        Stage::Answers => {
+        Blocked::Answers => {
             let answer = set.answer(rt, kept, &mut pass, call);
             Some((pass, answer))
         }
@@ -113,9 +113,9 @@ fn all_come<'a, N: Named, R: Wait>(
     ensures two { IsPlay N.board two.new.pass two.new.call }
     ensures three { IsPlay N.board three.new.pass three.new.call }
 {
-    let one = comes_to(rt, set, kept, one, Stage::Syncs);
-    let two = comes_to(rt, set, kept, two, Stage::Syncs);
-    let three = comes_to(rt, set, kept, three, Stage::Syncs);
+    let one = comes_to(rt, set, kept, one, Blocked::Syncs);
+    let two = comes_to(rt, set, kept, two, Blocked::Syncs);
+    let three = comes_to(rt, set, kept, three, Blocked::Syncs);
     one && two && three
 }
 
@@ -163,10 +163,10 @@ fn meet_at_a_node<N: Named, R: Wait>(
     let mut kept = set.keep();
     let mut removal = begin(rt, set, &mut kept, first, Command::Remove(ten));
     let mut addition = begin(rt, set, &mut kept, second, Command::Add(five));
-    let closed = comes_to(rt, set, &mut kept, &mut removal, Stage::Syncs);
+    let closed = comes_to(rt, set, &mut kept, &mut removal, Blocked::Syncs);
     let written = syncs(rt, set, &mut kept, &mut addition);
-    let busy = comes_to(rt, set, &mut kept, &mut addition, Stage::Busy);
-    let still_busy = comes_to(rt, set, &mut kept, &mut addition, Stage::Busy);
+    let busy = comes_to(rt, set, &mut kept, &mut addition, Blocked::Busy);
+    let still_busy = comes_to(rt, set, &mut kept, &mut addition, Blocked::Busy);
     if !(closed && written && busy && still_busy) {
         return None;
     }

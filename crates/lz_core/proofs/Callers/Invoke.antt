@@ -1,7 +1,7 @@
 -- A world goes on by a call that is made: its Invoke is played.
 use Rattle.std.proofs.Common.{◌≡◌, ◌≢◌, ◌≤◌, ◌+◌, ◌-◌, arith, if◌then◌else◌, IsNone, IsSome, IfSome, ℕ, suc, Bool, map, slice_index_or, slice_set, List, []}
 use Rattle.std.proofs.{Common.{◌∷◌, Option, Some, None, refl, sym, ◌∙◌, ap, subst}, lemmas.Bool.{false≢true}}
-use Rattle.lz_slot.specs.{declared.{command.Command.{Command}, history.Mark.TheVariants.{Call as called}}, Limits.{largest_key}, Numerals.{largest_read}}
+use Rattle.lz_slot.specs.{declared.{command.Command.{Command}, history.HistoryEvent.TheVariants.{Call as called}}, Limits.{largest_key}, Numerals.{largest_read}}
 use Rattle.lz_slot.specs.{Sets.{key_of}, Counted.{set_of_pass}}
 use Rattle.lz_disk.specs.{Images.{Medium}, Records.{Past, after, device_of}}
 use Rattle.lz_vault.specs.Vaults.{MayFail, medium_after}
@@ -13,7 +13,7 @@ use Rattle.lz_core.specs.Worlds.{Goes, HasRun, HasOne, IsWorld, MayStepOn, Steps
 use Rattle.lz_core.proofs.{Runs.PlayedStep.{runs_on, shape_is}, Callers.ShownCallers.{shown_caller, shown_set, no_call, on_set, same_count}}
 use Rattle.lz_core.proofs.Callers.NextEvent.{quiet_goes}
 use Rattle.lz_yard.{specs.{declared.told.Told.{Told}, Parts.{YardOver}, Steps.{Played}}, proofs.Events.PassPlaces.{set_at}}
-use Rattle.lz_caller.{specs.Begun.{begun_after}, proofs.BegunCall.{begins}}
+use Rattle.lz_yard.{specs.Begun.{begun_after}, proofs.BegunCall.{begins}}
 
 -- a call that was just made, and its Invoke's outcome
 abbrev pub made : Shape → ℕ → Command → Outcome → OpenCall

@@ -2,7 +2,7 @@
 use Rattle.lz_yard.proofs.Events.RunTransition as transition
 use Rattle.std.proofs.Common.{◌≡◌, ◌≤◌, ◌-◌, length, unwrap_or, ℕ, suc, Bool, true, false, map, slice_index_or, List, Option, Some, None, is_some, refl, sym}
 use Rattle.std.proofs.{Common.{◌∙◌, ap, subst}, lemmas.{Bool.{false≢true}, List.{length-map}}}
-use Rattle.lz_slot.specs.{declared.history.Mark.{Mark}, Counted.{of_pass}}
+use Rattle.lz_slot.specs.{declared.history.HistoryEvent.{HistoryEvent}, Counted.{of_pass}}
 use Rattle.lz_disk.specs.{Images.{Medium}, Records.{Past, after}}
 use Rattle.lz_machine.specs.{declared.event.Event.{Event, TheVariants.{Check}}, Yards.{Shape}, Ready.{IsEventOf}}
 use Rattle.lz_machine.specs.{Runs.{Transition, Caller, Service, State, Up, MayPlay, caller_at, state_after}, Points.{IsBetweenLooks}}
@@ -47,7 +47,7 @@ module _ (shape : Shape) (over : YardOver Past) (disk : Option Past) (callers : 
   }
 
 -- where no look was half done, none is after a step of a play
-pub quiet_goes : (shape : Shape) (old new : WorldOver) (play : PlayStep) (step : Transition) (marks : List Mark) → HasRun shape old.state old.calls → Goes old play step marks new → is_look step ≡ false → IsBetweenLooks new.state
+pub quiet_goes : (shape : Shape) (old new : WorldOver) (play : PlayStep) (step : Transition) (marks : List HistoryEvent) → HasRun shape old.state old.calls → Goes old play step marks new → is_look step ≡ false → IsBetweenLooks new.state
 quiet_goes shape old new play step marks ran goes other =
     subst IsBetweenLooks (ap (λ (w : State). state_after (suc old.calls) w step) ran.at.state ∙ goes.to)
     (quiet_step ran.start ran.point ran.reached (suc old.calls) step (rw ran.at.state goes.may) other (rw ran.at.state ran.quiet))

@@ -1,10 +1,10 @@
 -- What a turn is told as, by whether its device was tripped.
 use Rattle.std.proofs.Common.{◌≡◌, ◌≢◌, ℕ, true, false, List, [], ◌∷◌, refl, sym, ◌∙◌, subst}
-use Rattle.lz_slot.specs.declared.history.Mark.{Mark}
+use Rattle.lz_slot.specs.declared.history.HistoryEvent.{HistoryEvent}
 use Rattle.lz_machine.specs.{declared.event.Outcome.{Outcome, TheVariants.{Fault}}, Runs.{Turn, Fails}}
 use Rattle.lz_core.{specs.{declared.play.Step.TheVariants.{Turn as TurnOf}, Worlds.{WorldOver, PlaysOn, TakesTurn}}, proofs.Runs.PlayedStep.{leads}}
 
-module _ (old mid : WorldOver) (a : ℕ) (outcome : Outcome) (marks : List Mark) (takes : TakesTurn old a outcome marks mid) where
+module _ (old mid : WorldOver) (a : ℕ) (outcome : Outcome) (marks : List HistoryEvent) (takes : TakesTurn old a outcome marks mid) where
   -- one that was done
   pub done_plays : outcome ≢ Fault → PlaysOn old (TurnOf a ∷ []) marks mid
   done_plays other =

@@ -2,7 +2,7 @@
 use Rattle.lz_machine.specs.declared.event.Reply.TheVariants as replies
 use Rattle.std.proofs.Common.{arith, ◌≡◌, ◌≢◌, inl, inr, ◌≤◌, ◌-◌, IfSome, IsTrue, ℕ, suc, Bool, true, false, map, slice_index_or, slice_set, List, [], Option}
 use Rattle.std.proofs.{Common.{Some, None, reverse, refl, sym, ◌∙◌, ap, subst}, lemmas.Bool.Decides.{nat_tests}}
-use Rattle.lz_slot.specs.{declared.history.Mark.{Mark}, Counted.{of_pass, set_of_pass}}
+use Rattle.lz_slot.specs.{declared.history.HistoryEvent.{HistoryEvent}, Counted.{of_pass, set_of_pass}}
 use Rattle.lz_disk.specs.{Images.{Medium}, Devices.{Device}, Records.{Past, after, device_of}}
 use Rattle.lz_machine.specs.{declared.{event.{Event.{Event}, Outcome.{Outcome, TheVariants.{Fault}}, Reply.{Reply}}, caller.Progress.{Progress}}, Yards.{Shape}}
 use Rattle.lz_machine.specs.{Table.{line}, Orders.{MayTake}, Runs.{Transition, Caller, Service, Up, Turn, Fails, HasFault, caller_at, next_event, reply_at}}
@@ -39,7 +39,7 @@ twice_over : (caller : Option Caller) → marks_of_turn caller ≡ reverse (reve
 twice_over None = refl
 twice_over (Some caller) = grind (arith, nat_tests)
 
-one_mark : (mark : Option Mark) → mark_list mark ≡ reverse (mark_list mark)
+one_mark : (mark : Option HistoryEvent) → mark_list mark ≡ reverse (mark_list mark)
 one_mark None = refl
 one_mark (Some mark) = refl
 
@@ -94,18 +94,18 @@ module _ (shape : Shape) (over : YardOver Past) (disk : Option Past) (callers : 
   after_is : (left : Medium) → disk_now ≡ left → Up (after_it served a asks.caller over'.yard outcome) left ≡ new.state
   after_is left same = ap (λ (m : Medium). Up (after_it served a asks.caller over'.yard outcome) m) (sym same) ∙ ap (λ (cs : List (Option Caller)). Up (record { yard = over'.yard; callers = cs }) disk_now) callers_are
 
-  told_by : (marks : List Mark) → marks ≡ marks_of_turn (call_shown (slice_index_or callers (a - 1) None)) → marks_of_turn (caller_at served.callers a) ≡ marks
+  told_by : (marks : List HistoryEvent) → marks ≡ marks_of_turn (call_shown (slice_index_or callers (a - 1) None)) → marks_of_turn (caller_at served.callers a) ≡ marks
   told_by marks same = ap marks_of_turn (shown_caller callers a low) ∙ sym same
 
   event_here : Played over.yard a (next_event over.yard asks.caller) outcome over'.yard news before (device_of over'.disk)
   event_here = subst (λ (ev : Event). Played over.yard a ev outcome over'.yard news before (device_of over'.disk)) (sym asks.event) event
 
-  goes_done : (marks : List Mark) → marks_of_turn (caller_at served.callers a) ≡ reverse marks → outcome ≢ Fault → Goes old (TurnOf a) (Turn a) marks new
+  goes_done : (marks : List HistoryEvent) → marks_of_turn (caller_at served.callers a) ≡ reverse marks → outcome ≢ Fault → Goes old (TurnOf a) (Turn a) marks new
   goes_done marks told other =
       let by = done world.ran.start world.ran.point world.ran.reached served disk_then world.ran.at.state a asks.caller asks.at before (device_of over'.disk) over'.yard outcome news (λ honest. refl) other event_here in
       record { is = inl refl; may = by.may; to = by.to (suc calls) ∙ after_is by.medium (by.device refl); counts = refl; told = told }
 
-  goes_failed : (marks : List Mark) → marks_of_turn (caller_at served.callers a) ≡ reverse marks → outcome ≡ Fault → (left : Medium) × Goes old (TurnOf a) (Fails a left) marks new
+  goes_failed : (marks : List HistoryEvent) → marks_of_turn (caller_at served.callers a) ≡ reverse marks → outcome ≡ Fault → (left : Medium) × Goes old (TurnOf a) (Fails a left) marks new
   goes_failed marks told fault =
       let by = failed world.ran.start world.ran.point world.ran.reached served disk_then world.ran.at.state a asks.caller asks.at before (device_of over'.disk) over'.yard outcome news (λ honest. refl) fault event_here true refl in
       let fails = subst (λ (o : Option Caller). HasFault served disk_then a o by.0) asks.at by.1.may in
@@ -116,7 +116,7 @@ module _ (shape : Shape) (over : YardOver Past) (disk : Option Past) (callers : 
   no_call_made : outcome ≢ Fault → IsTrue tripped → ¬ CallsDevice old.state a
   no_call_made other is_tripped device = grind (arith, nat_tests, asks, event_here)
 
-  world_by : (step : Transition) (marks : List Mark) → IsCallOn shape call' → HasOne (Some over') disk → Goes old (TurnOf a) step marks new → is_look step ≡ false → IsWorld shape (Some over') disk (slice_set callers (a - 1) call') calls
+  world_by : (step : Transition) (marks : List HistoryEvent) → IsCallOn shape call' → HasOne (Some over') disk → Goes old (TurnOf a) step marks new → is_look step ≡ false → IsWorld shape (Some over') disk (slice_set callers (a - 1) call') calls
   world_by step marks on one goes other = record {
     one = one;
     count = same_count callers (a - 1) call' ∙ world.count;
@@ -133,7 +133,7 @@ module _ (shape : Shape) (over : YardOver Past) (disk : Option Past) (callers : 
         | inr other ↦ world_by (Turn a) marks on one (goes_done marks told other) refl
       ]
 
-  pub turn_taken : (mark : Option Mark) → mark_list mark ≡ marks_of_turn (call_shown (slice_index_or callers (a - 1) None)) → TakesTurn old a outcome (mark_list mark) new
+  pub turn_taken : (mark : Option HistoryEvent) → mark_list mark ≡ marks_of_turn (call_shown (slice_index_or callers (a - 1) None)) → TakesTurn old a outcome (mark_list mark) new
   turn_taken mark same =
       let told = told_by (mark_list mark) same ∙ one_mark mark in
       record { done = λ other. (goes_done (mark_list mark) told other, no_call_made other); failed = goes_failed (mark_list mark) told; of_run = subst AreMarksOfRun (sym same) (marks_of_call shape (slice_index_or callers (a - 1) None) (called_on shape over disk callers calls a world e is)); tripped = refl }

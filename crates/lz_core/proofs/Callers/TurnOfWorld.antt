@@ -1,7 +1,7 @@
 -- A world, with an open service or without, goes on by an actor's next event: one that has such an event has a service.
 use Rattle.std.proofs.{lemmas.{Bool.{false≢true, Decides.{nat_tests}}, List.{length-map, get_or-set_same}}, Common.{◌≡◌, ◌≤◌, ◌<◌, ◌-◌, arith, length, IsSome}}
 use Rattle.std.proofs.Common.{IfSome, ℕ, zero, suc, Bool, map, slice_index_or, slice_set, List, [], ◌∷◌, Option, Some, None, is_some, sym, ◌∙◌, ap, subst}
-use Rattle.lz_slot.specs.declared.history.Mark.{Mark}
+use Rattle.lz_slot.specs.declared.history.HistoryEvent.{HistoryEvent}
 use Rattle.lz_disk.specs.Records.{Past}
 use Rattle.lz_machine.specs.{declared.event.{Event.{Event}, Outcome.{Outcome}}, Yards.{Shape}, Orders.{MayTake}, Runs.{marks_of_turn}}
 use Rattle.lz_core.specs.{declared.{play.Step.TheVariants.{Turn as TurnOf}, open_calls.OpenCall.{OpenCall}}, Worlds.{TakesTurn, HasOne, IsCallOn, IsLawful}}
@@ -46,7 +46,7 @@ module _ (shape : Shape) (disk : Option Past) (callers : List (Option OpenCall))
       has_one None one = tt
       has_one (Some past) one = one
 
-  pub tells : (yard yard' : Option (YardOver Past)) (outcome : Outcome) (call' : Option OpenCall) (mark : Option Mark) → IsWorld shape yard disk callers calls → next_of (state_shown shape yard disk callers) a ≡ Some e → StepsOn (armed_yard tripped yard) a e outcome yard'
+  pub tells : (yard yard' : Option (YardOver Past)) (outcome : Outcome) (call' : Option OpenCall) (mark : Option HistoryEvent) → IsWorld shape yard disk callers calls → next_of (state_shown shape yard disk callers) a ≡ Some e → StepsOn (armed_yard tripped yard) a e outcome yard'
       → call_shown call' ≡ call_after (slice_index_or callers (a - 1) None) outcome
       → mark_list mark ≡ marks_of_turn (call_shown (slice_index_or callers (a - 1) None))
       → TakesTurn (world_shown shape yard disk callers calls tripped) a outcome (mark_list mark) (world_shown shape yard' disk (slice_set callers (a - 1) call') calls tripped)

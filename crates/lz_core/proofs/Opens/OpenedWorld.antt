@@ -1,7 +1,7 @@
 -- A world whose disk is opened.
 use Rattle.std.proofs.Common.{◌≡◌, inl, inr, ℕ, Bool, IsTrue, if◌then◌else◌, zero, suc, ◌≤◌, true, false, List, [], ◌∷◌, length, map, slice_get, ◌%◌, ◌==◌}
 use Rattle.std.proofs.{Common.{Option, Some, None, refl, sym, ap, ◌∙◌, subst, arith, replicate}, lemmas.List.{length-map, length-replicate}}
-use Rattle.lz_slot.specs.{Limits.{most_actors, most_buckets}, declared.{history.Mark.TheVariants.{Opened as opened}, format.Format.{Format}}}
+use Rattle.lz_slot.specs.{Limits.{most_actors, most_buckets}, declared.{history.HistoryEvent.TheVariants.{Opened as opened}, format.Format.{Format}}}
 use Rattle.lz_slot.specs.{Bytes.{Holds, format_of}, Sets.{Keys, members}, Histories.{Life, lives}}
 use Rattle.lz_disk.specs.{Images.{Medium, AreBytes, at_rest, synced}, Records.{MustFail, Past, after, device_of}}
 use Rattle.lz_vault.specs.{Stages.{Suits}, Opens.{MayOpen}, Makes.{IsFresh}}

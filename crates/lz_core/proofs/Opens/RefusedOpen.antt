@@ -1,7 +1,7 @@
 -- A world whose open is refused.
 use Rattle.std.proofs.Common.{◌≡◌, ◌≤◌, ◌⊎◌, inl, inr, ⊎_elim, ◌↔◌, ℕ, Bool, true, false, IsTrue, List, [], ◌∷◌, Option, Some, None, is_some, unwrap_or, refl}
 use Rattle.std.proofs.{Common.{sym, ap, ◌∙◌, subst, arith}, lemmas.Bool.{false≢true}}
-use Rattle.lz_slot.specs.declared.history.Mark.TheVariants.{OpenFailed as refused}
+use Rattle.lz_slot.specs.declared.history.HistoryEvent.TheVariants.{OpenFailed as refused}
 use Rattle.lz_disk.specs.{Images.{Medium, synced}, Records.{Past, after, device_of}}
 use Rattle.lz_vault.specs.{declared.opening.OpenFault.{OpenFault, TheVariants.{Device, Memory}}, Opens.{IsRefusedFor, open_fault_number}}
 use Rattle.lz_machine.{specs.{OpenFailures.{IsOpenFailure}, Yards.{Shape}, Runs.{State, Down, OpenFails}}, proofs.Open.OpenFailures.{held_is_opened}}

@@ -1,6 +1,6 @@
 -- A world is tripped, stopped or crashed.
 use Rattle.std.proofs.{Common.{arith, ◌≡◌, ℕ, suc, Bool, List, [], ◌∷◌, Option, Some, None, refl, sym, ◌∙◌, ap}, lemmas.Bool.Decides.{nat_tests}}
-use Rattle.lz_slot.specs.declared.history.Mark.{Mark, TheVariants.{Stop as stopped, Crash as crashed}}
+use Rattle.lz_slot.specs.declared.history.HistoryEvent.{HistoryEvent, TheVariants.{Stop as stopped, Crash as crashed}}
 use Rattle.lz_disk.specs.{Images.{IsImage, at_rest}, declared.memory.Pick.{Pick}, Picks.{left_by}, Records.{Past}}
 use Rattle.lz_core.specs.declared.{play.Step.{Step as PlayStep, TheVariants.{Trip, Stop, Crash}}, open_calls.OpenCall.{OpenCall}}
 use Rattle.lz_core.{specs.Worlds.{WorldOver, Goes, HasRun, HasOne, IsWorld, state_shown, world_shown, disk_shown}, proofs.Runs.PlayedStep.{runs_on, shape_is}}
@@ -75,7 +75,7 @@ crashes shape old new pick ran image down calls = record {
 
 -- a world that has gone down is one
 module _ (shape : Shape) (yard : Option (YardOver Past)) (disk : Option Past) (callers : List (Option OpenCall)) (calls : ℕ) (tripped : Bool) (world : IsWorld shape yard disk callers calls) where
-  pub now_at : (play : PlayStep) (step : Transition) (marks : List Mark) (yard' : Option (YardOver Past)) (disk' : Option Past) (now : Bool)
+  pub now_at : (play : PlayStep) (step : Transition) (marks : List HistoryEvent) (yard' : Option (YardOver Past)) (disk' : Option Past) (now : Bool)
       → HasOne yard' disk' → Goes (world_shown shape yard disk callers calls tripped) play step marks (world_shown shape yard' disk' callers calls now)
       → IsBetweenLooks (state_shown shape yard' disk' callers) → IsWorld shape yard' disk' callers calls
   now_at play step marks yard' disk' now one goes quiet = record {

@@ -2,7 +2,7 @@
 use Rattle.std.proofs.lemmas.{Bool.Decides.{nat_tests}, List.{reverse-append, append-nil, append_assoc}, Option.{slice_get_within, get_or_from_slice_get}}
 use Rattle.std.proofs.Common.{◌≡◌, ◌≢◌, ◌⊎◌, inl, inr, ⊎_elim, IsSomeAnd, Bool, Result, Ok, Err, IsErrOf, Option, None, ◌≤◌, ◌+◌, ◌-◌, arith, slice_get, ℕ}
 use Rattle.std.proofs.{Common.{zero, suc, take, List, [], ◌∷◌, ◌++◌, Some, reverse, refl, sym, ◌∙◌, ap, subst}, Math.Seq.{take-suc}}
-use Rattle.lz_slot.specs.declared.history.Mark.{Mark}
+use Rattle.lz_slot.specs.declared.history.HistoryEvent.{HistoryEvent}
 use Rattle.lz_core.specs.{declared.play.Step.{Step as PlayStep}, Plays.{IsPlayOf, ArePlaysOf}, Trips.{GoAsTripped, tripped_after, tripped_by}}
 use Rattle.lz_core.specs.Worlds.{WorldOver, LacksMemory, LacksNext, StopsAt, StopsEarly, IsLawful, PlaysOn, IsChain, mark_list}
 use Rattle.lz_core.proofs.Runs.PlayedStep.{stays}
@@ -20,7 +20,7 @@ plays_on p [] xs (step ∷ later) before first are = absurd cc
 plays_on p (y ∷ ys) xs [] before first are = absurd are
 plays_on p (y ∷ ys) xs (step ∷ later) before first are = (subst (λ (q : Point). IsPlayOf q.state y step) (run_append p later before) are.0, plays_on p ys xs later before first are.1)
 
-marks_join : (ms ns : List Mark) → AreMarksOfRun ms → AreMarksOfRun ns → AreMarksOfRun (ms ++ ns)
+marks_join : (ms ns : List HistoryEvent) → AreMarksOfRun ms → AreMarksOfRun ns → AreMarksOfRun (ms ++ ns)
 marks_join [] ns first then_ = then_
 marks_join (m ∷ ms) ns first then_ = (first.0, marks_join ms ns first.1 then_)
 
@@ -33,7 +33,7 @@ go_on p [] before tripped first then_on = first
 go_on p (step ∷ later) before tripped first then_on = grind (arith, nat_tests, run_append, trips_join, go_on p later before tripped first then_on.1)
 
 -- two plays, one after the other, are one
-pub joins : (a b c : WorldOver) (xs ys : List PlayStep) (ms ns : List Mark) → PlaysOn a xs ms b → PlaysOn b ys ns c → PlaysOn a (xs ++ ys) (ms ++ ns) c
+pub joins : (a b c : WorldOver) (xs ys : List PlayStep) (ms ns : List HistoryEvent) → PlaysOn a xs ms b → PlaysOn b ys ns c → PlaysOn a (xs ++ ys) (ms ++ ns) c
 joins a b c xs ys ms ns one other p at =
     let first = one p at in
     let q = run p first.played.steps in
@@ -49,9 +49,9 @@ joins a b c xs ys ms ns one other p at =
         all_marks =
             subst (λ (r : Point). r.marks ≡ reverse (ms ++ ns) ++ p.marks) there
             (second.played.all_marks
-            ∙ ap (λ (us : List Mark). reverse ns ++ us) first.played.all_marks
+            ∙ ap (λ (us : List HistoryEvent). reverse ns ++ us) first.played.all_marks
             ∙ sym (append_assoc (reverse ns) (reverse ms) p.marks)
-            ∙ ap (λ (us : List Mark). us ++ p.marks) (sym (reverse-append ms ns)));
+            ∙ ap (λ (us : List HistoryEvent). us ++ p.marks) (sym (reverse-append ms ns)));
       };
       calls = subst (λ (r : Point). r.calls ≡ c.calls) there second.calls;
       reached = λ start h. subst (λ (r : Point). IsReached start r) there (second.reached start (first.reached start h));
@@ -61,7 +61,7 @@ joins a b c xs ys ms ns one other p at =
     }
 
 -- what was seen by a play is a chain of lives
-pub chains : (old new : WorldOver) (plays : List PlayStep) (marks : List Mark) → PlaysOn old plays marks new → IsChain old marks new
+pub chains : (old new : WorldOver) (plays : List PlayStep) (marks : List HistoryEvent) → PlaysOn old plays marks new → IsChain old marks new
 chains old new plays marks h = λ start p t reached at leaves.
     let leads = h p at in
     let there = leads.reached start reached in
@@ -84,7 +84,7 @@ take_one plays i step at =
     ∙ take-suc plays i step (slice_get_within plays i step at)
     ∙ ap (λ (s : PlayStep). take i plays ++ (s ∷ [])) (get_or_from_slice_get plays i step step at)
 
-pub goes_on : (a b c : WorldOver) (plays : List PlayStep) (i : ℕ) (step : PlayStep) (ms ns : List Mark) → slice_get plays i ≡ Some step
+pub goes_on : (a b c : WorldOver) (plays : List PlayStep) (i : ℕ) (step : PlayStep) (ms ns : List HistoryEvent) → slice_get plays i ≡ Some step
     → PlaysOn a (take i plays) ms b → PlaysOn b (step ∷ []) ns c → PlaysOn a (take (i + 1) plays) (ms ++ ns) c
 goes_on a b c plays i step ms ns at before now =
     subst (λ (zs : List PlayStep). PlaysOn a zs (ms ++ ns) c) (sym (take_one plays i step at)) (joins a b c (take i plays) (step ∷ []) ms ns before now)
@@ -94,7 +94,7 @@ last_of : (plays : List PlayStep) (i : ℕ) (step : PlayStep) (mid new : WorldOv
 last_of plays i _ mid new at (inl same) = inl same
 last_of plays i _ mid new at (inr lacks) = inr (subst (λ (o : Option PlayStep). IsSomeAnd o (λ play. LacksMemory mid play new)) (sym at) lacks)
 
-by_count : (a b c mid : WorldOver) (plays : List PlayStep) (i : ℕ) (step : PlayStep) (ms ns : List Mark) (count : ℕ) → slice_get plays i ≡ Some step
+by_count : (a b c mid : WorldOver) (plays : List PlayStep) (i : ℕ) (step : PlayStep) (ms ns : List HistoryEvent) (count : ℕ) → slice_get plays i ≡ Some step
     → PlaysOn a (take i plays) ms b → count ≤ 1 → PlaysOn b (take count (step ∷ [])) ns mid → (c ≡ mid) ⊎ LacksNext mid (step ∷ []) count c → StopsEarly a plays c
 by_count a b c mid plays i step ms ns zero at before few now last =
     let within = slice_get_within plays i step at in
@@ -111,7 +111,7 @@ by_count a b c mid plays i step ms ns (suc zero) at before few now last =
     record { count = i + 1; few = omega (arith, within); marks = ms ++ ns; mid = mid; before = goes_on a b mid plays i step ms ns at before now; last = ⊎_elim inl (λ lacks. absurd lacks) last }
 by_count a b c mid plays i _ ms ns (suc (suc count)) at before few now last = grind arith
 
-pub early_on : (a b c : WorldOver) (plays : List PlayStep) (i : ℕ) (step : PlayStep) (ms : List Mark) → slice_get plays i ≡ Some step
+pub early_on : (a b c : WorldOver) (plays : List PlayStep) (i : ℕ) (step : PlayStep) (ms : List HistoryEvent) → slice_get plays i ≡ Some step
     → PlaysOn a (take i plays) ms b → StopsEarly b (step ∷ []) c → StopsEarly a plays c
 early_on a b c plays i step ms at before h = by_count a b c h.mid plays i step ms h.marks h.count at before h.few h.before h.last
 
@@ -120,7 +120,7 @@ pub early_lack : (old new : WorldOver) (play : PlayStep) → LacksMemory old pla
 early_lack old new play lacks = record { count = 0; few = omega arith; marks = []; mid = old; before = stays old; last = inr lacks }
 
 -- a play that comes to a step that isn't lawful
-pub stops_at : (a b c : WorldOver) (plays : List PlayStep) (i n : ℕ) (step : PlayStep) (ms : List Mark) → slice_get plays i ≡ Some step
+pub stops_at : (a b c : WorldOver) (plays : List PlayStep) (i n : ℕ) (step : PlayStep) (ms : List HistoryEvent) → slice_get plays i ≡ Some step
     → PlaysOn a (take i plays) ms b → n ≡ i + 1 → c ≡ b → ¬ IsLawful b.state step → StopsAt a plays n c
 stops_at a b c plays i n step ms at before is same unlawful =
     let back : n - 1 ≡ i = omega (arith, is) in
@@ -144,6 +144,6 @@ pub same_fault : {T U E : Type 0} (r : Result T E) (x y e : E) → r ≡ Err x �
 same_fault {T} {U} {E} r x y e is same told = ap (refusal {U = U}) (sym same) ∙ ap (λ (s : Result T E). refused {U = U} x s) (sym is ∙ told)
 
 -- a step without a mark
-pub no_mark : (mark : Option Mark) → ((m : Mark) → mark ≢ Some m) → mark_list mark ≡ []
+pub no_mark : (mark : Option HistoryEvent) → ((m : HistoryEvent) → mark ≢ Some m) → mark_list mark ≡ []
 no_mark None never = refl
 no_mark (Some m) never = absurd (never m refl)

@@ -1,12 +1,12 @@
 -- A step of a play leads from a world to a world.
 use Rattle.std.proofs.Common.{◌≡◌, arith, inl, List, [], ◌∷◌, ◌++◌, refl, ◌∙◌, ap, subst, ℕ}
-use Rattle.lz_slot.specs.declared.history.Mark.{Mark}
+use Rattle.lz_slot.specs.declared.history.HistoryEvent.{HistoryEvent}
 use Rattle.lz_core.specs.{declared.play.Step.{Step as PlayStep}, Trips.{GoesAsTripped, tripped_after}, Worlds.{WorldOver, Goes, StopsEarly, HasRun, PlaysOn}}
 use Rattle.lz_machine.specs.{Yards.{Shape}, Runs.{State, Transition, shape_of, point_after}, Points.{IsBetweenLooks}}
 use Rattle.lz_machine.proofs.Runs.ReachedPoint.{reach, shape_kept}
 use Rattle.lz_judge.specs.MarkLines.{AreMarksOfRun}
 
-pub leads : (old new : WorldOver) (play : PlayStep) (step : Transition) (marks : List Mark) → Goes old play step marks new → AreMarksOfRun marks
+pub leads : (old new : WorldOver) (play : PlayStep) (step : Transition) (marks : List HistoryEvent) → Goes old play step marks new → AreMarksOfRun marks
     → GoesAsTripped old.state old.tripped step → tripped_after old.tripped step ≡ new.tripped → PlaysOn old (play ∷ []) marks new
 leads old new play step marks goes of_run as_tripped tripped p at = record {
   played = record {
@@ -14,7 +14,7 @@ leads old new play step marks goes of_run as_tripped tripped p at = record {
     one_for_one = (rw at.state goes.is, refl);
     runs = (rw at.state goes.may, tt);
     state = rw (at.state, at.calls) goes.to;
-    all_marks = rw (at.state, at.calls) (ap (λ (M : List Mark). M ++ p.marks) goes.told);
+    all_marks = rw (at.state, at.calls) (ap (λ (M : List HistoryEvent). M ++ p.marks) goes.told);
   };
   calls = rw at.calls goes.counts;
   reached = λ start h. reach start p step h (rw at.state goes.may);
@@ -24,7 +24,7 @@ leads old new play step marks goes of_run as_tripped tripped p at = record {
 }
 
 -- so the world has a run to where it is now
-pub runs_on : (shape : Shape) (old new : WorldOver) (play : PlayStep) (step : Transition) (marks : List Mark) → HasRun shape old.state old.calls → Goes old play step marks new → IsBetweenLooks new.state → HasRun shape new.state new.calls
+pub runs_on : (shape : Shape) (old new : WorldOver) (play : PlayStep) (step : Transition) (marks : List HistoryEvent) → HasRun shape old.state old.calls → Goes old play step marks new → IsBetweenLooks new.state → HasRun shape new.state new.calls
 runs_on shape old new play step marks ran goes quiet = record {
   start = ran.start;
   shape = ran.shape;

@@ -1,7 +1,7 @@
 -- A judge's yes leaves no flaw.
 use Rattle.std.proofs.Common.{◌≡◌, inl, inr, ⊎_elim, ◌↔◌, ℕ, ◌<◌, Bool, true, List, [], ◌∷◌, ◌++◌, sym, refl, ◌∙◌, ap, subst, arith, BTreeMap}
 use Rattle.std.proofs.lemmas.{Bool.Decides.{eqb_tells}, Option.{same_Some}}
-use Rattle.lz_slot.specs.{Sets.{Keys, Same, key_of, members, reply}, declared.{command.Command.{Command}, history.Mark.{Mark, TheVariants.{Call, Opened}}}}
+use Rattle.lz_slot.specs.{Sets.{Keys, Same, key_of, members, reply}, declared.{command.Command.{Command}, history.HistoryEvent.{HistoryEvent, TheVariants.{Call, Opened}}}}
 use Rattle.lz_slot.specs.Histories.{IsAnswered, IsCalled, IsEarlier, IsListed, Runs, lives}
 use Rattle.lz_judge.specs.{Records.{IsLawful, IsMade, IsPoint, Record}, Flaws.{IsFlaw, IsInOrder, IsLifeBefore, IsReached, IsWrongSet, Leads, OrderedChain}}
 use Rattle.lz_judge.specs.{declared.flaw.Flaw.{Flaw, TheVariants.{WrongReply, WrongSet}}, Readings.{IsAt, is_made}, Plays.{IsKnown, lives_before, this_start}}
@@ -9,7 +9,7 @@ use Rattle.lz_judge.{specs.Verdicts.{AreCalled, AreListed}, proofs.Lives.{FirstF
 use Rattle.lz_judge.proofs.Lives.WholeRun.{AreApart, RunIs, chain_before, chain_run, run_leads, run_replies}
 
 -- a call that is counted was made
-pub is_made_tells : (M : List Mark) (i : ℕ) → is_made M i ≡ true → IsMade M i
+pub is_made_tells : (M : List HistoryEvent) (i : ℕ) → is_made M i ≡ true → IsMade M i
 is_made_tells [] i is = absurd (cc)
 is_made_tells (Call j a c ∷ M) i is = elim (eqb_tells j i) [
   | inl t ↦ (c, (a, inl (ap (λ (n : ℕ). Call n a c) t.1)))
@@ -62,7 +62,7 @@ module _ (at : ℕ → ℕ → Type 0) (one : (i p q : ℕ) → at i p → at i 
       )) in
       ap (λ (n : ℕ). n ∷ L) e ∙ ap (λ (l : List ℕ). j ∷ l) rest
 
-  module _ (M : List Mark) (T : Keys) (lawful : IsLawful M) (run : RunIs at M T) where
+  module _ (M : List HistoryEvent) (T : Keys) (lawful : IsLawful M) (run : RunIs at M T) where
     -- an open that finds the set of the run isn't wrong
     whole_same : (L : List ℕ) (U : Keys) → IsInOrder at M L → Leads M (members []) L U → Same T U
     whole_same L U order leads =
@@ -82,10 +82,10 @@ module _ (at : ℕ → ℕ → Type 0) (one : (i p q : ℕ) → at i p → at i 
         run_replies M lawful parts.front parts.rest i (members []) T (members []) S c b (λ k. refl) (subst (λ (l : List ℕ). Runs M (members []) l T) parts.is run.runs) (subst (λ (l : List ℕ). Leads M (members []) l S) (sym same) reached.leads) called told
 
   -- no open of a chain found another set
-  right_sets : (M : List Mark) (T : Keys) (n : ℕ) → IsLawful M → AreApart at M → OrderedChain at (lives (members []) M) T → IsWrongSet at M n → ⊥
+  right_sets : (M : List HistoryEvent) (T : Keys) (n : ℕ) → IsLawful M → AreApart at M → OrderedChain at (lives (members []) M) T → IsWrongSet at M n → ⊥
   right_sets M T n lawful apart chain wrong = before M n lawful apart (chain_before at M T chain) wrong
     where
-      before : (M : List Mark) (n : ℕ) → IsLawful M → AreApart at M → OrderedChain at (lives_before M) (this_start M) → IsWrongSet at M n → ⊥
+      before : (M : List HistoryEvent) (n : ℕ) → IsLawful M → AreApart at M → OrderedChain at (lives_before M) (this_start M) → IsWrongSet at M n → ⊥
       before [] n lawful apart chain wrong = wrong
       before (Opened keys ∷ M) n lawful apart chain wrong =
           let earlier = λ (i j p q : ℕ) (is : at i p) (is' : at j q) (later : IsLifeBefore M i j). apart i j p q is is' (inr later) in

@@ -1,7 +1,7 @@
 -- The lives that have ended, and the life that goes on after them.
 use Rattle.std.proofs.{Common.{arith, ◌≢◌, ◌⊎◌, inl, inr, ⊎_elim, ℕ, ◌<◌, List, [], ◌∷◌, ◌++◌, sym, refl, ◌∙◌}, lemmas.Bool.Decides.{nat_tests}}
-use Rattle.lz_slot.specs.{Sets.{Keys, Same, after}, declared.{command.Command.{Command}, history.Mark.{Mark}}}
-use Rattle.lz_slot.specs.declared.history.Mark.TheVariants.{Call, Answer, Refused, Cut, Stop, Crash, Opened, OpenFailed}
+use Rattle.lz_slot.specs.{Sets.{Keys, Same, after}, declared.{command.Command.{Command}, history.HistoryEvent.{HistoryEvent}}}
+use Rattle.lz_slot.specs.declared.history.HistoryEvent.TheVariants.{Call, Answer, Refused, Cut, Stop, Crash, Opened, OpenFailed}
 use Rattle.lz_slot.{specs.Histories.{HasMark, IsCalled, IsListed}, proofs.Listings.{earlier_append, listed_append, listed_left, listed_right}}
 use Rattle.lz_slot.proofs.Sets.{after_same}
 use Rattle.lz_judge.specs.{Records.{IsMade}, Flaws.{IsInOrder, IsLifeBefore, IsPast, Leads}, Plays.{Follows, past_of, this_life}}
@@ -9,25 +9,25 @@ use Rattle.lz_judge.{specs.declared.playing.Listed.{Listed}, proofs.Lives.{Lawfu
 use Rattle.lz_judge.proofs.Lives.PlaceOrder.{Among, calls_of}
 
 -- what was seen in the past was seen
-pub past_mark : (M : List Mark) (m : Mark) → HasMark m (past_of M) → HasMark m M
+pub past_mark : (M : List HistoryEvent) (m : HistoryEvent) → HasMark m (past_of M) → HasMark m M
 past_mark [] m has = has
 past_mark (Opened keys ∷ M) m has = inr has
 past_mark (_ ∷ M) m has = inr (past_mark M m has)
 
-pub past_made_all : (M : List Mark) (i : ℕ) → IsMade (past_of M) i → IsMade M i
+pub past_made_all : (M : List HistoryEvent) (i : ℕ) → IsMade (past_of M) i → IsMade M i
 past_made_all M i (c, (actor, has)) = (c, (actor, past_mark M (Call i actor c) has))
 
 -- a call of the past is one of an earlier life
-pub past_is : (M : List Mark) (i : ℕ) → IsMade (past_of M) i → IsPast M i
+pub past_is : (M : List HistoryEvent) (i : ℕ) → IsMade (past_of M) i → IsPast M i
 past_is [] i made = absurd made.1.1
 past_is (Opened keys ∷ M) i made = made
 past_is (_ ∷ M) i made = past_is M i made
 
 -- each call was made in the past or in the life that goes on
-split_one : (m : Mark) (M : List Mark) (i : ℕ) → ((j a : ℕ) (c : Command) → m ≢ Call j a c) → (IsMade M i → IsMade (past_of M) i ⊎ IsMade (this_life M) i) → IsMade (m ∷ M) i → IsMade (past_of M) i ⊎ IsMade (this_life M) i
+split_one : (m : HistoryEvent) (M : List HistoryEvent) (i : ℕ) → ((j a : ℕ) (c : Command) → m ≢ Call j a c) → (IsMade M i → IsMade (past_of M) i ⊎ IsMade (this_life M) i) → IsMade (m ∷ M) i → IsMade (past_of M) i ⊎ IsMade (this_life M) i
 split_one m M i no_call rest made = rest (made_less m M i no_call made)
 
-pub made_split : (M : List Mark) (i : ℕ) → IsMade M i → IsMade (past_of M) i ⊎ IsMade (this_life M) i
+pub made_split : (M : List HistoryEvent) (i : ℕ) → IsMade M i → IsMade (past_of M) i ⊎ IsMade (this_life M) i
 made_split [] i made = absurd made.1.1
 made_split (Opened keys ∷ M) i made = inl (made_less (Opened keys) M i (λ j a c e. cc) made)
 made_split (Answer j b ∷ M) i made = ⊎_elim (λ past. inl past) (λ here. inr (made_more (Answer j b) (this_life M) i here)) (split_one (Answer j b) M i (λ j' a c e. cc) (made_split M i) made)
@@ -40,10 +40,10 @@ made_split (Call j a c ∷ M) i (d, (actor, has)) = ⊎_elim
 made_split (m ∷ M) i made = split_one m M i (λ j a c e. cc) (made_split M i) made
 
 -- a call of the past was made in a life before that of a call of the life that goes on
-later_one : (m : Mark) (M : List Mark) (i j : ℕ) → IsPast M i → (IsMade (this_life M) j → IsLifeBefore M i j) → IsMade (m ∷ this_life M) j → IsLifeBefore (m ∷ M) i j
+later_one : (m : HistoryEvent) (M : List HistoryEvent) (i j : ℕ) → IsPast M i → (IsMade (this_life M) j → IsLifeBefore M i j) → IsMade (m ∷ this_life M) j → IsLifeBefore (m ∷ M) i j
 later_one m M i j past rest (c, (actor, has)) = ⊎_elim (λ here. inl (actor, c, here, past)) (λ there. inr (rest (c, (actor, there)))) has
 
-pub past_before : (M : List Mark) (i j : ℕ) → IsMade (past_of M) i → IsMade (this_life M) j → IsLifeBefore M i j
+pub past_before : (M : List HistoryEvent) (i j : ℕ) → IsMade (past_of M) i → IsMade (this_life M) j → IsLifeBefore M i j
 past_before [] i j past made = absurd made.1.1
 past_before (Opened keys ∷ M) i j past made = absurd made.1.1
 past_before (Stop ∷ M) i j past made = inr (past_before M i j past made)
@@ -51,20 +51,20 @@ past_before (Crash ∷ M) i j past made = inr (past_before M i j past made)
 past_before (OpenFailed why ∷ M) i j past made = inr (past_before M i j past made)
 past_before (m ∷ M) i j past made = later_one m M i j (past_is M i past) (past_before M i j past) made
 
-pub leads_more : (M : List Mark) (S S' : Keys) (L : List ℕ) (T : Keys) → Leads (past_of M) S L T → Same S S' → Leads M S' L T
+pub leads_more : (M : List HistoryEvent) (S S' : Keys) (L : List ℕ) (T : Keys) → Leads (past_of M) S L T → Same S S' → Leads M S' L T
 leads_more M S S' [] T leads same = λ k. sym (same k) ∙ leads k
 leads_more M S S' (i ∷ L) T (c, (actor, has), rest) same = (c, (actor, past_mark M (Call i actor c) has), leads_more M (after c S) (after c S') L T rest (after_same c S S' same))
 
-pub leads_then : (M : List Mark) (L R : List ℕ) (S T U : Keys) → Leads M S L T → Leads M T R U → Leads M S (L ++ R) U
+pub leads_then : (M : List HistoryEvent) (L R : List ℕ) (S T U : Keys) → Leads M S L T → Leads M T R U → Leads M S (L ++ R) U
 leads_then M [] R S T U first second = grind (arith, nat_tests, after_same)
 leads_then M (i ∷ L) R S T U (c, called, rest) second = (c, called, leads_then M L R (after c S) T U rest second)
 
-pub follows_leads : (M : List Mark) (calls : List Listed) (S T : Keys) → ((l : Listed) → Among l calls → IsCalled M l.call l.command) → Follows calls S T → Leads M S (calls_of calls) T
+pub follows_leads : (M : List HistoryEvent) (calls : List Listed) (S T : Keys) → ((l : Listed) → Among l calls → IsCalled M l.call l.command) → Follows calls S T → Leads M S (calls_of calls) T
 follows_leads M [] S T called follows = follows
 follows_leads M (l ∷ calls) S T called follows = (l.command, called l (inl refl), follows_leads M calls (after l.command S) T (λ m at. called m (inr at)) follows)
 
 -- the list of the past, and that of the life after it
-module _ (at : ℕ → ℕ → Type 0) (M : List Mark) (below : (i j p q : ℕ) → IsMade (past_of M) i → IsMade (this_life M) j → at i p → at j q → p < q) (L R : List ℕ) (past : IsInOrder at (past_of M) L) (life : IsInOrder at (this_life M) R) where
+module _ (at : ℕ → ℕ → Type 0) (M : List HistoryEvent) (below : (i j p q : ℕ) → IsMade (past_of M) i → IsMade (this_life M) j → at i p → at j q → p < q) (L R : List ℕ) (past : IsInOrder at (past_of M) L) (life : IsInOrder at (this_life M) R) where
   join_to : (j : ℕ) → IsListed j (L ++ R) → IsMade M j × ((p : ℕ) × at j p)
   join_to j is = ⊎_elim
       (λ left. let (made, place) = (past.each j).0 left in (past_made_all M j made, place))

@@ -3,7 +3,7 @@ use Rattle.std.specs.BTreeMap as tree
 use Rattle.std.proofs.Common.{◌≡◌, ◌≢◌, ◌⊎◌, inl, inr, ⊎_elim, ℕ, ◌<◌, ◌≤◌, Bool, true, false, List, [], ◌∷◌, sym, refl, ◌∙◌, ap, arith, Some, map, nat_cmp}
 use Rattle.std.proofs.{Common.{Less}, lemmas.{Map.Keys.{sorted_head, sorted_tail}, Option.{same_Some}, Bool.{cases_eq, Decides.{nat_tests, eqb_tells}}}}
 use Rattle.std.specs.{Map.{values_of, keys_of, lookup}, BTreeMap.{BTreeMap, is_at}, List.{AllByRecursion, Sorted.{IsStrictlySortedBy}}}
-use Rattle.lz_slot.specs.{Sets.{Keys, Same, after}, declared.history.Mark.{Mark}, Histories.{IsAnswered, IsCalled, IsEarlier, IsListed, Runs, count_of}}
+use Rattle.lz_slot.specs.{Sets.{Keys, Same, after}, declared.history.HistoryEvent.{HistoryEvent}, Histories.{IsAnswered, IsCalled, IsEarlier, IsListed, Runs, count_of}}
 use Rattle.lz_slot.proofs.Sets.{after_same}
 use Rattle.lz_judge.specs.{Records.{IsMade}, Flaws.{IsInOrder}, Readings.{IsAt}, Plays.{IsLife, Plays}, declared.playing.Listed.{Listed}}
 
@@ -120,19 +120,19 @@ module _ (places : BTreeMap ℕ ℕ) where
       is')
       is
 
-pub runs : (H : List Mark) (answers : BTreeMap ℕ Bool) (calls : List Listed) (S T S' T' : Keys) → ((i : ℕ) (b : Bool) → IsAnswered H i b → tree.get nat_cmp answers i ≡ Some b)
+pub runs : (H : List HistoryEvent) (answers : BTreeMap ℕ Bool) (calls : List Listed) (S T S' T' : Keys) → ((i : ℕ) (b : Bool) → IsAnswered H i b → tree.get nat_cmp answers i ≡ Some b)
     → ((l : Listed) → Among l calls → IsCalled H l.call l.command) → Same S S' → Same T T' → Plays answers calls S T → Runs H S' (calls_of calls) T'
 runs H answers [] S T S' T' told called start end plays = λ k. sym (start k) ∙ plays k ∙ end k
 runs H answers (l ∷ calls) S T S' T' told called start end plays = grind (arith, after_same, runs H answers calls (after l.command S) T (after l.command S') T' told (λ m at. called m (inr at)) (after_same l.command S S' start) end plays.1)
 
 -- what is known of the calls that a life's list has
-pub record OfLife (places : BTreeMap ℕ ℕ) (H : List Mark) (calls : List Listed) : Type 0 where
+pub record OfLife (places : BTreeMap ℕ ℕ) (H : List HistoryEvent) (calls : List Listed) : Type 0 where
   pub have : HavePlaces places calls
   pub called : (l : Listed) → Among l calls → IsCalled H l.call l.command
   pub rise : Rises places calls
   pub among : (i p : ℕ) → IsMade H i → IsAt places i p → (l : Listed) × Among l calls × (l.call ≡ i)
 
-pub of_life : (places : BTreeMap ℕ ℕ) (H : List Mark) (life : BTreeMap ℕ Listed) → tree.IsOrdered nat_cmp life → IsLife places H life → OfLife places H (values_of life.entries)
+pub of_life : (places : BTreeMap ℕ ℕ) (H : List HistoryEvent) (life : BTreeMap ℕ Listed) → tree.IsOrdered nat_cmp life → IsLife places H life → OfLife places H (values_of life.entries)
 of_life places H life ordered is_life = record {
   have = λ l at. let (p, among) = among_value life.entries l at in (p, (entry p l among).1);
   called = λ l at. let (p, among) = among_value life.entries l at in (entry p l among).0;
@@ -146,5 +146,5 @@ of_life places H life ordered is_life = record {
     entry p l among = is_life.listed p l (among_lookup life.entries p l ordered among)
 
 -- they stand in the order of their places
-pub in_order : (places : BTreeMap ℕ ℕ) (H : List Mark) (calls : List Listed) → OfLife places H calls → IsInOrder (IsAt places) H (calls_of calls)
+pub in_order : (places : BTreeMap ℕ ℕ) (H : List HistoryEvent) (calls : List Listed) → OfLife places H calls → IsInOrder (IsAt places) H (calls_of calls)
 in_order places H calls listed = grind (arith, listed_among, among_listed, ascending)

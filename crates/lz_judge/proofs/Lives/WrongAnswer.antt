@@ -3,7 +3,7 @@ use Rattle.std.specs.BTreeMap as tree
 use Rattle.std.proofs.Common.{◌≡◌, ◌≢◌, ◌⊎◌, inl, inr, ⊎_elim, ℕ, suc, ◌<◌, ◌≤◌, Bool, List, length, [], ◌∷◌, ◌++◌, sym, refl, ◌∙◌, ap, subst, arith}
 use Rattle.std.proofs.{Common.{append_assoc, Option, Some, None, BTreeSet, BTreeMap, nat_cmp}, lemmas.{Option.{same_Some}, List.{map-append}}}
 use Rattle.std.specs.Map.{values_of}
-use Rattle.lz_slot.specs.{Sets.{Keys, Same, after, key_of, members, reply}, declared.history.Mark.{Mark, TheVariants.{Call, Opened}}, Histories.{IsCalled}}
+use Rattle.lz_slot.specs.{Sets.{Keys, Same, after, key_of, members, reply}, declared.history.HistoryEvent.{HistoryEvent, TheVariants.{Call, Opened}}, Histories.{IsCalled}}
 use Rattle.lz_judge.specs.{Records.{IsMade}, Flaws.{IsInOrder, Leads, opens}, Readings.{IsAt}}
 use Rattle.lz_judge.specs.Plays.{Compared, Finds, Follows, IsKnown, IsLife, IsSet, IsWrong, Ran, WrongAt, past_of, this_life}
 use Rattle.lz_judge.{specs.declared.playing.Listed.{Listed}, proofs.Lives.{CurrentLife.{life_mark}, PlaceOrder.{Among, calls_of, in_order, OfLife, of_life}}}
@@ -40,7 +40,7 @@ among_right : (m : Listed) (done rest : List Listed) → Among m rest → Among 
 among_right m [] rest is = is
 among_right m (l ∷ done) rest is = inr (among_right m done rest is)
 
-module _ (places : BTreeMap ℕ ℕ) (answers : BTreeMap ℕ Bool) (M : List Mark) (known : IsKnown places answers M) where
+module _ (places : BTreeMap ℕ ℕ) (answers : BTreeMap ℕ Bool) (M : List HistoryEvent) (known : IsKnown places answers M) where
   past_below : (i j p q : ℕ) → IsMade (past_of M) i → IsMade (this_life M) j → IsAt places i p → IsAt places j q → p < q
   past_below i j p q past made at at' = known.lives i j p q at at' (past_before M i j past made)
 
@@ -168,7 +168,7 @@ ran_none places answers keys is_set = record {
 }
 
 -- a mark that begins no life
-pub ran_rest : (places : BTreeMap ℕ ℕ) (answers : BTreeMap ℕ Bool) (M : List Mark) (keys : BTreeSet ℕ) (wrong_reply : Option ℕ) (m : Mark) → ((found : List ℕ) → m ≢ Opened found) → Ran places answers M keys wrong_reply
+pub ran_rest : (places : BTreeMap ℕ ℕ) (answers : BTreeMap ℕ Bool) (M : List HistoryEvent) (keys : BTreeSet ℕ) (wrong_reply : Option ℕ) (m : HistoryEvent) → ((found : List ℕ) → m ≢ Opened found) → Ran places answers M keys wrong_reply
     → Ran places answers (m ∷ M) keys wrong_reply
 ran_rest places answers M keys wrong_reply (Opened found) no_open ran = absurd (no_open found refl)
 ran_rest places answers M keys wrong_reply _ no_open ran = record { now = ran.now; is_set = ran.is_set; list = ran.list; in_order = ran.in_order; leads = ran.leads; wrong_is = ran.wrong_is }
@@ -176,12 +176,12 @@ ran_rest places answers M keys wrong_reply _ no_open ran = record { now = ran.no
 pub compared_none : (places : BTreeMap ℕ ℕ) → Compared places [] 0 None
 compared_none places = record { counts = refl; set_is = λ n is. absurd (cc) }
 
-pub compared_rest : (places : BTreeMap ℕ ℕ) (M : List Mark) (count : ℕ) (wrong_set : Option ℕ) (m : Mark) → ((found : List ℕ) → m ≢ Opened found) → Compared places M count wrong_set → Compared places (m ∷ M) count wrong_set
+pub compared_rest : (places : BTreeMap ℕ ℕ) (M : List HistoryEvent) (count : ℕ) (wrong_set : Option ℕ) (m : HistoryEvent) → ((found : List ℕ) → m ≢ Opened found) → Compared places M count wrong_set → Compared places (m ∷ M) count wrong_set
 compared_rest places M count wrong_set (Opened found) no_open compared = absurd (no_open found refl)
 compared_rest places M count wrong_set _ no_open compared = record { counts = compared.counts; set_is = compared.set_is }
 
 -- there are no more opens than marks
-pub opens_within : (M : List Mark) → opens M ≤ length M
+pub opens_within : (M : List HistoryEvent) → opens M ≤ length M
 opens_within [] = omega arith
 opens_within (Opened keys ∷ M) = let rest = opens_within M in omega (arith, rest)
 opens_within (_ ∷ M) = let rest = opens_within M in omega (arith, rest)

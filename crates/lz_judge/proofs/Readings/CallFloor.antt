@@ -3,18 +3,18 @@ use Rattle.std.specs.BTreeMap as tree
 use Rattle.std.specs.BTreeSet as set
 use Rattle.std.proofs.Common.{◌≡◌, ◌≢◌, ◌⊎◌, inl, inr, ⊎_elim, ℕ, ◌+◌, ◌<◌, ◌≤◌, max, Bool, true, false, List, [], ◌∷◌, sym, refl, ◌∙◌, ap, subst, arith}
 use Rattle.std.proofs.{Common.{Option, Some, None, BTreeMap, BTreeSet, nat_cmp}, lemmas.{Grind.{common_steps}, Option.{same_Some}, Bool.{cases_eq, cases_lt}}}
-use Rattle.lz_slot.specs.declared.{command.Command.{Command}, history.Mark.{Mark, TheVariants.{Call, Answer, Opened}}}
+use Rattle.lz_slot.specs.declared.{command.Command.{Command}, history.HistoryEvent.{HistoryEvent, TheVariants.{Call, Answer, Opened}}}
 use Rattle.lz_judge.specs.{Records.{IsMade}, Flaws.{IsMisplaced, IsPast}, Readings.{Floored, IsAt, Ordered}}
 use Rattle.lz_judge.proofs.{Lives.LawfulHistory.{made_cases, made_less, made_more}, Readings.NextMark.{IsLesser, lesser_one, lesser_some}}
 
-misplaced_more : (M : List Mark) (m : Mark) (i j p q : ℕ) → IsMisplaced M i j p q → IsMisplaced (m ∷ M) i j p q
+misplaced_more : (M : List HistoryEvent) (m : HistoryEvent) (i j p q : ℕ) → IsMisplaced M i j p q → IsMisplaced (m ∷ M) i j p q
 misplaced_more M m i j p q (made, why) = (inr made, ⊎_elim (λ same. inl same) (λ (order, le). inr (⊎_elim (λ told. inl (inr told)) (λ past. inr (inr past)) order, le)) why)
 
 -- a call whose point an earlier call forbids
-abbrev IsForbidden : List Mark → BTreeMap ℕ ℕ → ℕ → Type 0
+abbrev IsForbidden : List HistoryEvent → BTreeMap ℕ ℕ → ℕ → Type 0
 IsForbidden M places j = (i : ℕ) × (p : ℕ) × (q : ℕ) × IsAt places i p × IsAt places j q × IsMisplaced M i j p q
 
-forbidden_more : (M : List Mark) (m : Mark) (places : BTreeMap ℕ ℕ) (j : ℕ) → IsForbidden M places j → IsForbidden (m ∷ M) places j
+forbidden_more : (M : List HistoryEvent) (m : HistoryEvent) (places : BTreeMap ℕ ℕ) (j : ℕ) → IsForbidden M places j → IsForbidden (m ∷ M) places j
 forbidden_more M m places j (i, p, q, at, at', why) = (i, p, q, at, at', misplaced_more M m i j p q why)
 
 -- a call at a place
@@ -25,13 +25,13 @@ same_place places i j p q same at at' = same_Some p q (sym at ∙ ap (tree.get n
 pub floored_none : (places : BTreeMap ℕ ℕ) (used : BTreeSet ℕ) → used.keys ≡ [] → Floored [] places 0 0 used None
 floored_none places used none = grind arith
 
-module _ (M : List Mark) (places : BTreeMap ℕ ℕ) (floor top : ℕ) (used : BTreeSet ℕ) (least : Option ℕ) (so_far : Floored M places floor top used least) where
+module _ (M : List HistoryEvent) (places : BTreeMap ℕ ℕ) (floor top : ℕ) (used : BTreeSet ℕ) (least : Option ℕ) (so_far : Floored M places floor top used least) where
   -- a mark that is no call
-  ordered_other : (m : Mark) → ((j a : ℕ) (c : Command) → m ≢ Call j a c) → Ordered (m ∷ M) places least
+  ordered_other : (m : HistoryEvent) → ((j a : ℕ) (c : Command) → m ≢ Call j a c) → Ordered (m ∷ M) places least
   ordered_other m no_call = grind (arith, forbidden_more)
 
   -- a mark that changes nothing
-  floored_other : (m : Mark) → ((j a : ℕ) (c : Command) → m ≢ Call j a c) → ((j : ℕ) (b : Bool) → m ≢ Answer j b)
+  floored_other : (m : HistoryEvent) → ((j a : ℕ) (c : Command) → m ≢ Call j a c) → ((j : ℕ) (b : Bool) → m ≢ Answer j b)
       → ((i : ℕ) → IsPast (m ∷ M) i → IsPast M i) → ((i : ℕ) → IsPast M i → IsPast (m ∷ M) i) → Floored (m ∷ M) places floor top used least
   floored_other m no_call no_answer past_less past_more = record {
     answered = λ i b p is at. so_far.answered i b p (⊎_elim (λ here. absurd (no_answer i b here)) (λ there. there) is) at;
@@ -44,7 +44,7 @@ module _ (M : List Mark) (places : BTreeMap ℕ ℕ) (floor top : ℕ) (used : B
     order = ordered_other m no_call;
   }
 
-  pub floored_rest : (m : Mark) → ((j a : ℕ) (c : Command) → m ≢ Call j a c) → ((j : ℕ) (b : Bool) → m ≢ Answer j b) → ((keys : List ℕ) → m ≢ Opened keys) → Floored (m ∷ M) places floor top used least
+  pub floored_rest : (m : HistoryEvent) → ((j a : ℕ) (c : Command) → m ≢ Call j a c) → ((j : ℕ) (b : Bool) → m ≢ Answer j b) → ((keys : List ℕ) → m ≢ Opened keys) → Floored (m ∷ M) places floor top used least
   floored_rest (Call j a c) no_call no_answer no_open = absurd (no_call j a c refl)
   floored_rest (Answer j b) no_call no_answer no_open = absurd (no_answer j b refl)
   floored_rest (Opened keys) no_call no_answer no_open = absurd (no_open keys refl)

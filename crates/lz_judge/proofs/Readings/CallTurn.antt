@@ -4,15 +4,15 @@ use Rattle.std.specs.BTreeSet as set
 use Rattle.std.proofs.{lemmas.{Bool.{cases_eq, Decides.{nat_tests}}, Grind.{common_steps}, Option.{same_Some}}, Common.{◌≡◌, ◌≢◌, inl, inr, ⊎_elim, ℕ, Bool}}
 use Rattle.std.proofs.Common.{List, [], ◌∷◌, ◌++◌, take, drop, sym, refl, ◌∙◌, ap, subst, arith, Option, Some, None, reverse, BTreeMap, BTreeSet, nat_cmp}
 use Rattle.std.specs.Map.{values_of}
-use Rattle.lz_slot.specs.{Sets.{Keys, Same, members}, declared.{command.Command.{Command}, history.Mark.{Mark}}}
-use Rattle.lz_slot.specs.{declared.history.Mark.TheVariants.{Call, Answer, Refused, Cut, Opened}, Histories.{Fits, IsCalled, Life, lives}}
+use Rattle.lz_slot.specs.{Sets.{Keys, Same, members}, declared.{command.Command.{Command}, history.HistoryEvent.{HistoryEvent}}}
+use Rattle.lz_slot.specs.{declared.history.HistoryEvent.TheVariants.{Call, Answer, Refused, Cut, Opened}, Histories.{Fits, IsCalled, Life, lives}}
 use Rattle.lz_judge.specs.{Records.{IsMade}, Flaws.{IsInOrder, OrderedChain}, Readings.{IsAt}}
 use Rattle.lz_judge.specs.{Plays.{Finishes, IsKnown, IsLife, IsSet, Played, Plays, lives_before, this_life, this_start}, declared.playing.Listed.{Listed}}
 use Rattle.lz_judge.proofs.Lives.{LawfulHistory.{made_cases, made_less, so_far}, CurrentLife.{answered_life, life_before, life_made, life_mark, lives_parts}}
 use Rattle.lz_judge.proofs.Lives.PlaceOrder.{calls_of, earlier, in_order, once, runs, OfLife, of_life}
 
 -- what is known of more marks is known of fewer
-pub known_rest : (places : BTreeMap ℕ ℕ) (answers : BTreeMap ℕ Bool) (m : Mark) (M : List Mark) → IsKnown places answers (m ∷ M) → IsKnown places answers M
+pub known_rest : (places : BTreeMap ℕ ℕ) (answers : BTreeMap ℕ Bool) (m : HistoryEvent) (M : List HistoryEvent) → IsKnown places answers (m ∷ M) → IsKnown places answers M
 known_rest places answers m M known = record {
   lawful = known.lawful.1;
   refused = λ i (why, has). known.refused i (why, inr has);
@@ -23,11 +23,11 @@ known_rest places answers m M known = record {
   lives = λ i j p q at at' before. known.lives i j p q at at' (inr before);
 }
 
-known_part : (places : BTreeMap ℕ ℕ) (answers : BTreeMap ℕ Bool) (N M : List Mark) → IsKnown places answers (N ++ M) → IsKnown places answers M
+known_part : (places : BTreeMap ℕ ℕ) (answers : BTreeMap ℕ Bool) (N M : List HistoryEvent) → IsKnown places answers (N ++ M) → IsKnown places answers M
 known_part places answers [] M known = known
 known_part places answers (m ∷ N) M known = known_part places answers N M (known_rest places answers m (N ++ M) known)
 
-pub known_so_far : (places : BTreeMap ℕ ℕ) (answers : BTreeMap ℕ Bool) (marks : List Mark) (n : ℕ) → IsKnown places answers (reverse marks) → IsKnown places answers (reverse (take n marks))
+pub known_so_far : (places : BTreeMap ℕ ℕ) (answers : BTreeMap ℕ Bool) (marks : List HistoryEvent) (n : ℕ) → IsKnown places answers (reverse marks) → IsKnown places answers (reverse (take n marks))
 known_so_far places answers marks n known = known_part places answers (reverse (drop n marks)) (reverse (take n marks)) (subst (IsKnown places answers) (so_far marks n) known)
 
 empty_get : (life : BTreeMap ℕ Listed) (p : ℕ) → tree.IsEmpty life → tree.get nat_cmp life p ≡ None
@@ -46,13 +46,13 @@ played_none places keys life no_key none = record {
 }
 
 -- a mark that is no call
-life_other : (places : BTreeMap ℕ ℕ) (H : List Mark) (life : BTreeMap ℕ Listed) (m : Mark) → ((j a : ℕ) (c : Command) → m ≢ Call j a c) → IsLife places H life → IsLife places (m ∷ H) life
+life_other : (places : BTreeMap ℕ ℕ) (H : List HistoryEvent) (life : BTreeMap ℕ Listed) (m : HistoryEvent) → ((j a : ℕ) (c : Command) → m ≢ Call j a c) → IsLife places H life → IsLife places (m ∷ H) life
 life_other places H life m no_call is = record {
   listed = λ p l there. let (called, at) = is.listed p l there in ((called.0, inr called.1), at);
   all = λ i p made at. is.all i p (made_less m H i no_call made) at;
 }
 
-module _ (places : BTreeMap ℕ ℕ) (answers : BTreeMap ℕ Bool) (M : List Mark) (known : IsKnown places answers M) where
+module _ (places : BTreeMap ℕ ℕ) (answers : BTreeMap ℕ Bool) (M : List HistoryEvent) (known : IsKnown places answers M) where
   -- the calls of the life fit it
   life_fits : (life : BTreeMap ℕ Listed) (S T T' : Keys) → tree.IsOrdered nat_cmp life → IsLife places (this_life M) life → Same S (this_start M) → Same T T' → Plays answers (values_of life.entries) S T
       → (L : List ℕ) × IsInOrder (IsAt places) (this_life M) L × Fits (this_start M) (this_life M) L T'
@@ -100,9 +100,9 @@ module _ (places : BTreeMap ℕ ℕ) (answers : BTreeMap ℕ Bool) (M : List Mar
         → tree.IsEmpty life' → ((S : Keys) → IsSet keys' S → wrong_set' ≡ None → (wrong_set ≡ None) × Same S (members found)) → Played places (Opened found ∷ M) keys' life' wrong_reply' wrong_set'
     played_opened found keys' life' wrong_reply' wrong_set' finishes none compares = grind (arith, empty_life, chain_more)
 
-module _ (places : BTreeMap ℕ ℕ) (M : List Mark) (keys : BTreeSet ℕ) (life : BTreeMap ℕ Listed) (wrong_reply wrong_set : Option ℕ) (before : Played places M keys life wrong_reply wrong_set) where
+module _ (places : BTreeMap ℕ ℕ) (M : List HistoryEvent) (keys : BTreeSet ℕ) (life : BTreeMap ℕ Listed) (wrong_reply wrong_set : Option ℕ) (before : Played places M keys life wrong_reply wrong_set) where
   -- a mark of the life, or between lives, that is no call
-  pub played_rest : (m : Mark) → ((j a : ℕ) (c : Command) → m ≢ Call j a c) → ((found : List ℕ) → m ≢ Opened found) → Played places (m ∷ M) keys life wrong_reply wrong_set
+  pub played_rest : (m : HistoryEvent) → ((j a : ℕ) (c : Command) → m ≢ Call j a c) → ((found : List ℕ) → m ≢ Opened found) → Played places (m ∷ M) keys life wrong_reply wrong_set
   played_rest (Call j a c) no_call no_open = absurd (no_call j a c refl)
   played_rest (Opened found) no_call no_open = absurd (no_open found refl)
   played_rest (Answer j b) no_call no_open = record { now = before.now; is_set = before.is_set; is_life = life_other places (this_life M) life (Answer j b) no_call before.is_life; chain = before.chain }

@@ -3,11 +3,11 @@ use Rattle.std.specs.BTreeMap as tree
 use Rattle.std.specs.BTreeSet as set
 use Rattle.std.proofs.Common.{◌≡◌, inl, inr, ⊎_elim, ℕ, Bool, true, false, List, ◌∷◌, sym, ◌∙◌, ap, subst, arith, Some, None, ◌==◌, if◌then◌else◌, BTreeMap}
 use Rattle.std.proofs.{Common.{BTreeSet, nat_cmp}, lemmas.{Grind.{common_steps}, Option.{same_Some}, Bool.{cases_eq, Decides.{eqb_tells}}}}
-use Rattle.lz_slot.specs.declared.{command.Command.{Command}, history.Mark.{Mark, TheVariants.{Call}}}
+use Rattle.lz_slot.specs.declared.{command.Command.{Command}, history.HistoryEvent.{HistoryEvent, TheVariants.{Call}}}
 use Rattle.lz_judge.{specs.{Records.{IsMade, MayFollow, actor_of}, Ledgers.{IsLedger}}, proofs.Lives.LawfulHistory.{made_cases, made_more}}
 use Rattle.lz_judge.proofs.Lives.CurrentLife.{open_made}
 
-module _ (M : List Mark) (calls : BTreeSet ℕ) (actors busy : BTreeMap ℕ ℕ) (living : Bool) (before : IsLedger M calls actors busy living) where
+module _ (M : List HistoryEvent) (calls : BTreeSet ℕ) (actors busy : BTreeMap ℕ ℕ) (living : Bool) (before : IsLedger M calls actors busy living) where
   -- a call begins
   module _ (i a : ℕ) (c : Command) (calls' : BTreeSet ℕ) (actors' busy' : BTreeMap ℕ ℕ) (alive : living ≡ true) (fresh : set.contains nat_cmp calls i ≡ false) (idle : tree.get nat_cmp busy a ≡ None)
       (more_calls : set.Updates nat_cmp calls calls' i true) (more_actors : tree.Updates nat_cmp actors actors' i (Some a)) (more_busy : tree.Updates nat_cmp busy busy' a (Some i)) where

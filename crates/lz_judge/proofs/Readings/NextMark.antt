@@ -4,7 +4,7 @@ use Rattle.std.specs.BTreeSet as set
 use Rattle.std.proofs.Common.{arith, ◌≡◌, ◌≢◌, ◌⊎◌, inl, inr, ⊎_elim, ℕ, ◌+◌, ◌<◌, Bool, true, false, List, [], ◌∷◌, length, get_or, take, sym, refl, ◌∙◌, ap}
 use Rattle.std.proofs.Common.{subst, Option, Some, None, Result, Ok, Err, reverse, IsSome, OnOk, is_some, BTreeMap, BTreeSet, nat_cmp}
 use Rattle.std.proofs.lemmas.{Bool.Decides.{nat_tests}, List.{reverse-append, take_more}, Option.{same_Some}}
-use Rattle.lz_slot.specs.{declared.history.{Refusal.{Refusal}, Mark.{Mark, TheVariants.{Answer, Refused}}}, Histories.{IsAnswered, IsRefused}}
+use Rattle.lz_slot.specs.{declared.history.{Refusal.{Refusal}, HistoryEvent.{HistoryEvent, TheVariants.{Answer, Refused}}}, Histories.{IsAnswered, IsRefused}}
 use Rattle.lz_judge.specs.{declared.history.Point.{Point}, Records.{IsPoint}, Readings.{Strangers, RefusedOnes, UnlistedOnes}}
 
 -- one element more of a list that is read newest first
@@ -46,7 +46,7 @@ strangers_uncalled points point calls least result called lesser before = record
 }
 
 -- answers of calls with a place, and without
-pub unlisted_listed : (M : List Mark) (places : BTreeMap ℕ ℕ) (least : Option ℕ) (n : ℕ) (answer : Bool) → ((p : ℕ) × (tree.get nat_cmp places n ≡ Some p)) → UnlistedOnes M places least → UnlistedOnes (Answer n answer ∷ M) places least
+pub unlisted_listed : (M : List HistoryEvent) (places : BTreeMap ℕ ℕ) (least : Option ℕ) (n : ℕ) (answer : Bool) → ((p : ℕ) × (tree.get nat_cmp places n ≡ Some p)) → UnlistedOnes M places least → UnlistedOnes (Answer n answer ∷ M) places least
 unlisted_listed M places least n answer listed before = record {
   found = λ i at. let f = before.found i at in ((f.0.0, inr f.0.1), f.1);
   none = λ none i told at. ⊎_elim
@@ -55,7 +55,7 @@ unlisted_listed M places least n answer listed before = record {
       at;
 }
 
-pub unlisted_more : (M : List Mark) (places : BTreeMap ℕ ℕ) (least result : Option ℕ) (n : ℕ) (answer : Bool) → tree.get nat_cmp places n ≡ None → IsLesser least n result → UnlistedOnes M places least
+pub unlisted_more : (M : List HistoryEvent) (places : BTreeMap ℕ ℕ) (least result : Option ℕ) (n : ℕ) (answer : Bool) → tree.get nat_cmp places n ≡ None → IsLesser least n result → UnlistedOnes M places least
     → UnlistedOnes (Answer n answer ∷ M) places result
 unlisted_more M places least result n answer none lesser before = record {
   found = lesser_one (λ (i : ℕ). ((told : Bool) × IsAnswered (Answer n answer ∷ M) i told) × (tree.get nat_cmp places i ≡ None)) least n result lesser
@@ -63,14 +63,14 @@ unlisted_more M places least result n answer none lesser before = record {
   none = λ none. absurd (lesser_some least n result lesser none);
 }
 
-pub unlisted_other : (M : List Mark) (places : BTreeMap ℕ ℕ) (least : Option ℕ) (m : Mark) → ((n : ℕ) (answer : Bool) → m ≢ Answer n answer) → UnlistedOnes M places least → UnlistedOnes (m ∷ M) places least
+pub unlisted_other : (M : List HistoryEvent) (places : BTreeMap ℕ ℕ) (least : Option ℕ) (m : HistoryEvent) → ((n : ℕ) (answer : Bool) → m ≢ Answer n answer) → UnlistedOnes M places least → UnlistedOnes (m ∷ M) places least
 unlisted_other M places least m other before = record {
   found = λ i at. let f = before.found i at in ((f.0.0, inr f.0.1), f.1);
   none = λ none i told at. ⊎_elim (λ here. absurd (other i told here)) (λ there. before.none none i told there) at;
 }
 
 -- refusals of calls with a place
-pub refused_more : (M : List Mark) (places : BTreeMap ℕ ℕ) (least result : Option ℕ) (n : ℕ) (why : Refusal) → ((p : ℕ) × (tree.get nat_cmp places n ≡ Some p)) → IsLesser least n result → RefusedOnes M places least
+pub refused_more : (M : List HistoryEvent) (places : BTreeMap ℕ ℕ) (least result : Option ℕ) (n : ℕ) (why : Refusal) → ((p : ℕ) × (tree.get nat_cmp places n ≡ Some p)) → IsLesser least n result → RefusedOnes M places least
     → RefusedOnes (Refused n why ∷ M) places result
 refused_more M places least result n why listed lesser before = record {
   found = lesser_one (λ (i : ℕ). IsRefused (Refused n why ∷ M) i × ((p : ℕ) × (tree.get nat_cmp places i ≡ Some p))) least n result lesser
@@ -87,7 +87,7 @@ pub none_there : {X : Type 0} (r : Option X) → is_some r ≡ false → r ≡ N
 none_there None is = refl
 none_there (Some x) is = absurd (cc)
 
-pub refused_unlisted : (M : List Mark) (places : BTreeMap ℕ ℕ) (least : Option ℕ) (n : ℕ) (why : Refusal) → tree.get nat_cmp places n ≡ None → RefusedOnes M places least → RefusedOnes (Refused n why ∷ M) places least
+pub refused_unlisted : (M : List HistoryEvent) (places : BTreeMap ℕ ℕ) (least : Option ℕ) (n : ℕ) (why : Refusal) → tree.get nat_cmp places n ≡ None → RefusedOnes M places least → RefusedOnes (Refused n why ∷ M) places least
 refused_unlisted M places least n why unlisted before = grind (arith, nat_tests, nat_cmp)
 
 -- what holds anyway holds where a call succeeded

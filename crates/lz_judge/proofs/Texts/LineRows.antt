@@ -1,6 +1,6 @@
 -- Worked lines of histories.
 use Rattle.std.specs.Prelude.{◌≡◌, [], ◌∷◌, refl, codes, None, Some}
-use Rattle.lz_slot.specs.declared.{command.Command.TheVariants.{Add, Has}, history.{Refusal.TheVariants.{OldFile}, Mark.TheVariants.{Call, Refused, Opened}}}
+use Rattle.lz_slot.specs.declared.{command.Command.TheVariants.{Add, Has}, history.{Refusal.TheVariants.{OldFile}, HistoryEvent.TheVariants.{Call, Refused, Opened}}}
 use Rattle.lz_judge.specs.{declared.line.Line.TheVariants.{Seen, Other}, LinesRead.{line_read}}
 
 -- a key of any room, and both spellings of one in room 0

@@ -5,8 +5,8 @@ use Rattle.std.{proofs.lemmas.List.{append-nil, reverse-append}, specs.{Cmp.Lexi
 use Rattle.lz_slot.specs.{Limits.{largest_key, most_actors}, Sets.{key_of}, Numerals.{largest_read, number_in}, Texts.{key_text}}
 use Rattle.lz_slot.specs.{MarkTexts.{answer_word, command_word, keys_text, mark_text, marks_text, refusal_word}, declared.command.Command.{Command}}
 use Rattle.lz_slot.specs.declared.{command.Command.TheVariants.{Add, Remove, Has}, history.{Cut.TheVariants.{Halted, Device}, Refusal.{Refusal}}}
-use Rattle.lz_slot.specs.declared.history.{Refusal.TheVariants.{Full, Worn, OldFile}, Mark.{Mark}}
-use Rattle.lz_slot.{specs.declared.history.Mark.TheVariants.{Call, Answer, Refused, Cut, Stop, Crash, Opened, OpenFailed}, proofs.Texts.Cuts.{Lacks}}
+use Rattle.lz_slot.specs.declared.history.{Refusal.TheVariants.{Full, Worn, OldFile}, HistoryEvent.{HistoryEvent}}
+use Rattle.lz_slot.{specs.declared.history.HistoryEvent.TheVariants.{Call, Answer, Refused, Cut, Stop, Crash, Opened, OpenFailed}, proofs.Texts.Cuts.{Lacks}}
 use Rattle.lz_slot.proofs.Texts.{MarkTexts.{marks_join}, Numerals.{decimal_read}}
 use Rattle.lz_slot.proofs.Texts.Spellings.{decimal_lacks, key_text_lacks, spelled_read, written_keys_are_spelled}
 use Rattle.lz_judge.specs.declared.line.Line.{Line, TheVariants.{Seen}}
@@ -70,7 +70,7 @@ found_reads [] ascend = refl
 found_reads (k ∷ ks) ascend = rw (no_fault k ascend.1) refl
 
 -- what is written of a mark says the mark
-pub mark_written : (m : Mark) → IsMarkOfRun m → IsWritten (mark_text m) (Seen m)
+pub mark_written : (m : HistoryEvent) → IsMarkOfRun m → IsWritten (mark_text m) (Seen m)
 mark_written (Call i a c) (number, one, low, small) =
     let call = call_field i number in
     let actor = number_field 1 most_actors a (omega arith) one low in

@@ -1,6 +1,6 @@
 -- What a call of one actor alone has answered, and what a call that was cut off leaves.
 use Rattle.std.proofs.Common.{◌≡◌, ℕ, suc, ◌<◌, true, false, List, [], ◌∷◌, Option, refl, arith}
-use Rattle.lz_slot.specs.declared.{command.Command.{Command}, history.{Mark.TheVariants.{Call}, Cut.TheVariants.{Halted as cut_halted, Device as cut_device}}}
+use Rattle.lz_slot.specs.declared.{command.Command.{Command}, history.{HistoryEvent.TheVariants.{Call}, Cut.TheVariants.{Halted as cut_halted, Device as cut_device}}}
 use Rattle.lz_slot.specs.{Sets.{Keys}, Bytes.{Holds}, Histories.{History, Life, Fits, lives}}
 use Rattle.lz_list.specs.Traces.{Trace, halt_word}
 use Rattle.lz_machine.specs.declared.{event.Reply.{Reply, TheVariants.{Yes, Halted, Device}}, caller.Progress.TheVariants.{Answering}}

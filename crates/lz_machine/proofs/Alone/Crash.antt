@@ -1,7 +1,7 @@
 -- Where one actor is alone, each text that a crash may leave holds a set that its calls lead to.
 use Rattle.std.proofs.Common.{◌≡◌, ◌≢◌, inl, inr, ℕ, suc, ◌≤◌, Bool, true, false, List, [], ◌∷◌, ◌++◌, length, Option, Some, None, refl, sym, ap, ◌∙◌, subst}
 use Rattle.std.proofs.{Common.{arith}, lemmas.{Bool.{cases_Bool}, Option.{none-some}}}
-use Rattle.lz_slot.specs.{declared.{command.Command.{Command}, history.Mark.{Mark, TheVariants.{Call}}}, Sets.{Keys, members}, Bytes.{Holds}}
+use Rattle.lz_slot.specs.{declared.{command.Command.{Command}, history.HistoryEvent.{HistoryEvent, TheVariants.{Call}}}, Sets.{Keys, members}, Bytes.{Holds}}
 use Rattle.lz_slot.{specs.{Counted.{set_of_pass}, Histories.{History, Life, Fits, lives, with_mark}}, proofs.Counted.{of_pass_same, of_pass_other}}
 use Rattle.lz_disk.specs.Images.{Medium, IsImage, at_rest}
 use Rattle.lz_vault.specs.Vaults.{DeviceCall, NoCall, medium_after, MayFail}
@@ -39,7 +39,7 @@ module _ (start : Start) (a : ℕ) (p q : Point) where
     h.2,
   )
 
-  lives_marked : (m : Mark) → ((life : Life) → StateSound p p.state life → AloneState a p.calls p.state life.history → AloneState a q.calls q.state (m ∷ life.history))
+  lives_marked : (m : HistoryEvent) → ((life : Life) → StateSound p p.state life → AloneState a p.calls p.state life.history → AloneState a q.calls q.state (m ∷ life.history))
       → ((life : Life) (t : List ℕ) → AloneState a p.calls p.state life.history → Sets p life → MayLeave q.state t → HasList N (record { start = life.start; history = m ∷ life.history }) q.trace t → HasSet N (record { start = life.start; history = m ∷ life.history }) t)
       → (L : List Life) → PointSound start p L → PointSound start q (with_mark m L) → ((t : List ℕ) → MayLeave q.state t → IsLeft q t (with_mark m L)) → AloneLives a N p L → AloneLives a N q (with_mark m L)
   lives_marked m states sets [] sound sound' left h = absurd h

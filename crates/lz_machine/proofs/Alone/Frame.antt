@@ -5,7 +5,7 @@ use Rattle.std.specs.Prelude.{slice_set}
 use mathlib.Core.Bool.{false≢true}
 use Rattle.lz_slot.{specs.Counted.{of_pass}, proofs.Counted.{of_pass_other}}
 use Rattle.lz_vault.specs.{declared.vault.Stage.{Stage, TheVariants.{Opening}}, Stages.{Cell, cell_synced}}
-use Rattle.lz_machine.specs.declared.{course.Course.{Course, TheVariants.{Refused, Dies, Plays}}, actor.{Actor.{Actor}, Hold.TheVariants.{Nothing}}}
+use Rattle.lz_machine.specs.declared.{course.Course.{Course, TheVariants.{Refused, Dies, Plays}}, actor.{Actor.{Actor}, LockPhase.TheVariants.{Nothing}}}
 use Rattle.lz_machine.specs.declared.event.{Event.{Event, TheVariants.{Reserve, WriteOpen, Retire, SeePin, Answer}}, Outcome.TheVariants.{NotNow, Dead}}
 use Rattle.lz_machine.specs.Yards.{Yard, idle_actor, actor_at, cell_in, stage_in}
 use Rattle.lz_machine.specs.Table.{course, course_alive, line, line_on, pin_of, is_played_dead, actors_after, words_after, cells_after, uses_after, reserved}

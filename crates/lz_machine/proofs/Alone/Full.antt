@@ -10,7 +10,7 @@ use Rattle.lz_allot.specs.{declared.sight.Sight.{Sight}, Uses.{Use, Free, Limbo,
 use Rattle.lz_list.specs.{declared.{walk.Met.TheVariants.{Unmarked, Marked}, place.Place.{Place}}, Words.{Words}, Walks.{Hopped, More, End}}
 use Rattle.lz_list.{specs.Traces.{Trace, on, chain_of, key_word, is_marked, member}, proofs.Traces.NodeBits.{node}}
 use Rattle.lz_flush.specs.{declared.need.Need.{Need}, Settling.{may_answer}}
-use Rattle.lz_machine.specs.declared.{actor.Hold.TheVariants.{Nothing}, event.{Outcome.{Outcome}, Reply.TheVariants.{Yes, No, Full}}}
+use Rattle.lz_machine.specs.declared.{actor.LockPhase.TheVariants.{Nothing}, event.{Outcome.{Outcome}, Reply.TheVariants.{Yes, No, Full}}}
 use Rattle.lz_machine.specs.declared.caller.{Sequence.{Sequence, TheVariants.{Adding}}, Progress.{Progress}}
 use Rattle.lz_machine.specs.declared.caller.Progress.TheVariants.{Playing, LoadsHalt, Walking, Reserving, SeeingPins, Claiming, Checking, Answering}
 use Rattle.lz_machine.specs.{Yards.{Shape, Yard, actor_in, cell_in, stage_in}, Calls.{progress_after, goes_on, hops_on, rests, after_event, changes}}

@@ -7,7 +7,7 @@ use Rattle.lz_slot.{specs.{declared.command.Command.{Command}, Sets.{members, Ha
 use Rattle.lz_disk.specs.Images.{Medium}
 use Rattle.lz_allot.specs.Uses.{collect, lowest_free}
 use Rattle.lz_list.{specs.Traces.{Trace, on, chain_of, key_word, member, is_marked}, proofs.Traces.NodeBits.{node}}
-use Rattle.lz_machine.specs.{declared.{actor.Hold.TheVariants.{Nothing}, caller.Progress.{Progress, TheVariants.{Reserving}}}, Yards.{Yard, actor_in}}
+use Rattle.lz_machine.specs.{declared.{actor.LockPhase.TheVariants.{Nothing}, caller.Progress.{Progress, TheVariants.{Reserving}}}, Yards.{Yard, actor_in}}
 use Rattle.lz_machine.specs.{Alone.{IsOwn, IsAlone, FullOfOnePass}, Runs.{Start, IsStart, Caller, Service, State, Up, Transition, MayStep, HasTurn, HasFault}}
 use Rattle.lz_machine.specs.{Runs.{LeftInside, IsRun, run, first_point, caller_at, start_keys, shape_of}, Notes.{Notes}}
 use Rattle.lz_machine.{specs.{CallersSound.{IsAdder, view_of, Relies}, Sound.{Sound, PointSound}}, proofs.Frames.ActorTable.{by_actor}}

@@ -1,7 +1,7 @@
 -- Where one actor is alone, full comes exactly where there is no room.
 use Rattle.std.proofs.{lemmas.{Bool.Decides.{nat_tests}, Option.{same_Some}}, Common.{◌≡◌, inl, ℕ, suc, ◌≤◌, ◌<◌, if◌then◌else◌, Bool, true, false, List, []}}
 use Rattle.std.proofs.Common.{◌∷◌, ◌++◌, length, Option, Some, None, refl, sym, ap, ◌∙◌, subst, arith}
-use Rattle.lz_slot.specs.{declared.{command.Command.{Command, TheVariants.{Add}}, history.Mark.TheVariants.{Call}, format.Format.{Format}}, Sets.{Keys}}
+use Rattle.lz_slot.specs.{declared.{command.Command.{Command, TheVariants.{Add}}, history.HistoryEvent.TheVariants.{Call}, format.Format.{Format}}, Sets.{Keys}}
 use Rattle.lz_slot.specs.{Bytes.{Holds, format_of, slot_at}, Counted.{set_of_pass}, Histories.{History, Life, lives, with_mark}}
 use Rattle.lz_slot.proofs.Counted.{of_pass_same, of_pass_other}
 use Rattle.lz_disk.specs.Images.{Medium, IsImage, at_rest}

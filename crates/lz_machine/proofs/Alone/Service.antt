@@ -2,14 +2,14 @@
 use Rattle.std.proofs.Common.{◌≡◌, ◌≢◌, ◌⊎◌, ⊎_elim, inl, inr, ℕ, ◌+◌, ◌≤◌, ◌<◌, Bool, false, List, [], ◌∷◌, ◌++◌, refl, sym, ap, ◌∙◌, subst, arith}
 use Rattle.std.proofs.lemmas.Bool.{cases_eq, Decides.{nat_tests}}
 use mathlib.Core.Bool.{false≢true}
-use Rattle.lz_slot.specs.declared.{command.Command.{Command}, history.{Refusal.TheVariants.{Full, Worn, OldFile}, Cut.{Cut}, Mark.{Mark}}}
-use Rattle.lz_slot.specs.{declared.history.Mark.TheVariants.{Call, Answer, Refused, Cut as CutOff}, Sets.{Keys, Same, key_of, after, reply}}
+use Rattle.lz_slot.specs.declared.{command.Command.{Command}, history.{Refusal.TheVariants.{Full, Worn, OldFile}, Cut.{Cut}, HistoryEvent.{HistoryEvent}}}
+use Rattle.lz_slot.specs.{declared.history.HistoryEvent.TheVariants.{Call, Answer, Refused, Cut as CutOff}, Sets.{Keys, Same, key_of, after, reply}}
 use Rattle.lz_slot.specs.Histories.{History, IsCalled, IsAnswered, IsRefused, IsBefore, IsListed, count_of, IsEarlier, Runs, Fits}
 use Rattle.lz_slot.proofs.Listings.{listed_left}
 use Rattle.lz_machine.{specs.Alone.{has_cut, IsPlain}, proofs.Ledger.CallMark.{number_of, is_call}}
 
 -- the mark ends call j
-abbrev pub IsEnd : Mark → ℕ → Type 0
+abbrev pub IsEnd : HistoryEvent → ℕ → Type 0
 IsEnd (Answer i answer) j = i ≡ j
 IsEnd (Refused i why) j = i ≡ j
 IsEnd (CutOff i why) j = i ≡ j
@@ -21,7 +21,7 @@ Ended n [] = Unit {0}
 Ended n (e ∷ Call j a c ∷ M) = IsEnd e j × (j < n) × Ended j M
 Ended n _ = ⊥
 
-end_no_call : (e : Mark) (j i a : ℕ) (c : Command) → IsEnd e j → e ≡ Call i a c → ⊥
+end_no_call : (e : HistoryEvent) (j i a : ℕ) (c : Command) → IsEnd e j → e ≡ Call i a c → ⊥
 end_no_call e j i a c ends e' = grind arith
 
 -- each call has a number below
@@ -34,7 +34,7 @@ called_below n _ i d h at = absurd h
 
 answered_below : (n : ℕ) (M : History) (i : ℕ) (answer : Bool) → Ended n M → IsAnswered M i answer → i < n
 answered_below n [] i answer h at = absurd at
-answered_below n (e ∷ Call j a c ∷ M) i answer h (inl is) = let same : i ≡ j = subst (λ (m : Mark). IsEnd m j) is h.0 in omega (arith, same, h.1)
+answered_below n (e ∷ Call j a c ∷ M) i answer h (inl is) = let same : i ≡ j = subst (λ (m : HistoryEvent). IsEnd m j) is h.0 in omega (arith, same, h.1)
 answered_below n (e ∷ Call j a c ∷ M) i answer h (inr (inl is)) = absurd (false≢true (sym (ap is_call is)))
 answered_below n (e ∷ Call j a c ∷ M) i answer h (inr (inr at)) = omega (arith, h.1, answered_below j M i answer h.2 at)
 answered_below n _ i answer h at = absurd h
@@ -53,7 +53,7 @@ pub record IsLatest (M1 : History) (i : ℕ) (c : Command) (M : History) : Type 
 pub latest_open : (i a : ℕ) (c : Command) (M : History) → IsLatest (Call i a c ∷ M) i c M
 latest_open i a c M = grind arith
 
-pub latest_ended : (e : Mark) (i a : ℕ) (c : Command) (M : History) → IsEnd e i → IsLatest (e ∷ Call i a c ∷ M) i c M
+pub latest_ended : (e : HistoryEvent) (i a : ℕ) (c : Command) (M : History) → IsEnd e i → IsLatest (e ∷ Call i a c ∷ M) i c M
 latest_ended e i a c M ends = grind arith
 
 -- lists of numbers

@@ -5,7 +5,7 @@ use Rattle.std.{proofs.lemmas.Bool.{cases_eq, cases_Bool, and_parts, not-true, D
 use Rattle.std.specs.{List.{list_any, IsDistinct}, Cmp.{nat_eq_equiv, both_ways}}
 use mathlib.Core.Bool.{false≢true}
 use Rattle.lz_slot.specs.declared.{command.Command.{Command, TheVariants.{Add, Remove, Has}}, history.Refusal.TheVariants.{Full, Worn, OldFile}}
-use Rattle.lz_slot.specs.declared.{history.Mark.TheVariants.{Call, Answer, Refused, Cut}, slot.SlotRead.{SlotRead, TheVariants.{Member}}}
+use Rattle.lz_slot.specs.declared.{history.HistoryEvent.TheVariants.{Call, Answer, Refused, Cut}, slot.SlotRead.{SlotRead, TheVariants.{Member}}}
 use Rattle.lz_slot.{specs.{Sets.{Keys, Same, members, HasMembers}, Bytes.{Holds, slot_at}, Histories.{History}}, proofs.Sets.{members_among, after_same}}
 use Rattle.lz_machine.{specs.Alone.{has_cut, IsPlain, HasRoomFor, IsFull}, proofs.Crash.ImageSlots.{found, found_in, in_found, reads_key}}
 use Rattle.lz_machine.proofs.Alone.Service.{Ended}

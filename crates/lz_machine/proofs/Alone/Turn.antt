@@ -9,7 +9,7 @@ use Rattle.lz_vault.specs.{declared.vault.Stage.TheVariants.{Opening}, Stages.{C
 use Rattle.lz_allot.specs.{declared.sight.Sight.{Sight}, Uses.{collect, see_pin, lowest_free}}
 use Rattle.lz_list.specs.{declared.{word.Word.TheVariants.{Halt as halt_at}, walk.Look.{Look}, place.Place.{Place}}, Words.{get}, Walks.{wants, hopped}}
 use Rattle.lz_list.specs.Traces.{Trace}
-use Rattle.lz_machine.specs.declared.{course.Course.{Course, TheVariants.{Refused, Dies, Plays}}, actor.{Actor.{Actor}, Hold.TheVariants.{Nothing}}}
+use Rattle.lz_machine.specs.declared.{course.Course.{Course, TheVariants.{Refused, Dies, Plays}}, actor.{Actor.{Actor}, LockPhase.TheVariants.{Nothing}}}
 use Rattle.lz_machine.specs.declared.event.Event.{Event, TheVariants.{Hop, Reserve, Claim, Check, WriteOpen, Link, WriteClose, Mark, Release, Sync, Settle}}
 use Rattle.lz_machine.specs.declared.event.{Event.TheVariants.{Unlink, Retire, SeePin, Answer}, Outcome.{Outcome, TheVariants.{Done, Early, NotNow, Dead}}}
 use Rattle.lz_machine.specs.declared.{event.Reply.{Reply, TheVariants.{Yes, Halted, Device}}, caller.Sequence.{Sequence}}

@@ -6,7 +6,7 @@ use Rattle.lz_list.{specs.Traces.{Trace, Begins, on, chain, chain_of, bucket_of,
 use Rattle.lz_list.proofs.Traces.NodeBits.{node}
 use Rattle.lz_flush.specs.{declared.need.Need.{Need, TheVariants.{Now, Sync as needs_sync}}, Settling.{may_answer}}
 use Rattle.lz_vault.specs.Stages.{Cell}
-use Rattle.lz_machine.specs.{declared.{actor.{Actor.{Actor}, Hold.TheVariants.{Nothing}}, event.Reply.TheVariants.{No}}, Yards.{Shape}, Calls.{hops_on, rests}}
+use Rattle.lz_machine.specs.{declared.{actor.{Actor.{Actor}, LockPhase.TheVariants.{Nothing}}, event.Reply.TheVariants.{No}}, Yards.{Shape}, Calls.{hops_on, rests}}
 use Rattle.lz_machine.{specs.{CallersSound.{View, IsLooking, HasMet, RestsNo}, Sound.{TraceSound}}, proofs.Steps.Walk.{GoesOn, once_some, hop_after}}
 use Rattle.lz_machine.proofs.{Steps.Pin.{quiet_new}, Frames.Limbo.{shorter}}
 

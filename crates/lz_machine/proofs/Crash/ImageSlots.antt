@@ -11,7 +11,7 @@ use Rattle.lz_vault.proofs.Reading.{image_reads}
 use Rattle.lz_list.specs.{Words.{place_number, link_to}, Locks.{owner}}
 use Rattle.lz_list.{specs.Traces.{Trace, WordsShow, has_key, on, chain_of, bucket_of, key_word, next_link, member}, proofs.Chains.PlaceRank.{has_on}}
 use Rattle.lz_list.proofs.{Chains.TraceChain.{words_show_chain}, Traces.{Absence.{unlinked_is_settled}, NodeBits.{one_node}, TraceWords.{node_of_key}}}
-use Rattle.lz_machine.specs.{declared.actor.Hold.{Hold, TheVariants.{Checked, GateOpened}}, Yards.{Yard, actor_in, cell_in, stage_in}, Runs.{Caller}}
+use Rattle.lz_machine.specs.{declared.actor.LockPhase.{LockPhase, TheVariants.{Checked, GateOpened}}, Yards.{Yard, actor_in, cell_in, stage_in}, Runs.{Caller}}
 use Rattle.lz_machine.specs.{Notes.{Notes}, SlotsSound.{opens, IsGateOpened, IsOnChain, IsNodeStage, SlotStands, is_node, is_held, is_out, is_free, is_limbo}}
 use Rattle.lz_machine.{specs.{LocksSound.{IsBeside, RestsOn}, Sound.{Sound}}, proofs.Frames.{ChainSlots.{chain_stands}, HeldLocks.{rests_on_pair, one_place}}}
 use Rattle.lz_machine.proofs.{Frames.{OtherLink.{round_place}, Ranges.{on_range}}, Steps.Unlink.{resting_locks, first_place}}
@@ -138,10 +138,10 @@ module _ (n calls : ℕ) (y : Yard) (callers : List (Option Caller)) (disk : Med
         opened : IsGateOpened (stage_in y.vault.cells s) → rests_on_pair (actor_in y.actors a).hold ≡ true → IsBeside y.shape.buckets (key_word s P) (actor_in y.actors a).pred (actor_in y.actors a).curr P → key_word s P ≡ k → IsOpened y P s k
         opened stage rests beside word = record { actor = a; hand = hand; stage = stage; rests = rests; beside = subst (λ (q : ℕ). IsBeside y.shape.buckets q (actor_in y.actors a).pred (actor_in y.actors a).curr P) word beside }
 
-        resting : (hold : Hold) → (actor_in y.actors a).hold ≡ hold → RestsOn y.shape.buckets hold (actor_in y.actors a) P
-        resting hold at = subst (λ (q : Hold). RestsOn y.shape.buckets q (actor_in y.actors a) P) at (sound.locks.rests a)
+        resting : (hold : LockPhase) → (actor_in y.actors a).hold ≡ hold → RestsOn y.shape.buckets hold (actor_in y.actors a) P
+        resting hold at = subst (λ (q : LockPhase). RestsOn y.shape.buckets q (actor_in y.actors a) P) at (sound.locks.rests a)
 
-        go : (hold : Hold) → (actor_in y.actors a).hold ≡ hold → opens y.vault.dead hold ≡ true → IsGateOpened (stage_in y.vault.cells s) → key_word s P ≡ k → IsOpened y P s k
+        go : (hold : LockPhase) → (actor_in y.actors a).hold ≡ hold → opens y.vault.dead hold ≡ true → IsGateOpened (stage_in y.vault.cells s) → key_word s P ≡ k → IsOpened y P s k
         go Checked at does stage word = opened stage (ap rests_on_pair at) ((resting Checked at).beside s hand) word
         go GateOpened at does stage word = grind (arith, resting, same_Some, hand)
         go _ at does stage word = absurd (false≢true does)

@@ -1,7 +1,7 @@
 -- What an actor has in hand, and may rely on its hold for, stays when its hold changes so, and when the vault dies.
 use Rattle.std.proofs.{lemmas.Bool.Decides.{nat_tests}, Common.{◌≡◌, ℕ, Bool, true, false, Some, arith}}
 use mathlib.Core.Bool.{false≢true}
-use Rattle.lz_machine.specs.{declared.actor.{Actor.{Actor}, Hold.{Hold}}, SlotsSound.{IsOut, IsCloser, closes, opens, shuts, unlocks, has_removed_node}}
+use Rattle.lz_machine.specs.{declared.actor.{Actor.{Actor}, LockPhase.{LockPhase}}, SlotsSound.{IsOut, IsCloser, closes, opens, shuts, unlocks, has_removed_node}}
 use Rattle.lz_machine.specs.LocksSound.{has_locks}
 
 -- the actor has the same slots in hand, and may rely on its hold for them
@@ -22,5 +22,5 @@ pub keeps_itself : (dead dead' : Bool) (old new : Actor) → (dead ≡ true → 
 keeps_itself dead dead' old new dies same = grind arith
 
 -- an actor that may have closed a gate has its locks
-pub closer_locks : (dead : Bool) (hold : Hold) → closes dead hold ≡ true → has_locks hold ≡ true
+pub closer_locks : (dead : Bool) (hold : LockPhase) → closes dead hold ≡ true → has_locks hold ≡ true
 closer_locks dead hold is = grind (arith, nat_tests, false≢true)

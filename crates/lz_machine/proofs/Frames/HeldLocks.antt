@@ -6,7 +6,7 @@ use Rattle.lz_list.specs.declared.{place.Place.{Place}, publishing.{Change.{Chan
 use Rattle.lz_list.specs.declared.publishing.Publishing.TheVariants.{Unlinked as unlinked, KeyPrepared as key_prepared, LinkPrepared as link_prepared}
 use Rattle.lz_list.specs.{declared.publishing.Publishing.TheVariants.{Settled as settled, Halted as halted}, Words.{place_number, link_to}}
 use Rattle.lz_list.specs.{Traces.{Trace, Lawful, place_of, bucket_of, key_word, is_marked, rank_at}, Laws.{IsLow, IsHigh}, Locks.{NodeLocks}}
-use Rattle.lz_machine.specs.{declared.actor.{Actor.{Actor}, Hold.{Hold, TheVariants.{Checked, GateOpened, GateClosed, Marked}}}, Yards.{Shape, actor_in}}
+use Rattle.lz_machine.specs.{declared.actor.{Actor.{Actor}, LockPhase.{LockPhase, TheVariants.{Checked, GateOpened, GateClosed, Marked}}}, Yards.{Shape, actor_in}}
 use Rattle.lz_machine.specs.{Stands.{IsLinkable, Faces, InBucket, IsLeaving}, LocksSound.{IsBeside, IsRightBefore, HasClosed, RestsOn, LocksSound}}
 
 -- What a publishing leaves of an actor's pair and slot.
@@ -19,7 +19,7 @@ pub record LeavesPair (buckets : ℕ) (e : Publishing) (actor : Actor) (P : Trac
   pub ready : (j n s : ℕ) → actor.slot ≡ Some s → IsLinkable buckets j n s P → IsLinkable buckets j n s (e ∷ P)
 
 -- the actor rests on its pair
-abbrev pub rests_on_pair : Hold → Bool
+abbrev pub rests_on_pair : LockPhase → Bool
 rests_on_pair Checked = true
 rests_on_pair GateOpened = true
 rests_on_pair GateClosed = true
@@ -53,7 +53,7 @@ module _ (buckets : ℕ) (e : Publishing) (actor : Actor) (P : Trace) (leaves : 
   closed_stays : (mark : Bool) → HasClosed buckets mark actor P → HasClosed buckets mark actor (e ∷ P)
   closed_stays mark h = record { node = h.node; curr = h.curr; before = before_stays h.node h.curr h.before; marked = leaves.mark h.node h.curr ∙ h.marked }
 
-  pub pair_stays : (hold : Hold) → RestsOn buckets hold actor P → RestsOn buckets hold actor (e ∷ P)
+  pub pair_stays : (hold : LockPhase) → RestsOn buckets hold actor P → RestsOn buckets hold actor (e ∷ P)
   pair_stays Checked h = record {
     beside = λ s slot. subst (λ (k : ℕ). IsBeside buckets k actor.pred actor.curr (e ∷ P)) (sym (leaves.own_word s slot)) (beside_stays (key_word s P) (h.beside s slot));
     before = λ t node. (before_stays t node (h.before t node).0, leaves.mark t node ∙ (h.before t node).1);

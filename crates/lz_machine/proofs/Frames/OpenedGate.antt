@@ -7,7 +7,7 @@ use Rattle.lz_disk.specs.Images.{Medium}
 use Rattle.lz_vault.specs.{declared.vault.Stage.TheVariants.{Closed, Opening}, Stages.{Cell, IsFree}, Vaults.{Vaulted, MayFail, opening_call}}
 use Rattle.lz_list.specs.declared.{publishing.Publishing.TheVariants.{LinkPrepared as link_prepared}, word.Word.TheVariants.{Link as link_at}}
 use Rattle.lz_list.specs.{Words.{set, place_number, link_to}, Traces.{Trace, Lawful, IsLoose, on, chain_of, bucket_of, key_word, is_marked}}
-use Rattle.lz_machine.specs.declared.{event.Reply.TheVariants.{Device}, actor.{Actor.{Actor}, Hold.{Hold, TheVariants.{Checked}}}}
+use Rattle.lz_machine.specs.declared.{event.Reply.TheVariants.{Device}, actor.{Actor.{Actor}, LockPhase.{LockPhase, TheVariants.{Checked}}}}
 use Rattle.lz_machine.specs.declared.caller.{Sequence.TheVariants.{Adding}, Progress.{Progress, TheVariants.{Playing}}}
 use Rattle.lz_machine.specs.{Yards.{Yard, actor_in, pin_in, cell_in, stage_in}, Table.{with_vault}, Calls.{halts}, Runs.{Caller, caller_at}}
 use Rattle.lz_machine.specs.{Stands.{IsLinkable}, Notes.{Notes, entries}}
@@ -166,7 +166,7 @@ module _ (n calls : ℕ) (y : Yard) (callers : List (Option Caller)) (disk : Med
 
   -- what the adder has checked: its pair stands round its key
   checked : IsChecked y.shape.buckets (actor_in y.actors a) P
-  checked = subst (λ (q : Hold). RestsOn y.shape.buckets q (actor_in y.actors a) P) h.0 (sound.locks.rests a)
+  checked = subst (λ (q : LockPhase). RestsOn y.shape.buckets q (actor_in y.actors a) P) h.0 (sound.locks.rests a)
 
   -- its place and its node are on a chain, and so not the slot
   pair_apart : ((t : ℕ) → (actor_in y.actors a).curr ≡ Some t → t ≢ s) × ((t : ℕ) → place_number (actor_in y.actors a).pred ≡ suc t → t ≢ s)
@@ -198,7 +198,7 @@ module _ (n calls : ℕ) (y : Yard) (callers : List (Option Caller)) (disk : Med
     nodes = sound.locks.nodes;
     has = sound.locks.has;
     rests = by_actor (λ b. RestsOn y.shape.buckets (actor_in y.actors b).hold (actor_in y.actors b) P') a
-        (subst (λ (q : Hold). RestsOn y.shape.buckets q (actor_in y.actors a) P') (sym h.0) checked_published)
+        (subst (λ (q : LockPhase). RestsOn y.shape.buckets q (actor_in y.actors a) P') (sym h.0) checked_published)
         (λ b other. rests_prepared y.shape.buckets y.shape.slots s (link_prepared s v) (actor_in y.actors b) P sound.trace.lawful loose (λ node place. link_leaves y.shape.buckets s v (actor_in y.actors b) P (λ t slot. hand_apart b t other slot) node place) (actor_in y.actors b).hold (sound.locks.rests b));
   }
 

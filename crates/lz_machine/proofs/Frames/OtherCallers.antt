@@ -5,7 +5,7 @@ use Rattle.lz_vault.specs.Vaults.{Vaulted}
 use Rattle.lz_list.specs.{declared.publishing.Publishing.{Publishing}, Locks.{NodeLocks}, Pinned.{IsKept}}
 use Rattle.lz_list.{specs.Traces.{Trace, Lawful, Adjacent, on, chain_of, bucket_of, key_word}, proofs.Chains.PlaceRank.{adjacent_next}}
 use Rattle.lz_list.proofs.Traces.Hindsight.{stands}
-use Rattle.lz_machine.specs.{declared.actor.{Actor.{Actor}, Hold.{Hold}}, Yards.{Shape, IsInside, actor_in, pin_in}, Runs.{Caller, caller_at}}
+use Rattle.lz_machine.specs.{declared.actor.{Actor.{Actor}, LockPhase.{LockPhase}}, Yards.{Shape, IsInside, actor_in, pin_in}, Runs.{Caller, caller_at}}
 use Rattle.lz_machine.specs.{Stands.{FacesNode}, Notes.{Notes}, CallersSound.{view_of, CallerSound, CallersSound}, LocksSound.{RestsOn, LocksSound}}
 use Rattle.lz_machine.proofs.Frames.Publishing.{relies_on_node, caller_published}
 
@@ -16,7 +16,7 @@ faces_on buckets slots k x t P law h =
     adjacent_next 0 (chain_of buckets k P) x (suc t) adj (λ none. grind arith)
 
 -- so the node on which an actor relies is on its chain
-pub held_node : (shape : Shape) (P : Trace) (hold : Hold) (actor : Actor) → Lawful shape.buckets shape.slots P → RestsOn shape.buckets hold actor P → (t : ℕ) → actor.curr ≡ Some t → relies_on_node hold ≡ true → on 0 (chain_of shape.buckets (key_word t P) P) (suc t) ≡ true
+pub held_node : (shape : Shape) (P : Trace) (hold : LockPhase) (actor : Actor) → Lawful shape.buckets shape.slots P → RestsOn shape.buckets hold actor P → (t : ℕ) → actor.curr ≡ Some t → relies_on_node hold ≡ true → on 0 (chain_of shape.buckets (key_word t P) P) (suc t) ≡ true
 held_node shape P hold actor law h t is relies = grind (arith, nat_tests, faces_on, same_Some, false≢true)
 
 module _ (shape : Shape) (vault : Vaulted) (pins : List ℕ) (locks : NodeLocks) (actors : List Actor) (callers : List (Option Caller)) (e : Publishing) (P : Trace) (law : Lawful shape.buckets shape.slots (e ∷ P)) (notes : Notes)

@@ -4,7 +4,7 @@ use mathlib.Core.Bool.{false≢true}
 use Rattle.lz_list.specs.{declared.publishing.Publishing.{Publishing}, Words.{place_number, link_to}}
 use Rattle.lz_list.{specs.Traces.{Trace, Lawful, Adjacent, IsLoose, on, chain, chain_of, bucket_of, key_word}, proofs.Chains.PlaceRank.{adjacent_next}}
 use Rattle.lz_list.proofs.Traces.Hindsight.{stands}
-use Rattle.lz_machine.specs.{declared.actor.{Actor.{Actor}, Hold.{Hold, TheVariants.{Checked, GateOpened, GateClosed, Marked}}}, Stands.{Faces}}
+use Rattle.lz_machine.specs.{declared.actor.{Actor.{Actor}, LockPhase.{LockPhase, TheVariants.{Checked, GateOpened, GateClosed, Marked}}}, Stands.{Faces}}
 use Rattle.lz_machine.{specs.LocksSound.{IsRightBefore, RestsOn}, proofs.Frames.HeldLocks.{LeavesPair, pair_stays}}
 
 -- What a preparing of a loose slot leaves of an actor that doesn't have it.
@@ -33,7 +33,7 @@ module _ (buckets slots s : ℕ) (e : Publishing) (actor : Actor) (P : Trace) (l
   checked_prepared None None is at h = record { beside = λ t slot. absurd (none-some _ (sym is ∙ slot)); before = λ t node. absurd (none-some _ (sym at ∙ node)) }
 
   -- what the actor relies on because of its locks stays
-  pub rests_prepared : (hold : Hold) → RestsOn buckets hold actor P → RestsOn buckets hold actor (e ∷ P)
+  pub rests_prepared : (hold : LockPhase) → RestsOn buckets hold actor P → RestsOn buckets hold actor (e ∷ P)
   rests_prepared Checked h = checked_prepared actor.slot actor.curr refl refl h
   rests_prepared GateOpened h = pair_stays buckets e actor P (faces_leave (key_word h.own P) h.beside.round.faces) GateOpened h
   rests_prepared GateClosed h = pair_stays buckets e actor P (before_leave h.node h.curr h.before) GateClosed h

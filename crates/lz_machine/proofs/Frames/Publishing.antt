@@ -9,7 +9,7 @@ use Rattle.lz_list.specs.{declared.walk.Look.TheVariants.{AtHead, AtKey, AtMet, 
 use Rattle.lz_list.specs.Traces.{Trace, Lawful, Adjacent, on, chain, chain_of, bucket_of, key_word, linking, linking_in, is_removed, halt_word, rank_at}
 use Rattle.lz_list.{specs.{Pinned.{Stood, IsKept, IsQuiet}, Laws.{IsHigh}}, proofs.Chains.{PlaceRank.{adjacent_on, has_on}, TraceChain.{words_show_chain}}}
 use Rattle.lz_list.proofs.Traces.{Absence.{begins_itself}, Hindsight.{key_stays, once_weaker, next_stood}, WalkEnd.{mark_stays, linking_stays, removed_later}}
-use Rattle.lz_machine.specs.declared.{event.Reply.{Reply}, actor.{Actor.{Actor}, Hold.{Hold, TheVariants.{Nothing, Checked, GateClosed, Marked}}}}
+use Rattle.lz_machine.specs.declared.{event.Reply.{Reply}, actor.{Actor.{Actor}, LockPhase.{LockPhase, TheVariants.{Nothing, Checked, GateClosed, Marked}}}}
 use Rattle.lz_machine.specs.{declared.caller.{Sequence.{Sequence}, Progress.{Progress}}, Runs.{Caller}, Stands.{IsWalking, WasBetween}, Yards.{IsInside}}
 use Rattle.lz_machine.specs.CallersSound.{View, IsWritten, IsAimed, IsBeyond, HasEnded, IsLooking, IsSince, RestsYes, RestsNo, WasAbsent, IsSettledChange}
 use Rattle.lz_machine.specs.CallersSound.{MayAnswer, HasAdded, HasMarked, MayRest, IsEmptyHanded, ReliesWriting, ReliesAdding, ReliesRemoving, ReliesOn, Relies}
@@ -21,14 +21,14 @@ halt_stays halted P is = refl
 halt_stays _ _ is = is
 
 -- the node of the actor's pair, on which it relies
-abbrev pub relies_on_node : Hold → Bool
+abbrev pub relies_on_node : LockPhase → Bool
 relies_on_node GateClosed = true
 relies_on_node Checked = true
 relies_on_node Marked = true
 relies_on_node _ = false
 
 -- an actor that has closed a gate relies on its node, which is on its chain
-pub shut_relies : (hold : Hold) → shuts hold ≡ true → relies_on_node hold ≡ true
+pub shut_relies : (hold : LockPhase) → shuts hold ≡ true → relies_on_node hold ≡ true
 shut_relies hold e = grind arith
 
 module _ (buckets slots : ℕ) (e : Publishing) (P : Trace) (law : Lawful buckets slots (e ∷ P)) where
@@ -111,7 +111,7 @@ module _ (buckets slots : ℕ) (e : Publishing) (P : Trace) (law : Lawful bucket
   idle_stays : (actor : Actor) → IsEmptyHanded actor P → IsEmptyHanded actor (e ∷ P)
   idle_stays actor h = grind (arith, nat_tests, halt_stays)
 
-  let_go : (hold : Hold) → (hold ≡ Nothing) ⊎ (halt_word P ≡ 1) → (hold ≡ Nothing) ⊎ (halt_word (e ∷ P) ≡ 1)
+  let_go : (hold : LockPhase) → (hold ≡ Nothing) ⊎ (halt_word P ≡ 1) → (hold ≡ Nothing) ⊎ (halt_word (e ∷ P) ≡ 1)
   let_go hold h = grind (arith, nat_tests, halt_stays)
 
   -- What another's publishing leaves of a caller: its slot's key word, its node on the chain, and the slots that it may stand on.
@@ -134,10 +134,10 @@ module _ (buckets slots : ℕ) (e : Publishing) (P : Trace) (law : Lawful bucket
     writing_stays c s i h = grind (arith, nat_tests)
 
     -- the remover's node, which its locks keep
-    node_there : (t : ℕ) → actor.curr ≡ Some t → (hold : Hold) → actor.hold ≡ hold → relies_on_node hold ≡ true → on 0 (chain_of buckets (key_word t P) P) (suc t) ≡ true
+    node_there : (t : ℕ) → actor.curr ≡ Some t → (hold : LockPhase) → actor.hold ≡ hold → relies_on_node hold ≡ true → on 0 (chain_of buckets (key_word t P) P) (suc t) ≡ true
     node_there t is hold at relies = leaves.node t is (ap relies_on_node at ∙ relies)
 
-    node_word_stays : (t k : ℕ) → actor.curr ≡ Some t → (hold : Hold) → actor.hold ≡ hold → relies_on_node hold ≡ true → key_word t P ≡ k → key_word t (e ∷ P) ≡ k
+    node_word_stays : (t k : ℕ) → actor.curr ≡ Some t → (hold : LockPhase) → actor.hold ≡ hold → relies_on_node hold ≡ true → key_word t P ≡ k → key_word t (e ∷ P) ≡ k
     node_word_stays t k is hold at relies key = node_word t (bucket_of buckets (key_word t P)) (node_there t is hold at relies) ∙ key
 
     marked_stays : (k t : ℕ) → actor.curr ≡ Some t → actor.hold ≡ Marked → HasMarked k t P changed → HasMarked k t (e ∷ P) changed

@@ -5,7 +5,7 @@ use Rattle.lz_slot.specs.{declared.command.Command.{Command}, Counted.{set_of_pa
 use Rattle.lz_slot.proofs.Counted.{of_pass_same, of_pass_other, length-set_of_pass}
 use Rattle.lz_disk.specs.Images.{Medium}
 use Rattle.lz_list.specs.Traces.{Trace}
-use Rattle.lz_machine.specs.declared.{event.Reply.TheVariants.{OldFile as SaysOldFile}, actor.{Actor.{Actor}, Hold.{Hold}}}
+use Rattle.lz_machine.specs.declared.{event.Reply.TheVariants.{OldFile as SaysOldFile}, actor.{Actor.{Actor}, LockPhase.{LockPhase}}}
 use Rattle.lz_machine.specs.{declared.caller.Progress.TheVariants.{Answering}, Yards.{Yard, actor_at, idle_actor, actor_in, pin_in}, Table.{is_old}}
 use Rattle.lz_machine.specs.{Calls.{begun, first_progress}, Runs.{Caller, caller_at, invoked}, Notes.{Notes, entries}}
 use Rattle.lz_machine.specs.{CallersSound.{View, IsEmptyHanded, Relies, IsSide, view_of, CallerSound, CallersSound}, LocksSound.{HasLock, RestsOn}}
@@ -26,7 +26,7 @@ noted actor refused = record actor { refused = refused }
 grips_noted : (dead : Bool) (actor : Actor) (refused : Bool) → KeepsGrips dead dead actor (noted actor refused)
 grips_noted dead actor refused = grind arith
 
-rests_noted : (buckets : ℕ) (actor : Actor) (refused : Bool) (P : Trace) (hold : Hold) → RestsOn buckets hold actor P → RestsOn buckets hold (noted actor refused) P
+rests_noted : (buckets : ℕ) (actor : Actor) (refused : Bool) (P : Trace) (hold : LockPhase) → RestsOn buckets hold actor P → RestsOn buckets hold (noted actor refused) P
 rests_noted buckets actor refused P hold h = grind arith
 
 module _ (n calls : ℕ) (y : Yard) (callers : List (Option Caller)) (disk : Medium) (M : History) (P : Trace) (notes : Notes) (a : ℕ) (c : Command) (low : 1 ≤ a) (high : a ≤ length y.actors) (none : caller_at callers a ≡ None) (sound : Sound n calls y callers disk M P notes) where

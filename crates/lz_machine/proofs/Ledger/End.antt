@@ -2,7 +2,7 @@
 -- that ended.
 use Rattle.std.proofs.Common.{◌≡◌, ◌≢◌, ◌⊎◌, ⊎_elim, inl, inr, ℕ, ◌<◌, ◌≤◌, ◌+◌, Bool, true, false, List, [], ◌∷◌, ◌++◌, length, Option, Some, None, refl, sym}
 use Rattle.std.proofs.{Common.{ap, ◌∙◌, subst, arith}, lemmas.{Bool.{cases_eq, Decides.{nat_tests}}, List.{append-nil}, Option.{none-some}}}
-use Rattle.lz_slot.specs.declared.{command.Command.{Command}, history.{Mark.{Mark, TheVariants.{Call, Answer, Refused}}, Refusal.{Refusal}}}
+use Rattle.lz_slot.specs.declared.{command.Command.{Command}, history.{HistoryEvent.{HistoryEvent, TheVariants.{Call, Answer, Refused}}, Refusal.{Refusal}}}
 use Rattle.lz_slot.specs.Histories.{History, IsCalled, IsAnswered, IsBefore, IsUnderWay}
 use Rattle.lz_list.specs.{Traces.{Trace}, declared.publishing.Publishing.{Publishing}}
 use Rattle.lz_machine.specs.{Runs.{Caller, caller_at}, Ledgers.{Row, HasRow, Stands, Each, change_at, times}, Kept.{publishing, IsRowOf}}
@@ -28,13 +28,13 @@ module _ (p r : Row) (same : p.command ≡ r.command) where
   moved_change f A C D h = grind (arith, short, length_app, is_nil, swapped)
 
 -- what a mark that ends a call says: it is no call, and an answer or a refusal is of this one
-pub record EndsCall (m : Mark) (i : ℕ) (leaves_tail : Bool) : Type 0 where
+pub record EndsCall (m : HistoryEvent) (i : ℕ) (leaves_tail : Bool) : Type 0 where
   pub no_call : (j b : ℕ) (d : Command) → m ≡ Call j b d → ⊥
   pub answers : (j : ℕ) (b : Bool) → m ≡ Answer j b → (j ≡ i) × (leaves_tail ≡ false)
   pub refuses : (j : ℕ) (why : Refusal) → m ≡ Refused j why → (j ≡ i) × (leaves_tail ≡ false)
 
 -- what is asked of the last row of a call that ends
-pub record IsLast (n : ℕ) (P : Trace) (M : History) (pin begun : ℕ) (i : ℕ) (m : Mark) (pend last : List Row) : Type 0 where
+pub record IsLast (n : ℕ) (P : Trace) (M : History) (pin begun : ℕ) (i : ℕ) (m : HistoryEvent) (pend last : List Row) : Type 0 where
   pub all : Each (λ r. r.number ≡ i) last
   pub once : times i last ≤ 1
   pub row : Each (IsRowOf n P) last
@@ -47,7 +47,7 @@ pub record IsLast (n : ℕ) (P : Trace) (M : History) (pin begun : ℕ) (i : ℕ
 
 module _ (n calls passes : ℕ) (callers : List (Option Caller)) (P : Trace) (M : History) (notes : Notes) (a : ℕ) (caller : Caller) (at : caller_at callers a ≡ Some caller) (le : a ≤ passes) (sound : LedgerSound n calls passes callers P M notes)
     (pins : List ℕ) (after : IsAfter pins callers (entries passes callers notes) M notes.begun)
-    (m : Mark) (ends : EndsCall m caller.number (may_have_tail caller.progress)) (last : List Row) (is_last : IsLast n P M (pin_in pins a) (length (notes.begun a)) caller.number m (pending_row (Some caller) (notes.changed a)) last) where
+    (m : HistoryEvent) (ends : EndsCall m caller.number (may_have_tail caller.progress)) (last : List Row) (is_last : IsLast n P M (pin_in pins a) (length (notes.begun a)) caller.number m (pending_row (Some caller) (notes.changed a)) last) where
   abbrev i : ℕ
   i = caller.number
 

@@ -2,7 +2,7 @@
 use Rattle.std.proofs.Common.{◌≡◌, ◌⊎◌, ⊎_elim, inl, inr, ℕ, ◌≤◌, Bool, true, false, List, [], ◌∷◌, ◌++◌, length, Option, Some, None, refl, sym, ap, ◌∙◌, subst}
 use Rattle.std.proofs.{Common.{arith}, lemmas.Bool.Decides.{nat_tests}}
 use mathlib.Core.Bool.{false≢true}
-use Rattle.lz_slot.specs.declared.{command.Command.{Command, TheVariants.{Add, Remove}}, history.Mark.{Mark, TheVariants.{Answer, Refused, Cut}}}
+use Rattle.lz_slot.specs.declared.{command.Command.{Command, TheVariants.{Add, Remove}}, history.HistoryEvent.{HistoryEvent, TheVariants.{Answer, Refused, Cut}}}
 use Rattle.lz_slot.specs.{declared.history.{Refusal.{Refusal}, Cut.{Cut as CutWhy}}, Sets.{key_of, reply, moved}, Histories.{History}}
 use Rattle.lz_list.specs.Traces.{Trace, Begins, SettledYes, SettledNo}
 use Rattle.lz_machine.specs.{declared.{event.Reply.{Reply}, caller.Progress.TheVariants.{Answering}}, Runs.{Caller, caller_at, mark_of}}
@@ -44,7 +44,7 @@ module _ (n calls passes : ℕ) (callers : List (Option Caller)) (P : Trace) (M 
   leaves = may_have_tail (Answering says)
 
   -- how the call ends
-  pub record Ends (m : Mark) : Type 0 where
+  pub record Ends (m : HistoryEvent) : Type 0 where
     pub last : List Row
     pub marks : EndsCall m i leaves
     pub is_last : IsLast n P M (pin_in pins a) (length (notes.begun a)) i m pend last
@@ -55,7 +55,7 @@ module _ (n calls passes : ℕ) (callers : List (Option Caller)) (P : Trace) (M 
   one_row r number = grind (arith, nat_tests, number)
 
   -- a refused call, and one that was cut off before it changed anything, have no row
-  no_row : (m : Mark) → EndsCall m i leaves → ((b : Bool) → m ≡ Answer i b → ⊥) → notes.changed a ≡ None → Ends m
+  no_row : (m : HistoryEvent) → EndsCall m i leaves → ((b : Bool) → m ≡ Answer i b → ⊥) → notes.changed a ≡ None → Ends m
   no_row m marks silent none =
       let is_last : IsLast n P M (pin_in pins a) (length (notes.begun a)) i m pend [] = record { all = tt; once = omega arith; row = tt; within = tt; settled = tt; answered = λ b e. absurd (silent b e); place = λ q h. absurd h } in
       record {

@@ -5,7 +5,7 @@ use Rattle.lz_disk.specs.Images.{Medium}
 use Rattle.lz_list.specs.declared.{place.Place.{Place, TheVariants.{Bucket, Node}}, walk.Look.{Look, TheVariants.{AtHead, AtKey, AtMet, AtBelow}}}
 use Rattle.lz_list.specs.{Words.{Words, place_number, link_to}, Walks.{wants}, Lists.{IsWord, IsPlace}, Traces.{Trace, bucket_of}, Pinned.{Stood}}
 use Rattle.lz_list.proofs.Traces.Hindsight.{lawful_begins}
-use Rattle.lz_machine.specs.declared.{actor.Hold.TheVariants.{Marked}, event.{Event.{Event, TheVariants.{Invoke}}, Reply.{Reply}}, caller.Sequence.{Sequence}}
+use Rattle.lz_machine.specs.declared.{actor.LockPhase.TheVariants.{Marked}, event.{Event.{Event, TheVariants.{Invoke}}, Reply.{Reply}}, caller.Sequence.{Sequence}}
 use Rattle.lz_machine.specs.declared.caller.{Sequence.TheVariants.{Pinning, Resting, Writing, Adding, Removing, Releasing, Halting}, Progress.{Progress}}
 use Rattle.lz_machine.specs.{declared.caller.Progress.TheVariants.{Playing, Claiming}, Yards.{Yard, actor_in}, Calls.{event_at, loaded}}
 use Rattle.lz_machine.specs.{Runs.{Caller, with_words, next_event, MayPlay}, Stands.{InBucket, WasBetween}, Notes.{Notes}}

@@ -2,14 +2,14 @@
 use Rattle.std.proofs.Common.{◌≡◌, ◌≢◌, ◌⊎◌, ⊎_elim, inl, inr, ℕ, ◌≤◌, ◌+◌, ◌%◌, not, ◌||◌, if◌then◌else◌, Bool, true, false, List, ◌∷◌, length, Option, Some}
 use Rattle.std.proofs.{Common.{None, refl, sym, ap, ◌∙◌, subst, arith}, lemmas.Bool.{cases_Bool, Decides.{nat_tests}}}
 use mathlib.Core.Bool.{false≢true}
-use Rattle.lz_slot.specs.{declared.{command.Command.{Command, TheVariants.{Add, Remove}}, history.Mark.{Mark}}, Sets.{Keys}, Counted.{set_of_pass}}
+use Rattle.lz_slot.specs.{declared.{command.Command.{Command, TheVariants.{Add, Remove}}, history.HistoryEvent.{HistoryEvent}}, Sets.{Keys}, Counted.{set_of_pass}}
 use Rattle.lz_slot.{specs.Histories.{History}, proofs.Counted.{of_pass_same, of_pass_other, length-set_of_pass}}
 use Rattle.lz_disk.specs.Images.{Medium}
 use Rattle.lz_vault.specs.Vaults.{medium_after}
 use Rattle.lz_allot.specs.Uses.{Use, see_pin, give_back, is_outside}
 use Rattle.lz_list.specs.{Words.{Words}, Traces.{Trace, halt_word}}
 use Rattle.lz_machine.specs.declared.{event.{Event.TheVariants.{Answer}, Outcome.TheVariants.{Done, NotNow}, Reply.{Reply}}, actor.Actor.{Actor}}
-use Rattle.lz_machine.specs.declared.{actor.Hold.TheVariants.{Nothing}, course.Course.{Course}, caller.Progress.TheVariants.{Answering}}
+use Rattle.lz_machine.specs.declared.{actor.LockPhase.TheVariants.{Nothing}, course.Course.{Course}, caller.Progress.TheVariants.{Answering}}
 use Rattle.lz_machine.specs.Yards.{Yard, actor_at, idle_actor, IsInside, actor_in, pin_in, stage_in}
 use Rattle.lz_machine.specs.Table.{last_pin, stays_out, pin_of, needs, course, line, line_on, call_on, yard_done, with_slot, kept_slot, given_back, is_unused}
 use Rattle.lz_machine.specs.{Runs.{Caller, caller_at, mark_of, played}, LocksSound.{HasLock, RestsOn, LocksSound}, Notes.{Notes, entries}}
@@ -27,7 +27,7 @@ module _ (n calls : ℕ) (y : Yard) (callers : List (Option Caller)) (disk : Med
   abbrev notes' : Notes
   notes' = ends_now notes a how.last
 
-  abbrev m : Mark
+  abbrev m : HistoryEvent
   m = mark_of i says
 
   -- the tails of the calls that are still open, or were cut off

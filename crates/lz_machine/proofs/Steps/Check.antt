@@ -8,7 +8,7 @@ use Rattle.lz_disk.specs.Images.{Medium}
 use Rattle.lz_list.specs.{declared.place.Place.{Place}, Words.{Words, place_number, link_to, next_at, is_marked_at}}
 use Rattle.lz_list.specs.{Traces.{Trace, bucket_of, key_word, is_marked}, Pinned.{Stood, IsQuiet}, Laws.{IsHigh}, Locks.{check, is_marked_node}}
 use Rattle.lz_list.proofs.{Chains.PlaceRank.{on_start}, Traces.{Hindsight.{stood_bucket}, WalkEnd.{left_surely}}}
-use Rattle.lz_machine.specs.declared.{event.Event.TheVariants.{Check}, actor.{Actor.{Actor}, Hold.{Hold, TheVariants.{Locks, Checked}}}}
+use Rattle.lz_machine.specs.declared.{event.Event.TheVariants.{Check}, actor.{Actor.{Actor}, LockPhase.{LockPhase, TheVariants.{Locks, Checked}}}}
 use Rattle.lz_machine.specs.declared.caller.{Sequence.TheVariants.{Releasing}, Progress.{Progress, TheVariants.{Playing, Checking}}}
 use Rattle.lz_machine.specs.{Yards.{Yard, Shape, actor_at, pin_in}, Table.{with_hold, yard_done, outcome_of}, Calls.{progress_after, changes}}
 use Rattle.lz_machine.specs.{Runs.{Caller, caller_at}, Stands.{Faces, WasBetween, InBucket}, Notes.{Notes}}
@@ -71,7 +71,7 @@ module _ (n calls : ℕ) (y : Yard) (callers : List (Option Caller)) (disk : Med
   abbrev actor : Actor
   actor = actor_at y a
 
-  abbrev v : Hold → View
+  abbrev v : LockPhase → View
   v hold = record { buckets = y.shape.buckets; passes = y.shape.passes; format = y.vault.format; cells = y.vault.cells; dead = y.vault.dead; actor = with_hold actor hold }
 
   me : CallerSound (record { buckets = y.shape.buckets; passes = y.shape.passes; format = y.vault.format; cells = y.vault.cells; dead = y.vault.dead; actor = actor }) (pin_in y.words.pins a) (Some (call_at i c at)) (notes.begun a) P (notes.changed a)
@@ -81,7 +81,7 @@ module _ (n calls : ℕ) (y : Yard) (callers : List (Option Caller)) (disk : Med
   quiet = me.quiet (own_inside n calls y callers disk M P notes a i c at is sound refl)
 
   -- the turn, with another hold over the same pair
-  keeps_hold : (hold : Hold) (next : Progress) → has_removed_node hold ≡ false → shuts hold ≡ false → unlocks hold ≡ false → RestsOn y.shape.buckets hold (with_hold actor hold) P → GoesOn (v hold) c next (notes.begun a) P (notes.changed a)
+  keeps_hold : (hold : LockPhase) (next : Progress) → has_removed_node hold ≡ false → shuts hold ≡ false → unlocks hold ≡ false → RestsOn y.shape.buckets hold (with_hold actor hold) P → GoesOn (v hold) c next (notes.begun a) P (notes.changed a)
       → Sound n calls (in_hands y y.locks a (with_hold actor hold)) (moving callers a (call_at i c at) next) disk M P notes
   keeps_hold hold next kept open_yet shut_yet rests goes =
       let h = me.stands.2 in

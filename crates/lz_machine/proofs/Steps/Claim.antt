@@ -5,7 +5,7 @@ use Rattle.lz_disk.specs.Images.{Medium}
 use Rattle.lz_vault.specs.Stages.{Cell}
 use Rattle.lz_list.specs.{declared.place.Place.{Place}, Words.{place_number, link_to}, Traces.{Trace, Adjacent, on, chain_of, bucket_of}, Pinned.{Stood}}
 use Rattle.lz_list.{specs.Locks.{is_pair_free, pair_owned}, proofs.{Chains.PlaceRank.{adjacent_on}, Traces.Hindsight.{once_weaker, next_stood}}}
-use Rattle.lz_machine.specs.declared.{event.Event.TheVariants.{Claim}, actor.{Actor.{Actor}, Hold.TheVariants.{Locks}}, caller.Progress.{Progress}}
+use Rattle.lz_machine.specs.declared.{event.Event.TheVariants.{Claim}, actor.{Actor.{Actor}, LockPhase.TheVariants.{Locks}}, caller.Progress.{Progress}}
 use Rattle.lz_machine.specs.{declared.caller.Progress.TheVariants.{Claiming, Checking}, Yards.{Yard, actor_at}, Table.{yard_done, outcome_of}}
 use Rattle.lz_machine.specs.{Calls.{progress_after}, Runs.{Caller, caller_at}, Stands.{WasBetween, InBucket}, Notes.{Notes}}
 use Rattle.lz_machine.specs.{SlotsSound.{closes, opens, has_removed_node}, LocksSound.{HasLock, RestsOn}, CallersSound.{HasEnded, IsAimed}, Sound.{Sound}}

@@ -2,8 +2,8 @@
 use Rattle.std.proofs.Common.{◌≡◌, ◌≢◌, ⊎_elim, inl, inr, ℕ, zero, suc, ◌≤◌, ◌%◌, Bool, false, List, [], ◌∷◌, ◌++◌, length, Option, Some, None, refl, sym, ap}
 use Rattle.std.proofs.{Common.{◌∙◌, subst, arith}, lemmas.{Bool.{cases_eq, Decides.{nat_tests}}, Option.{same_Some}}}
 use mathlib.Core.Bool.{false≢true}
-use Rattle.lz_slot.specs.{Sets.{Keys}, declared.{command.Command.{Command, TheVariants.{Add, Remove}}, history.Mark.{Mark}}}
-use Rattle.lz_slot.specs.{declared.history.Mark.TheVariants.{Call, Answer, Refused}, Counted.{set_of_pass}}
+use Rattle.lz_slot.specs.{Sets.{Keys}, declared.{command.Command.{Command, TheVariants.{Add, Remove}}, history.HistoryEvent.{HistoryEvent}}}
+use Rattle.lz_slot.specs.{declared.history.HistoryEvent.TheVariants.{Call, Answer, Refused}, Counted.{set_of_pass}}
 use Rattle.lz_slot.{specs.Histories.{History, IsCalled, IsAnswered, IsUnderWay, Life}, proofs.Counted.{of_pass_same, of_pass_other, length-set_of_pass}}
 use Rattle.lz_disk.specs.Images.{Medium}
 use Rattle.lz_list.specs.Traces.{Trace}
@@ -16,7 +16,7 @@ use Rattle.lz_machine.proofs.{Frames.{Outside.{even_of}, Refusal.{begun_side, be
 use Rattle.lz_machine.proofs.{Ledger.{Answers.{each_weaker}, Order.{has_left}, CallMark.{number_of, is_call}}, Runs.CallerTable.{none_of}}
 
 -- the mark of a call is no other mark
-clash : {i a : ℕ} {c : Command} (m : Mark) → is_call m ≡ false → Call i a c ≡ m → ⊥
+clash : {i a : ℕ} {c : Command} (m : HistoryEvent) → is_call m ≡ false → Call i a c ≡ m → ⊥
 clash m other e = false≢true (sym other ∙ sym (ap is_call e))
 
 called_same : {i j a b : ℕ} {c d : Command} → Call i a c ≡ Call j b d → c ≡ d

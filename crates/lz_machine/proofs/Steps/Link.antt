@@ -10,7 +10,7 @@ use Rattle.lz_list.specs.declared.{place.Place.{Place, TheVariants.{Node}}, publ
 use Rattle.lz_list.specs.{declared.word.Word.TheVariants.{Key as key_at}, Words.{Words, get, redirect, place_number, link_to}}
 use Rattle.lz_list.specs.Traces.{Trace, Lawful, IsLoose, on, chain_of, bucket_of, place_of, key_word, linking, is_settled, is_removed, member}
 use Rattle.lz_list.{specs.Locks.{claimed_places}, proofs.{Traces.{NodeBits.{on_insert_other, not_yet}, WalkEnd.{on_insert}}, Changes.NodeLink.{inserted_on}}}
-use Rattle.lz_machine.specs.declared.{event.Event.TheVariants.{Link}, actor.{Actor.{Actor}, Hold.{Hold, TheVariants.{Linked}}}}
+use Rattle.lz_machine.specs.declared.{event.Event.TheVariants.{Link}, actor.{Actor.{Actor}, LockPhase.{LockPhase, TheVariants.{Linked}}}}
 use Rattle.lz_machine.specs.declared.caller.{Sequence.TheVariants.{Adding}, Progress.{Progress, TheVariants.{Playing}}}
 use Rattle.lz_machine.specs.{Yards.{Yard, actor_at, actor_in, pin_in, cell_in, stage_in}, Table.{slot_of, yard_done, publishes}, Runs.{Caller, caller_at}}
 use Rattle.lz_machine.specs.{Stands.{IsLinkable, InBucket}, Notes.{Notes, entries}}
@@ -51,7 +51,7 @@ module _ (n calls : ℕ) (y : Yard) (callers : List (Option Caller)) (disk : Med
   hand_b b other = other_hand n calls y callers disk M P notes a (call_at i (Add k) at) is sound x b other
 
   rests : HasOpened y.shape.buckets (actor_in y.actors a) P
-  rests = subst (λ (q : Hold). RestsOn y.shape.buckets q (actor_in y.actors a) P) h.0 (sound.locks.rests a)
+  rests = subst (λ (q : LockPhase). RestsOn y.shape.buckets q (actor_in y.actors a) P) h.0 (sound.locks.rests a)
 
   own_slot : rests.own ≡ s
   own_slot = same_Some _ _ (sym rests.slot ∙ h.1)

@@ -8,7 +8,7 @@ use Rattle.lz_list.specs.declared.{place.Place.{Place, TheVariants.{Node}}, publ
 use Rattle.lz_list.specs.{declared.word.Word.TheVariants.{Key as key_at}, Words.{get, change_flags, marked_flags, place_number}}
 use Rattle.lz_list.specs.{Traces.{Trace, Lawful, IsLoose, on, chain_of, bucket_of, key_word, IsNode, is_marked, member, next_link}, Laws.{IsLow}}
 use Rattle.lz_list.{specs.Locks.{claimed_places}, proofs.{Chains.TraceChain.{words_show_chain}, Traces.NodeBits.{node, one_node}}}
-use Rattle.lz_machine.specs.declared.{event.Event.TheVariants.{Mark}, actor.{Actor.{Actor}, Hold.{Hold, TheVariants.{GateClosed, Marked}}}}
+use Rattle.lz_machine.specs.declared.{event.Event.TheVariants.{Mark}, actor.{Actor.{Actor}, LockPhase.{LockPhase, TheVariants.{GateClosed, Marked}}}}
 use Rattle.lz_machine.specs.declared.caller.{Sequence.TheVariants.{Removing}, Progress.{Progress, TheVariants.{Playing}}}
 use Rattle.lz_machine.specs.{Yards.{Yard, actor_at, actor_in, cell_in, stage_in}, Table.{with_hold, node_of, yard_done, publishes}, Runs.{Caller, caller_at}}
 use Rattle.lz_machine.specs.{Notes.{Notes, entries}, CallersSound.{HasMarked, Relies, view_of, CallersSound}}
@@ -47,7 +47,7 @@ module _ (n calls : ℕ) (y : Yard) (callers : List (Option Caller)) (disk : Med
   hand_b b other = other_hand n calls y callers disk M P notes a (call_at i (Remove k) at) is sound x b other
 
   rests : HasClosed y.shape.buckets false (actor_in y.actors a) P
-  rests = subst (λ (q : Hold). RestsOn y.shape.buckets q (actor_in y.actors a) P) h.2.0 (sound.locks.rests a)
+  rests = subst (λ (q : LockPhase). RestsOn y.shape.buckets q (actor_in y.actors a) P) h.2.0 (sound.locks.rests a)
 
   own_node : rests.node ≡ s
   own_node = same_Some _ _ (sym rests.curr ∙ h.0)

@@ -1,7 +1,7 @@
 -- Each step of an open service keeps the invariant, with notes that go on from those before it.
 use Rattle.std.proofs.lemmas.Bool.{cases_eq, Decides.{nat_tests}}
 use Rattle.std.proofs.Common.{◌≡◌, ◌≢◌, inl, inr, ℕ, ◌≤◌, ◌%◌, List, [], ◌∷◌, ◌++◌, Option, Some, None, refl, sym, ◌∙◌, subst, arith, suc}
-use Rattle.lz_slot.specs.{declared.{command.Command.{Command}, history.Mark.{Mark, TheVariants.{Call}}}, Sets.{Keys}}
+use Rattle.lz_slot.specs.{declared.{command.Command.{Command}, history.HistoryEvent.{HistoryEvent, TheVariants.{Call}}}, Sets.{Keys}}
 use Rattle.lz_slot.specs.Histories.{History, Life, lives, with_mark}
 use Rattle.lz_disk.specs.Images.{Medium}
 use Rattle.lz_vault.specs.Vaults.{medium_after}
@@ -29,7 +29,7 @@ NextAt n calls life pins P before (Up service disk) Q = GoesOn n calls life pins
 NextAt n calls life pins P before (Down shape disk) Q = Unit {0}
 
 -- the life with the marks of a step
-abbrev pub marked : Life → List Mark → Life
+abbrev pub marked : Life → List HistoryEvent → Life
 marked life marks = record { start = life.start; history = marks ++ life.history }
 
 -- an answer publishes nothing
@@ -124,14 +124,14 @@ pub reply_lives : (S : Keys) (i : ℕ) (reply : Reply) (M : History) → lives S
 reply_lives S i reply M = grind (arith, nat_tests)
 
 -- the newest life with the marks of a step
-abbrev with_marks : List Mark → List Life → List Life
+abbrev with_marks : List HistoryEvent → List Life → List Life
 with_marks marks [] = []
 with_marks marks (life ∷ earlier) = marked life marks ∷ earlier
 
 none_marked : (L : List Life) → L ≡ with_marks [] L
 none_marked L = grind (arith, nat_tests)
 
-one_marked : (m : Mark) (L : List Life) → with_mark m L ≡ with_marks (m ∷ []) L
+one_marked : (m : HistoryEvent) (L : List Life) → with_mark m L ≡ with_marks (m ∷ []) L
 one_marked m _ = refl
 
 turn_lives : (S : Keys) (i : ℕ) (reply : Option Reply) (M : History) → lives S (mark_of_turn i reply ++ M) ≡ with_marks (mark_of_turn i reply) (lives S M)
@@ -139,7 +139,7 @@ turn_lives S i reply M = grind (arith, nat_tests, none_marked, reply_lives, one_
 
 module _ (start : Start) (service : Service) (disk : Medium) (M : History) (P : Trace) (calls : ℕ) (sound : IsSound start (point (Up service disk) M P calls)) where
   -- the point after a step that leaves the service open
-  point_sound : (m : ℕ) (after : Service) (new : Medium) (marks : List Mark) (Q : Trace) → after.yard.shape ≡ service.yard.shape → after.yard.vault.format ≡ service.yard.vault.format → lives (start_keys start) (marks ++ M) ≡ with_marks marks (lives (start_keys start) M)
+  point_sound : (m : ℕ) (after : Service) (new : Medium) (marks : List HistoryEvent) (Q : Trace) → after.yard.shape ≡ service.yard.shape → after.yard.vault.format ≡ service.yard.vault.format → lives (start_keys start) (marks ++ M) ≡ with_marks marks (lives (start_keys start) M)
       → ((n : ℕ) (life : Life) (notes : Notes) → UpSound n calls service disk life P notes → GoesOn n m (marked life marks) service.yard.words.pins P notes after new Q) → IsSound start (point (Up after new) (marks ++ M) Q m)
   point_sound m after new marks Q shape format are next = subst (PointSound start (point (Up after new) (marks ++ M) Q m)) (sym are) (go (lives (start_keys start) M) sound)
     where

@@ -4,8 +4,8 @@ use mathlib.Core.Bool.{false≢true}
 use Rattle.lz_slot.specs.{declared.command.Command.{Command, TheVariants.{Add, Remove}}, Sets.{key_of}, Counted.{set_of_pass}, Histories.{History}}
 use Rattle.lz_disk.specs.Images.{Medium}
 use Rattle.lz_list.specs.{declared.walk.Look.TheVariants.{AtHead}, Traces.{Trace}, Locks.{pair_owned}}
-use Rattle.lz_machine.specs.declared.{event.{Event.TheVariants.{Release}, Outcome.TheVariants.{Done}}, actor.{Actor.{Actor}, Hold.{Hold}}}
-use Rattle.lz_machine.specs.declared.actor.Hold.TheVariants.{Nothing, Locks, Linked, Unlinked, Released}
+use Rattle.lz_machine.specs.declared.{event.{Event.TheVariants.{Release}, Outcome.TheVariants.{Done}}, actor.{Actor.{Actor}, LockPhase.{LockPhase}}}
+use Rattle.lz_machine.specs.declared.actor.LockPhase.TheVariants.{Nothing, Locks, Linked, Unlinked, Released}
 use Rattle.lz_machine.specs.declared.caller.{Sequence.TheVariants.{Releasing, Adding, Removing}, Progress.{Progress, TheVariants.{Playing, Walking}}}
 use Rattle.lz_machine.specs.{Yards.{Yard, actor_at, pin_in}, Table.{with_hold, released, yard_done}, Calls.{progress_after}, Runs.{Caller, caller_at}}
 use Rattle.lz_machine.specs.{Notes.{Notes}, SlotsSound.{closes, opens, has_removed_node}, LocksSound.{has_locks, RestsOn}, CallersSound.{is_before_pin}}
@@ -21,7 +21,7 @@ module _ (n calls : ℕ) (y : Yard) (callers : List (Option Caller)) (disk : Med
   abbrev actor : Actor
   actor = actor_at y a
 
-  release_to : (old new : Hold) (next : Progress) → actor.hold ≡ old → released old ≡ new → has_locks old ≡ true → has_locks new ≡ false → RestsOn y.shape.buckets new (with_hold actor new) P
+  release_to : (old new : LockPhase) (next : Progress) → actor.hold ≡ old → released old ≡ new → has_locks old ≡ true → has_locks new ≡ false → RestsOn y.shape.buckets new (with_hold actor new) P
       → KeepsGrips y.vault.dead y.vault.dead actor (with_hold actor new) → is_before_pin at ≡ false → KeepsTail (notes.changed a) at next
       → GoesOn (record { buckets = y.shape.buckets; passes = y.shape.passes; format = y.vault.format; cells = y.vault.cells; dead = y.vault.dead; actor = with_hold actor new }) c next (notes.begun a) P (notes.changed a)
       → Sound n calls (yard_done y actor a Release) (moving callers a (call_at i c at) next) disk M P notes
@@ -37,7 +37,7 @@ module _ (n calls : ℕ) (y : Yard) (callers : List (Option Caller)) (disk : Med
       grips
       (record { quiet = me.quiet; begins = me.begins; stands = (inside_side (pin_in y.words.pins a) next goes.inside (own_inside n calls y callers disk M P notes a i c at is sound inside), me.stands.1, goes.relies) })
       in
-      subst (λ (q : Hold). Sound n calls (in_hands y (pair_owned y.locks actor.pred actor.curr 0) a (with_hold actor q)) (moving callers a (call_at i c at) next) disk M P notes) (sym to ∙ sym (ap released hold)) done
+      subst (λ (q : LockPhase). Sound n calls (in_hands y (pair_owned y.locks actor.pred actor.curr 0) a (with_hold actor q)) (moving callers a (call_at i c at) next) disk M P notes) (sym to ∙ sym (ap released hold)) done
 
 module _ (n calls : ℕ) (y : Yard) (callers : List (Option Caller)) (disk : Medium) (M : History) (P : Trace) (notes : Notes) (a i : ℕ) (sound : Sound n calls y callers disk M P notes) where
   -- after a test that failed

@@ -10,7 +10,7 @@ use Rattle.lz_allot.specs.declared.sight.Sight.{Sight}
 use Rattle.lz_allot.specs.Uses.{Use, Free, Taken, Limbo, use_of, collect, see_pin, lowest_free, take_slot, is_free as is_free_use, counts}
 use Rattle.lz_list.specs.{declared.word.Word.TheVariants.{Pin as pin_at}, Words.{get}, Traces.{Trace}}
 use Rattle.lz_machine.specs.declared.event.{Event.TheVariants.{Reserve, SeePin}, Outcome.TheVariants.{Done, NoSlot}, Reply.TheVariants.{Full}}
-use Rattle.lz_machine.specs.declared.{actor.{Actor.{Actor}, Hold.{Hold, TheVariants.{Nothing}}}, caller.Progress.{Progress}}
+use Rattle.lz_machine.specs.declared.{actor.{Actor.{Actor}, LockPhase.{LockPhase, TheVariants.{Nothing}}}, caller.Progress.{Progress}}
 use Rattle.lz_machine.specs.{declared.caller.Progress.TheVariants.{Reserving, SeeingPins}, Yards.{Yard, actor_at, actor_in, pin_in, cell_in, stage_in}}
 use Rattle.lz_machine.specs.{Table.{with_slot, reserved, slot_found, yard_done, outcome_of}, Calls.{progress_after, after_see_pin, after_reserve}}
 use Rattle.lz_machine.specs.{Runs.{Caller, caller_at}, Limbo.{IsAway}, Notes.{Notes}}
@@ -147,7 +147,7 @@ module _ (n calls : ℕ) (y : Yard) (callers : List (Option Caller)) (disk : Med
         slots = take_slots;
         locks = held_locks y.shape y.locks y.actors actors' P a hand_b sound.locks
             (λ place lock. let mine = subst (λ (q : Actor). HasLock q place) hand_a lock in record { locks = mine.locks; among = mine.among })
-            (subst (λ (q : Actor). RestsOn y.shape.buckets q.hold q P) (sym hand_a) (subst (λ (q : Hold). RestsOn y.shape.buckets q x P) (sym nothing) tt));
+            (subst (λ (q : Actor). RestsOn y.shape.buckets q.hold q P) (sym hand_a) (subst (λ (q : LockPhase). RestsOn y.shape.buckets q x P) (sym nothing) tt));
         callers = callers_turn callers a (call_at i c at) is next y.shape y.vault y.words.pins y.actors actors' P notes (length-set_of_pass y.actors a x) hand_b
             (subst (λ (q : Actor). CallerSound (record { buckets = y.shape.buckets; passes = y.shape.passes; format = y.vault.format; cells = y.vault.cells; dead = y.vault.dead; actor = q }) (pin_in y.words.pins a) (Some (call_at i c next)) (notes.begun a) P (notes.changed a)) (sym hand_a) (record { quiet = me.quiet; begins = me.begins; stands = (inside_side (pin_in y.words.pins a) next goes.inside (own_inside n calls y callers disk M P notes a i c at is sound inside), me.stands.1, goes.relies) }))
             sound.callers;
@@ -198,7 +198,7 @@ module _ (n calls : ℕ) (y : Yard) (callers : List (Option Caller)) (disk : Med
       hands_keep n calls y' callers disk M P notes a (call_at i c (Reserving again)) is sound' x y.locks (next None) (λ none is. absurd (false≢true is))
       (held_locks y.shape y.locks y.actors (set_of_pass y.actors a x) P a (other_hand n calls y' callers disk M P notes a (call_at i c (Reserving again)) is sound' x) sound.locks
       (λ place lock. let mine = subst (λ (q : Actor). HasLock q place) hand lock in record { locks = mine.locks; among = mine.among })
-      (subst (λ (q : Actor). RestsOn y.shape.buckets q.hold q P) (sym hand) (subst (λ (q : Hold). RestsOn y.shape.buckets q x P) (sym h.0.hold) tt)))
+      (subst (λ (q : Actor). RestsOn y.shape.buckets q.hold q P) (sym hand) (subst (λ (q : LockPhase). RestsOn y.shape.buckets q x P) (sym h.0.hold) tt)))
       (fresh_grip y.vault.dead (actor_at y a) x (ap (closes y.vault.dead) h.0.hold) (ap (opens y.vault.dead) h.0.hold) (ap has_removed_node h.0.hold) (ap has_removed_node h.0.hold) (ap shuts h.0.hold) (ap unlocks h.0.hold) (sym h.1))
       (record { quiet = me.quiet; begins = me.begins; stands = (inside_side (pin_in y.words.pins a) (next None) goes.inside me.stands.0, me.stands.1, goes.relies) })
 

@@ -9,7 +9,7 @@ use Rattle.lz_disk.specs.Images.{Medium}
 use Rattle.lz_allot.specs.{declared.sight.Sight.{Sight, TheVariants.{Unseen, Left}}, Uses.{Use, Taken, Limbo, use_of, retire}}
 use Rattle.lz_list.specs.Traces.{Trace}
 use Rattle.lz_machine.specs.declared.{event.{Event.TheVariants.{Retire}, Outcome.TheVariants.{Done}, Reply.TheVariants.{Yes}}, actor.Actor.{Actor}}
-use Rattle.lz_machine.specs.declared.{actor.Hold.TheVariants.{Nothing}, caller.{Sequence.TheVariants.{Removing}, Progress.{Progress}}}
+use Rattle.lz_machine.specs.declared.{actor.LockPhase.TheVariants.{Nothing}, caller.{Sequence.TheVariants.{Removing}, Progress.{Progress}}}
 use Rattle.lz_machine.specs.{declared.caller.Progress.TheVariants.{Playing, Answering}, Yards.{Yard, actor_at, IsInside, actor_in, pin_in}}
 use Rattle.lz_machine.specs.{Table.{with_hold, yard_done}, Calls.{progress_after}, Runs.{Caller, caller_at}, Limbo.{IsRightSight}, Notes.{Notes}}
 use Rattle.lz_machine.specs.{SlotsSound.{opens, has_removed_node, IsOut, is_limbo, SlotsSound}, LocksSound.{HasLock, RestsOn}}

@@ -6,7 +6,7 @@ use Rattle.lz_slot.{specs.Counted.{set_of_pass}, proofs.Counted.{of_pass_same, o
 use Rattle.lz_vault.specs.{declared.vault.Stage.{Stage}, Stages.{Cell, IsFree}}
 use Rattle.lz_allot.specs.Uses.{Use, Free, Taken, use_of, give_back}
 use Rattle.lz_list.specs.{Locks.{NodeLocks}, Traces.{Trace}}
-use Rattle.lz_machine.specs.{declared.actor.{Actor.{Actor}, Hold.{Hold}}, Yards.{Shape, idle_actor, actor_in, stage_in}, Table.{with_slot, is_unused}}
+use Rattle.lz_machine.specs.{declared.actor.{Actor.{Actor}, LockPhase.{LockPhase}}, Yards.{Shape, idle_actor, actor_in, stage_in}, Table.{with_slot, is_unused}}
 use Rattle.lz_machine.specs.{SlotsSound.{is_free, SlotsSound}, LocksSound.{HasLock, RestsOn, LocksSound}, Sound.{ReuseSound}}
 use Rattle.lz_machine.proofs.Frames.{NodeLocks.{held_locks}, Uses.{free_limbo}, OneSlot.{same_nodes, slot_turn}}
 
@@ -72,7 +72,7 @@ module _ (shape : Shape) (cells : List Cell) (dead : Bool) (uses : List Use) (ac
       })
       (length-set uses s Free) slots slots.added slots.removed
 
-  rests_still : (hold : Hold) → (actor_in actors a).hold ≡ hold → RestsOn shape.buckets hold (actor_in actors a) P → RestsOn shape.buckets hold x P
+  rests_still : (hold : LockPhase) → (actor_in actors a).hold ≡ hold → RestsOn shape.buckets hold (actor_in actors a) P → RestsOn shape.buckets hold x P
   rests_still hold is h = grind arith
 
   pub given_locks : (locks : NodeLocks) → LocksSound shape locks actors P → LocksSound shape locks actors' P

@@ -10,7 +10,7 @@ use Rattle.lz_list.specs.Traces.{Trace, Begins, IsLoose, on, chain_of, bucket_of
 use Rattle.lz_list.{specs.Pinned.{Stood, IsQuiet}, proofs.Traces.{NodeBits.{node}, Hindsight.{lawful_begins, quiet_begins}}}
 use Rattle.lz_list.proofs.Traces.WalkEnd.{linking_since, marked_rests, unmarked_rests, mark_stays, begins_before}
 use Rattle.lz_machine.specs.declared.event.{Event.TheVariants.{Settle}, Outcome.{Outcome, TheVariants.{Done, Early}}, Reply.{Reply, TheVariants.{Yes, No}}}
-use Rattle.lz_machine.specs.declared.{actor.Hold.{Hold, TheVariants.{Marked}}, caller.{Sequence.TheVariants.{Adding, Removing, Resting}, Progress.{Progress}}}
+use Rattle.lz_machine.specs.declared.{actor.LockPhase.{LockPhase, TheVariants.{Marked}}, caller.{Sequence.TheVariants.{Adding, Removing, Resting}, Progress.{Progress}}}
 use Rattle.lz_machine.specs.{declared.caller.Progress.TheVariants.{Playing, Answering}, Yards.{Yard, actor_at, IsInside, actor_in, pin_in, stage_in}}
 use Rattle.lz_machine.specs.{Table.{is_sure, yard_done, outcome_of, publishes}, Calls.{progress_after}, Runs.{Caller, caller_at, with_words}, Notes.{Notes}}
 use Rattle.lz_machine.specs.CallersSound.{view_of, Relies, HasAdded, HasMarked, HasMet, MayRest, IsSettledChange, RestsYes, RestsNo, HasLetGo, is_before_pin}
@@ -115,7 +115,7 @@ module _ (n calls : ℕ) (y : Yard) (callers : List (Option Caller)) (disk : Med
       h = (own n calls y callers disk M P notes a i (Remove k) (Playing (Removing s) 3) is sound).stands.2
 
       rests : HasClosed y.shape.buckets true (actor_in y.actors a) P
-      rests = subst (λ (q : Hold). RestsOn y.shape.buckets q (actor_in y.actors a) P) h.2.0 (sound.locks.rests a)
+      rests = subst (λ (q : LockPhase). RestsOn y.shape.buckets q (actor_in y.actors a) P) h.2.0 (sound.locks.rests a)
 
       mark : is_marked s P ≡ true
       mark = ap (λ (q : ℕ). is_marked q P) (same_Some _ _ (sym h.0 ∙ rests.curr)) ∙ rests.marked

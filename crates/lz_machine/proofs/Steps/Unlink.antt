@@ -9,7 +9,7 @@ use Rattle.lz_list.specs.declared.{place.Place.{Place, TheVariants.{Node}}, publ
 use Rattle.lz_list.specs.{declared.word.Word.TheVariants.{Key as key_at}, Words.{Words, get, redirect, next_at, place_number}}
 use Rattle.lz_list.specs.{Traces.{Trace, Lawful, IsLoose, on, chain_of, bucket_of, key_word, is_marked, node_next}, Locks.{claimed_places}}
 use Rattle.lz_list.proofs.{Chains.TraceChain.{words_show_chain}, Traces.{NodeBits.{node, one_node, on_without}, WalkEnd.{on_without_other}}}
-use Rattle.lz_machine.specs.declared.{event.Event.TheVariants.{Unlink}, actor.{Actor.{Actor}, Hold.{Hold, TheVariants.{Marked, Unlinked}}}}
+use Rattle.lz_machine.specs.declared.{event.Event.TheVariants.{Unlink}, actor.{Actor.{Actor}, LockPhase.{LockPhase, TheVariants.{Marked, Unlinked}}}}
 use Rattle.lz_machine.specs.declared.caller.{Sequence.TheVariants.{Removing}, Progress.{Progress, TheVariants.{Playing}}}
 use Rattle.lz_machine.specs.{Yards.{Yard, actor_at, actor_in, cell_in}, Table.{with_hold, node_of, yard_done, publishes}, Runs.{Caller, caller_at}}
 use Rattle.lz_machine.specs.{Stands.{FacesNode, IsLeaving, InBucket}, Notes.{Notes}, SlotsSound.{opens, IsOut, is_out, IsGone, SlotsSound}}
@@ -22,7 +22,7 @@ use Rattle.lz_machine.proofs.Frames.{HeldLocks.{rests_on_pair, pair_published, u
 use Rattle.lz_machine.proofs.{Frames.SameYard.{in_passes, tail_turn}, Ledger.QuietPublishing.{ledger_published}, Steps.Hop.{call_at, own}}
 
 -- an actor that rests on its pair has its locks
-pub resting_locks : (hold : Hold) → rests_on_pair hold ≡ true → has_locks hold ≡ true
+pub resting_locks : (hold : LockPhase) → rests_on_pair hold ≡ true → has_locks hold ≡ true
 resting_locks hold is = grind (arith, nat_tests, false≢true)
 
 pub first_place : (pred : Place) (curr : Option ℕ) → HasPlace pred (claimed_places pred curr)
@@ -58,7 +58,7 @@ module _ (n calls : ℕ) (y : Yard) (callers : List (Option Caller)) (disk : Med
   hand_b b other = other_hand n calls y callers disk M P notes a (call_at i (Remove k) at) is sound x b other
 
   rests : HasClosed y.shape.buckets true (actor_in y.actors a) P
-  rests = subst (λ (q : Hold). RestsOn y.shape.buckets q (actor_in y.actors a) P) h.2.0 (sound.locks.rests a)
+  rests = subst (λ (q : LockPhase). RestsOn y.shape.buckets q (actor_in y.actors a) P) h.2.0 (sound.locks.rests a)
 
   own_node : rests.node ≡ s
   own_node = same_Some _ _ (sym rests.curr ∙ h.0)

@@ -1,6 +1,6 @@
 -- WriteClose keeps the invariant: the gate of the node that the remover has checked is closed.
-use Rattle.lz_machine.specs.declared.{event.{Reply.TheVariants.{Device}, Event.TheVariants.{WriteClose}}, actor.{Actor.{Actor}, Hold.{Hold}}}
-use Rattle.lz_machine.specs.declared.{actor.Hold.TheVariants.{Checked, GateClosed}, caller.{Sequence.TheVariants.{Removing}, Progress.{Progress}}}
+use Rattle.lz_machine.specs.declared.{event.{Reply.TheVariants.{Device}, Event.TheVariants.{WriteClose}}, actor.{Actor.{Actor}, LockPhase.{LockPhase}}}
+use Rattle.lz_machine.specs.declared.{actor.LockPhase.TheVariants.{Checked, GateClosed}, caller.{Sequence.TheVariants.{Removing}, Progress.{Progress}}}
 use Rattle.lz_machine.specs.{declared.caller.Progress.TheVariants.{Playing}, Table.{with_vault, with_hold, node_of, yard_done, call_of}, Calls.{halts}}
 use Rattle.lz_machine.specs.{Yards.{Yard, actor_at, actor_in, pin_in, cell_in, stage_in}, Runs.{Caller, caller_at}, Notes.{Notes, entries}}
 use Rattle.lz_machine.specs.SlotsSound.{IsGateWritten, opens, unlocks, has_removed_node, IsCloser, IsNodeStage, is_node, SlotsSound, IsGateOpened, closes}
@@ -31,7 +31,7 @@ module _ (n calls : ℕ) (y : Yard) (callers : List (Option Caller)) (disk : Med
 
   pub checked_node : IsOnChain y.shape y.vault.cells y.uses P s × IsGateOpened (stage_in y.vault.cells s)
   checked_node =
-      let there = held_node y.shape P Checked (actor_in y.actors a) sound.trace.lawful (subst (λ (q : Hold). RestsOn y.shape.buckets q (actor_in y.actors a) P) hold (sound.locks.rests a)) s is refl in
+      let there = held_node y.shape P Checked (actor_in y.actors a) sound.trace.lawful (subst (λ (q : LockPhase). RestsOn y.shape.buckets q (actor_in y.actors a) P) hold (sound.locks.rests a)) s is refl in
       let lt = on_range y.shape.buckets y.shape.slots P (bucket_of y.shape.buckets (key_word s P)) s sound.trace.lawful there in
       let stands = chain_stands y.shape y.vault.cells y.vault.dead y.uses y.actors P s sound.slots (key_word s P) lt there in
       (stands.0, go stands.1)
@@ -54,7 +54,7 @@ module _ (n calls : ℕ) (y : Yard) (callers : List (Option Caller)) (disk : Med
   cells' = slice_set y.vault.cells s new
 
   checked : IsChecked y.shape.buckets (actor_in y.actors a) P
-  checked = subst (λ (q : Hold). RestsOn y.shape.buckets q (actor_in y.actors a) P) h.2.0 (sound.locks.rests a)
+  checked = subst (λ (q : LockPhase). RestsOn y.shape.buckets q (actor_in y.actors a) P) h.2.0 (sound.locks.rests a)
 
   before : IsRightBefore y.shape.buckets (actor_at y a).pred s P × (is_marked s P ≡ false)
   before = checked.before s h.0

@@ -8,7 +8,7 @@ use Rattle.lz_vault.specs.{declared.vault.Stage.{Stage, TheVariants.{Closed, Ope
 use Rattle.lz_vault.specs.Vaults.{Vaulted, MayFail, key_call, medium_after}
 use Rattle.lz_list.specs.{declared.{publishing.Publishing.TheVariants.{KeyPrepared as key_prepared}, word.Word.TheVariants.{Key as key_at}}, Words.{set}}
 use Rattle.lz_list.specs.Traces.{Trace, Lawful, IsLoose, on, chain_of, bucket_of, key_word}
-use Rattle.lz_machine.specs.declared.{event.{Event.TheVariants.{WriteKey}, Reply.TheVariants.{Device}}, actor.Hold.{Hold}}
+use Rattle.lz_machine.specs.declared.{event.{Event.TheVariants.{WriteKey}, Reply.TheVariants.{Device}}, actor.LockPhase.{LockPhase}}
 use Rattle.lz_machine.specs.declared.caller.{Sequence.TheVariants.{Writing}, Progress.{Progress, TheVariants.{Playing}}}
 use Rattle.lz_machine.specs.{Yards.{Yard, actor_at, actor_in, pin_in, cell_in, stage_in}, Table.{with_vault, call_of, yard_done, publishes}, Calls.{halts}}
 use Rattle.lz_machine.specs.{Runs.{Caller, caller_at}, Notes.{Notes, entries}}
@@ -89,7 +89,7 @@ module _ (n calls : ℕ) (y : Yard) (callers : List (Option Caller)) (disk : Med
     nodes = sound.locks.nodes;
     has = sound.locks.has;
     rests = by_actor (λ b. RestsOn y.shape.buckets (actor_in y.actors b).hold (actor_in y.actors b) P') a
-        (subst (λ (q : Hold). RestsOn y.shape.buckets q (actor_in y.actors a) P') (sym h.0.hold) tt)
+        (subst (λ (q : LockPhase). RestsOn y.shape.buckets q (actor_in y.actors a) P') (sym h.0.hold) tt)
         (λ b other. rests_prepared y.shape.buckets y.shape.slots s (key_prepared s k) (actor_in y.actors b) P sound.trace.lawful loose (λ node place. key_leaves y.shape.buckets s k (actor_in y.actors b) P (λ t slot. hand_apart b t other slot) node place) (actor_in y.actors b).hold (sound.locks.rests b));
   }
 

@@ -6,7 +6,7 @@ use Rattle.lz_disk.specs.Images.{Medium}
 use Rattle.lz_vault.specs.{declared.vault.Stage.TheVariants.{Opening}, Stages.{Cell}, Vaults.{Vaulted, medium_after, opening_call}}
 use Rattle.lz_list.specs.declared.{publishing.Publishing.TheVariants.{LinkPrepared as link_prepared}, word.Word.TheVariants.{Link as link_at}}
 use Rattle.lz_list.specs.{Words.{set, link_to}, Traces.{Trace}}
-use Rattle.lz_machine.specs.declared.{event.Event.TheVariants.{WriteOpen}, actor.{Actor.{Actor}, Hold.TheVariants.{GateOpened}}}
+use Rattle.lz_machine.specs.declared.{event.Event.TheVariants.{WriteOpen}, actor.{Actor.{Actor}, LockPhase.TheVariants.{GateOpened}}}
 use Rattle.lz_machine.specs.{declared.caller.{Sequence.TheVariants.{Adding}, Progress.TheVariants.{Playing}}, Yards.{Yard, actor_at, actor_in, pin_in, cell_in}}
 use Rattle.lz_machine.specs.{Table.{with_hold, call_of, yard_done, publishes}, Runs.{Caller, caller_at}, Notes.{Notes}}
 use Rattle.lz_machine.specs.{LocksSound.{has_locks, HasLock, RestsOn, LocksSound}, CallersSound.{Relies, view_of, CallerSound}, Sound.{DiskSound, Sound}}

@@ -1,7 +1,7 @@
 -- Worked rows of format 4: the device calls of an adding, and what a crash amid one leaves.
 use Rattle.std.proofs.Common.{◌≡◌, ℕ, true, List, [], ◌∷◌, ◌++◌, take, replicate, refl}
 use Rattle.lz_slot.specs.declared.{format.Format.TheVariants.{Two, Four}, command.Command.TheVariants.{Add, Remove}}
-use Rattle.lz_slot.specs.{declared.history.Mark.TheVariants.{Call, Answer, Crash, Opened}, Bytes.{open_byte, header_body, slot_body}, Whole.{whole_slot}}
+use Rattle.lz_slot.specs.{declared.history.HistoryEvent.TheVariants.{Call, Answer, Crash, Opened}, Bytes.{open_byte, header_body, slot_body}, Whole.{whole_slot}}
 use Rattle.lz_vault.specs.Vaults.{DeviceCall, WriteAt, SyncAll}
 use Rattle.lz_list.specs.Traces.{bucket_of}
 use Rattle.lz_machine.specs.{OneAdd.{one_slot, one_add, device_calls}, Runs.{Start, Calls, Turn, Crashes, Opens, first_point, run}}

@@ -8,7 +8,7 @@ use Rattle.lz_vault.specs.declared.vault.Stage.TheVariants.{Keyed}
 use Rattle.lz_allot.specs.Uses.{is_outside}
 use Rattle.lz_list.specs.{declared.{place.Place.TheVariants.{Node}, walk.Look.{Look, TheVariants.{AtHead, AtBelow}}}, Words.{get, is_marked_at}, Walks.{wants}}
 use Rattle.lz_list.specs.{Hops.{LeadsOn}, Traces.{Trace, bucket_of, key_word, on, chain_of, is_marked, is_removed, linking}}
-use Rattle.lz_machine.specs.declared.{actor.{Actor.{Actor}, Hold.{Hold, TheVariants.{Checked, Marked}}}, event.Event.{Event}}
+use Rattle.lz_machine.specs.declared.{actor.{Actor.{Actor}, LockPhase.{LockPhase, TheVariants.{Checked, Marked}}}, event.Event.{Event}}
 use Rattle.lz_machine.specs.declared.event.{Event.TheVariants.{Hop, WriteOpen, WriteClose, Unlink, Answer}, Outcome.TheVariants.{NotNow, Fault}, Reply.{Reply}}
 use Rattle.lz_machine.specs.declared.caller.{Sequence.{Sequence, TheVariants.{Adding, Removing}}, Progress.{Progress}}
 use Rattle.lz_machine.specs.{declared.caller.Progress.TheVariants.{Playing, Walking, Answering}, Yards.{Yard, actor_at, actor_in, stage_in}}
@@ -40,12 +40,12 @@ module _ (n calls : ℕ) (y : Yard) (callers : List (Option Caller)) (disk : Med
 
   held_lt : (hold : actor.hold ≡ Checked) (s : ℕ) → actor.curr ≡ Some s → (s < y.shape.slots) × (is_marked s P ≡ false)
   held_lt hold s curr =
-      let checked : IsChecked y.shape.buckets actor P = subst (λ (q : Hold). RestsOn y.shape.buckets q actor P) hold (sound.locks.rests a) in
+      let checked : IsChecked y.shape.buckets actor P = subst (λ (q : LockPhase). RestsOn y.shape.buckets q actor P) hold (sound.locks.rests a) in
       let there = held_node y.shape P Checked actor sound.trace.lawful checked s curr refl in
       (on_range y.shape.buckets y.shape.slots P (bucket_of y.shape.buckets (key_word s P)) s sound.trace.lawful there, (checked.before s curr).1)
 
   marked_on : actor.hold ≡ Marked → (s : ℕ) → actor.curr ≡ Some s → on 0 (chain_of y.shape.buckets (key_word s P) P) (suc s) ≡ true
-  marked_on hold s curr = held_node y.shape P Marked actor sound.trace.lawful (subst (λ (q : Hold). RestsOn y.shape.buckets q actor P) hold (sound.locks.rests a)) s curr refl
+  marked_on hold s curr = held_node y.shape P Marked actor sound.trace.lawful (subst (λ (q : LockPhase). RestsOn y.shape.buckets q actor P) hold (sound.locks.rests a)) s curr refl
 
   opens_now : (s : ℕ) → actor.hold ≡ Checked → actor.slot ≡ Some s → stage_in y.vault.cells s ≡ Keyed → needs y a WriteOpen ≡ true
   opens_now s hold slot stage = grind arith
@@ -53,7 +53,7 @@ module _ (n calls : ℕ) (y : Yard) (callers : List (Option Caller)) (disk : Med
   closes_now : (s : ℕ) → actor.hold ≡ Checked → actor.curr ≡ Some s → needs y a WriteClose ≡ true
   closes_now s hold curr =
       let held = held_lt hold s curr in
-      ap (λ (q : Hold). has_checked q && is_some actor.curr && not (is_marked_at y.words (Node (unwrap_or actor.curr 0)))) hold
+      ap (λ (q : LockPhase). has_checked q && is_some actor.curr && not (is_marked_at y.words (Node (unwrap_or actor.curr 0)))) hold
       ∙ ap (λ (q : Option ℕ). is_some q && not (is_marked_at y.words (Node (unwrap_or q 0)))) curr
       ∙ ap not (mark_is y.shape y.words P sound.trace (few_slots sound.images) y.words refl refl refl s held.0 ∙ held.1)
 

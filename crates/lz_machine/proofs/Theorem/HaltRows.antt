@@ -2,7 +2,7 @@
 use Rattle.std.proofs.Common.{◌≡◌, inl, inr, ℕ, true, [], ◌∷◌, Option, Some, None, refl, arith}
 use mathlib.Core.Bool.{false≢true}
 use Rattle.lz_slot.specs.declared.{command.Command.TheVariants.{Add, Has}, history.Cut.TheVariants.{Halted as cut_halted, Device as cut_device}}
-use Rattle.lz_slot.specs.declared.history.{Mark.TheVariants.{Call, Answer, Refused, Cut, Crash, Opened}, Refusal.TheVariants.{Full, Worn, OldFile}}
+use Rattle.lz_slot.specs.declared.history.{HistoryEvent.TheVariants.{Call, Answer, Refused, Cut, Crash, Opened}, Refusal.TheVariants.{Full, Worn, OldFile}}
 use Rattle.lz_slot.specs.Histories.{History}
 use Rattle.lz_machine.specs.declared.caller.{Progress.{Progress, TheVariants.{Playing, Answering}}, Sequence.TheVariants.{Adding, Halting}}
 use Rattle.lz_machine.specs.{declared.event.Reply.TheVariants.{Halted, Device}, Runs.{Caller}, Halts.{HaltLasts, IsMadeLate, calls_due, told_device}}

@@ -1,6 +1,6 @@
 -- Runs that follow on one another.
 use Rattle.std.proofs.{lemmas.Bool.Decides.{nat_tests}, Common.{◌≡◌, ℕ, List, [], ◌∷◌, ◌++◌, refl, sym, subst, arith}}
-use Rattle.lz_slot.specs.{declared.history.Mark.{Mark, TheVariants.{Stop, Crash, Opened, OpenFailed}}, Bytes.{Holds}}
+use Rattle.lz_slot.specs.{declared.history.HistoryEvent.{HistoryEvent, TheVariants.{Stop, Crash, Opened, OpenFailed}}, Bytes.{Holds}}
 use Rattle.lz_slot.specs.{Histories.{History, Life, ChainTo, lives, with_mark}, Sets.{Keys, Same, members}}
 use Rattle.lz_disk.specs.Images.{AreBytes}
 use Rattle.lz_machine.specs.{JoinedRuns.{LeftIsStart, RunsJoin, all_lives, first_start}, Runs.{State, MayLeave, start_keys}}
@@ -30,7 +30,7 @@ Begins (life ∷ next ∷ rest) A = Begins (next ∷ rest) A
 newer : (life : Life) (L : List Life) (A : Keys) → Begins L A → Begins (life ∷ L) A
 newer life L A h = grind (arith, nat_tests)
 
-marked : (m : Mark) (L : List Life) (A : Keys) → Begins L A → Begins (with_mark m L) A
+marked : (m : HistoryEvent) (L : List Life) (A : Keys) → Begins L A → Begins (with_mark m L) A
 marked m L A h = grind (arith, nat_tests)
 
 lives_begin : (A : Keys) (M : History) → Begins (lives A M) A

@@ -2,7 +2,7 @@
 use Rattle.std.proofs.lemmas.{Bool.{cases_eq, Decides.{nat_tests}}, List.{length-replicate}, Option.{same_Some, none-some}}
 use Rattle.std.proofs.Common.{◌≡◌, ◌≢◌, inl, inr, ℕ, suc, ◌≤◌, true, false, List, [], ◌∷◌, ◌++◌, length, Option, Some, None, refl, sym, ap, ◌∙◌, subst, arith}
 use mathlib.Core.Bool.{false≢true}
-use Rattle.lz_slot.specs.declared.{command.Command.{Command}, history.Mark.{Mark, TheVariants.{Call, Answer, Refused, Cut, Stop, Crash, OpenFailed}}}
+use Rattle.lz_slot.specs.declared.{command.Command.{Command}, history.HistoryEvent.{HistoryEvent, TheVariants.{Call, Answer, Refused, Cut, Stop, Crash, OpenFailed}}}
 use Rattle.lz_slot.{specs.{Counted.{set_of_pass}, Histories.{History, IsCalled}}, proofs.Counted.{of_pass_same, of_pass_other, length-set_of_pass}}
 use Rattle.lz_disk.specs.Images.{Medium}
 use Rattle.lz_machine.specs.{declared.event.{Outcome.{Outcome}, Reply.{Reply}}, Yards.{Yard, Shape, actor_at}, Table.{course, line, line_failed}}
@@ -13,7 +13,7 @@ use Rattle.lz_machine.{specs.{Runs.{IsRun, first_point}, Marks.{IsOpenCall, MayF
 use Rattle.lz_machine.proofs.{Runs.{Shape.{line_keeps_shape}, CallerTable.{none_of, fault_no_reply}}, Open.FoundSlots.{pass_of}}
 use Rattle.lz_machine.proofs.Ledger.CallMark.{number_of, is_call}
 
-called_before : (m : Mark) (M : History) (i : ℕ) (c : Command) → is_call m ≡ false → IsCalled (m ∷ M) i c → IsCalled M i c
+called_before : (m : HistoryEvent) (M : History) (i : ℕ) (c : Command) → is_call m ≡ false → IsCalled (m ∷ M) i c → IsCalled M i c
 called_before m M i c other h = grind (arith, nat_tests, false≢true, is_call)
 
 -- an open call was made
@@ -91,7 +91,7 @@ module _ (callers : List (Option Caller)) (M : History) (old : AreOpen callers M
       apart = λ b d j one other. old.apart b d j (ends_open M caller.number j b reply one).1 (ends_open M caller.number j d reply other).1;
     }
 
-ended : (calls : ℕ) (m : Mark) (w : State) (M : History) → is_call m ≡ false → MayFollow m M → IsTold M → ((i : ℕ) (c : Command) → IsCalled M i c → i ≤ calls) → OpenCalls w (m ∷ M) → Tells calls w (m ∷ M)
+ended : (calls : ℕ) (m : HistoryEvent) (w : State) (M : History) → is_call m ≡ false → MayFollow m M → IsTold M → ((i : ℕ) (c : Command) → IsCalled M i c → i ≤ calls) → OpenCalls w (m ∷ M) → Tells calls w (m ∷ M)
 ended calls m w M other may told numbered open_calls = record {
   told = (may, told);
   numbered = λ i c is. numbered i c (called_before m M i c other is);

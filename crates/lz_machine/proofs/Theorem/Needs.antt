@@ -4,7 +4,7 @@ use mathlib.Core.Bool.{false≢true}
 use Rattle.lz_slot.specs.Rooms.{largest_of}
 use Rattle.lz_vault.specs.declared.vault.Stage.{Stage, TheVariants.{Keyed}}
 use Rattle.lz_list.specs.Traces.{Trace, key_word}
-use Rattle.lz_machine.specs.declared.{actor.Hold.{Hold, TheVariants.{Checked, GateOpened, GateClosed, Marked, Released}}, event.Event.{Event}}
+use Rattle.lz_machine.specs.declared.{actor.LockPhase.{LockPhase, TheVariants.{Checked, GateOpened, GateClosed, Marked, Released}}, event.Event.{Event}}
 use Rattle.lz_machine.specs.declared.event.Event.TheVariants.{WriteKey, WriteOpen, Retire}
 use Rattle.lz_machine.specs.{Table.{has_stage, may_check, has_checked, has_opened, has_closed, has_marked, may_release, may_retire}, Yards.{cell_in}}
 use Rattle.lz_machine.specs.{CallersSound.{View}, SlotsSound.{opens}, LocksSound.{has_locks}}
@@ -21,29 +21,29 @@ Knows v P _ = Unit {0}
 pub some_of : (slot : Option ℕ) → is_some slot ≡ true → (s : ℕ) × (slot ≡ Some s)
 some_of slot is = grind (arith, nat_tests, false≢true)
 
-pub is_checked : (hold : Hold) → has_checked hold ≡ true → hold ≡ Checked
+pub is_checked : (hold : LockPhase) → has_checked hold ≡ true → hold ≡ Checked
 is_checked hold is = grind (arith, nat_tests, false≢true)
 
-pub is_opened : (hold : Hold) → has_opened hold ≡ true → hold ≡ GateOpened
+pub is_opened : (hold : LockPhase) → has_opened hold ≡ true → hold ≡ GateOpened
 is_opened hold is = grind (arith, nat_tests, false≢true)
 
-pub is_closed : (hold : Hold) → has_closed hold ≡ true → hold ≡ GateClosed
+pub is_closed : (hold : LockPhase) → has_closed hold ≡ true → hold ≡ GateClosed
 is_closed hold is = grind (arith, nat_tests, false≢true)
 
-pub is_marking : (hold : Hold) → has_marked hold ≡ true → hold ≡ Marked
+pub is_marking : (hold : LockPhase) → has_marked hold ≡ true → hold ≡ Marked
 is_marking hold is = grind (arith, nat_tests, false≢true)
 
-pub is_released : (hold : Hold) → may_retire hold ≡ true → hold ≡ Released
+pub is_released : (hold : LockPhase) → may_retire hold ≡ true → hold ≡ Released
 is_released hold is = grind (arith, nat_tests, false≢true)
 
-pub check_locks : (hold : Hold) → may_check hold ≡ true → has_locks hold ≡ true
+pub check_locks : (hold : LockPhase) → may_check hold ≡ true → has_locks hold ≡ true
 check_locks hold is = grind (arith, nat_tests, false≢true)
 
-pub release_locks : (hold : Hold) → may_release hold ≡ true → has_locks hold ≡ true
+pub release_locks : (hold : LockPhase) → may_release hold ≡ true → has_locks hold ≡ true
 release_locks hold is = grind (arith, nat_tests, false≢true)
 
 -- in a vault that lives only an opened gate is open
-pub opens_alive : (hold : Hold) → opens false hold ≡ true → has_opened hold ≡ true
+pub opens_alive : (hold : LockPhase) → opens false hold ≡ true → has_opened hold ≡ true
 opens_alive hold is = grind (arith, nat_tests, false≢true)
 
 pub is_keyed : (stage : Stage) → has_stage Keyed stage ≡ true → stage ≡ Keyed

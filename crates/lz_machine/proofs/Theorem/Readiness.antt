@@ -10,7 +10,7 @@ use Rattle.lz_vault.specs.{declared.vault.Stage.TheVariants.{Keyed}, Members.{no
 use Rattle.lz_allot.specs.Allots.{IsTakenAt}
 use Rattle.lz_list.specs.{declared.{place.Place.{Place, TheVariants.{Node}}, word.Word.TheVariants.{Key as key_at, Pin as pin_at}}, Words.{Words, get}}
 use Rattle.lz_list.specs.{Locks.{claimed_places}, Lists.{IsPlace, IsCurr}, Traces.{Trace, on, chain_of, key_word}}
-use Rattle.lz_machine.specs.declared.{actor.{Actor.{Actor}, Hold.{Hold, TheVariants.{GateOpened, GateClosed, Marked}}}, caller.Sequence.{Sequence}}
+use Rattle.lz_machine.specs.declared.{actor.{Actor.{Actor}, LockPhase.{LockPhase, TheVariants.{GateOpened, GateClosed, Marked}}}, caller.Sequence.{Sequence}}
 use Rattle.lz_machine.specs.declared.{caller.Progress.{Progress, TheVariants.{Playing}}, course.Course.TheVariants.{Plays}, event.Event.{Event}}
 use Rattle.lz_machine.specs.declared.event.Event.TheVariants.{Invoke, Pin, WriteKey, Check, WriteOpen, Link, WriteClose, Mark, Release, Unlink, Retire, Answer}
 use Rattle.lz_machine.specs.Yards.{Shape, Yard, actor_at, cell_at, actor_in, stage_in, cell_in, pin_in}
@@ -114,7 +114,7 @@ module _ (n calls : ℕ) (y : Yard) (callers : List (Option Caller)) (disk : Med
   ready_link : Follows Link
   ready_link has plays =
       let hold = is_opened actor.hold has in
-      let rests : HasOpened y.shape.buckets actor P = subst (λ (q : Hold). RestsOn y.shape.buckets q actor P) hold (sound.locks.rests a) in
+      let rests : HasOpened y.shape.buckets actor P = subst (λ (q : LockPhase). RestsOn y.shape.buckets q actor P) hold (sound.locks.rests a) in
       let hand = sound.slots.hand a rests.own rests.slot in
       (rests.own, rests.slot, (pred_place (ap has_locks hold), may_link_at y.shape y.words P sound.trace (few_slots sound.images) w heads links keys actor.pred actor.curr rests.own hand.in_range rests.beside rests.ready, opened_key rests.own rests.slot hold))
 
@@ -133,7 +133,7 @@ module _ (n calls : ℕ) (y : Yard) (callers : List (Option Caller)) (disk : Med
   ready_mark : Follows Mark
   ready_mark has plays =
       let hold = is_closed actor.hold has in
-      let rests : HasClosed y.shape.buckets false actor P = subst (λ (q : Hold). RestsOn y.shape.buckets q actor P) hold (sound.locks.rests a) in
+      let rests : HasClosed y.shape.buckets false actor P = subst (λ (q : LockPhase). RestsOn y.shape.buckets q actor P) hold (sound.locks.rests a) in
       let lt = slot_lt (ap has_locks hold) rests.node rests.curr in
       (rests.node, rests.curr, (lt, node_key rests.node lt (held_node y.shape P GateClosed actor sound.trace.lawful rests rests.node rests.curr refl)))
 
@@ -145,7 +145,7 @@ module _ (n calls : ℕ) (y : Yard) (callers : List (Option Caller)) (disk : Med
       let two = and_parts (has_marked actor.hold && is_some actor.curr) _ has in
       let first = and_parts (has_marked actor.hold) (is_some actor.curr) two.0 in
       let hold = is_marking actor.hold first.0 in
-      let rests : HasClosed y.shape.buckets true actor P = subst (λ (q : Hold). RestsOn y.shape.buckets q actor P) hold (sound.locks.rests a) in
+      let rests : HasClosed y.shape.buckets true actor P = subst (λ (q : LockPhase). RestsOn y.shape.buckets q actor P) hold (sound.locks.rests a) in
       let lt = slot_lt (ap has_locks hold) rests.node rests.curr in
       let leads = may_unlink_at y.shape y.words P sound.trace (few_slots sound.images) w heads links keys actor.pred rests.node rests.before in
       (rests.node, rests.curr, (lt, pred_place (ap has_locks hold), leads, node_key rests.node lt (held_node y.shape P Marked actor sound.trace.lawful rests rests.node rests.curr refl)))

@@ -1,8 +1,8 @@
 -- Worked rows that the machine computes: what a crash leaves and an open finds.
 use Rattle.std.proofs.lemmas.Bool.Decides.{nat_tests}
 use Rattle.std.proofs.Common.{◌≡◌, arith, lit<, ℕ, ◌+◌, ◌^◌, true, false, List, [], ◌∷◌, ◌++◌, replicate, refl, Option, Some, None, drop}
-use Rattle.lz_slot.specs.declared.{format.Format.TheVariants.{One}, command.Command.TheVariants.{Add, Remove, Has}, history.Mark.{Mark}}
-use Rattle.lz_slot.specs.declared.history.{Mark.TheVariants.{Call, Answer, Refused, Cut, Stop, Crash, Opened}, Refusal.TheVariants.{OldFile}}
+use Rattle.lz_slot.specs.declared.{format.Format.TheVariants.{One}, command.Command.TheVariants.{Add, Remove, Has}, history.HistoryEvent.{HistoryEvent}}
+use Rattle.lz_slot.specs.declared.history.{HistoryEvent.TheVariants.{Call, Answer, Refused, Cut, Stop, Crash, Opened}, Refusal.TheVariants.{OldFile}}
 use Rattle.lz_slot.specs.{declared.history.Cut.TheVariants.{Halted, Device}, Bytes.{slot_body}}
 use Rattle.lz_list.specs.Traces.{Lawful, MayLink, bucket_of, keys_shown}
 use Rattle.lz_vault.specs.{declared.vault.Stage.TheVariants.{Closed, Keyed}, Stages.{Cell}}
@@ -91,7 +91,7 @@ words_two_buckets = refl
 abbrev crashed : Pick → Start → List Transition → List Transition
 crashed pick start steps = steps ++ Crashes (left_by pick (disk_of (play start steps).state)) ∷ Opens ∷ []
 
-abbrev marks_crashed : Pick → Start → List Transition → List Mark
+abbrev marks_crashed : Pick → Start → List Transition → List HistoryEvent
 marks_crashed pick start steps = marks_after start (crashed pick start steps)
 
 -- the keys that are shown at the end

@@ -3,7 +3,7 @@ use Rattle.std.proofs.Common.{◌≡◌, ◌⊎◌, inl, inr, ℕ, suc, ◌≤�
 use Rattle.std.proofs.Common.{subst, arith}
 use mathlib.Core.Bool.{false≢true}
 use Rattle.lz_slot.specs.{Limits.{most_buckets, most_passes}, declared.{format.Format.TheVariants.{Two}, command.Command.TheVariants.{Add}}}
-use Rattle.lz_slot.specs.{declared.history.Mark.TheVariants.{Call, Answer}, Bytes.{header_body, open_byte, slot_body, format_of}, Sets.{members}}
+use Rattle.lz_slot.specs.{declared.history.HistoryEvent.TheVariants.{Call, Answer}, Bytes.{header_body, open_byte, slot_body, format_of}, Sets.{members}}
 use Rattle.lz_disk.specs.Images.{Medium, IsImage, at_rest}
 use Rattle.lz_vault.specs.Stages.{Suits}
 use Rattle.lz_list.specs.Traces.{bucket_of}

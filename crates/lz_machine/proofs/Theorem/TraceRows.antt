@@ -1,7 +1,7 @@
 -- Worked rows that the machine computes: its marks, what is durable, and its traces.
 use Rattle.std.proofs.Common.{◌≡◌, inl, inr, reverse, ℕ, ◌+◌, ◌^◌, true, false, List, [], ◌∷◌, ◌++◌, replicate, refl, Some, None, drop}
-use Rattle.lz_slot.specs.declared.{format.Format.TheVariants.{One, Two}, command.Command.TheVariants.{Add, Remove, Has}, history.Mark.{Mark}}
-use Rattle.lz_slot.specs.declared.history.{Mark.TheVariants.{Call, Answer, Refused, Cut, Stop, Crash, Opened}, Refusal.TheVariants.{Full}}
+use Rattle.lz_slot.specs.declared.{format.Format.TheVariants.{One, Two}, command.Command.TheVariants.{Add, Remove, Has}, history.HistoryEvent.{HistoryEvent}}
+use Rattle.lz_slot.specs.declared.history.{HistoryEvent.TheVariants.{Call, Answer, Refused, Cut, Stop, Crash, Opened}, Refusal.TheVariants.{Full}}
 use Rattle.lz_slot.specs.{declared.history.Cut.TheVariants.{Halted, Device}, Bytes.{slot_body, open_byte, header_body}}
 use Rattle.lz_list.specs.declared.{place.Place.TheVariants.{Bucket}, word.Word.TheVariants.{Head, Halt as HaltWord}}
 use Rattle.lz_list.specs.declared.publishing.Publishing.TheVariants.{Linked as linked, Settled as settled, Marked as marked, Unlinked as unlinked}
@@ -22,7 +22,7 @@ turns a n = replicate n (Turn a)
 abbrev pub play : Start → List Transition → Point
 play start script = run (first_point start) (reverse script)
 
-abbrev pub marks_after : Start → List Transition → List Mark
+abbrev pub marks_after : Start → List Transition → List HistoryEvent
 marks_after start script = reverse (play start script).marks
 
 abbrev seen_after : Start → List Transition → List ℕ

@@ -62,6 +62,7 @@ impl<S: Stream> Crowd<S> {
         ensures told { IfSome (slice_get self.new.clients token) (λ client. IfSome client HasTold) }
         ensures others { ChangesAt token self.old self.new }
         ensures scans { self.new.scans ≡ self.old.scans }
+        ensures begun { self.new.begun ≡ self.old.begun }
         ensures seen { HaveSeenIn self.new (part pass.now).known }
     {
         let now = self.clock.now();

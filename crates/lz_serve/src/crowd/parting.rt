@@ -53,6 +53,18 @@ impl<S: Stream> Crowd<S> {
         self.tend(token, observer, buffer);
     }
 
+    /// Tends to those that wait for their turn, which none has any more.
+    pub fn tend_queue<O: Observer>(&mut self, observer: &O, buffer: &mut [u8])
+        ensures { Keeps self.old self.new }
+    {
+        for _ in 0..self.queue.len() {
+            let Some(token) = self.queue.pop() else {
+                return;
+            };
+            self.tend(token, observer, buffer);
+        }
+    }
+
     /// Closes each connection.
     pub fn close_all(&mut self)
         ensures { Keeps self.old self.new }

@@ -2,6 +2,7 @@
 ghost use Rattle.std.specs.Prelude.{◌≡◌, true};
 ghost use Rattle.lz_board.specs.Seats.{part};
 ghost use Rattle.lz_serve.specs.Clients.{HaveSeenIn, KeepsAwaited, MayTellPage};
+ghost use Rattle.lz_serve.specs.Desks.{BeginsWithin};
 ghost use Rattle.lz_serve.specs.Grants.{Promises};
 ghost use Rattle.lz_serve.specs.Halts.{SawHalt};
 
@@ -33,6 +34,7 @@ impl<S: Stream, N: Named, B: Given> Desk<S, N, B> {
         requires { Promises N.board N.format S.promised S.listed }
         ensures given { self.new.given ≡ self.old.given }
         ensures free { self.new.free ≡ self.old.free }
+        ensures within { BeginsWithin self.old self.new }
     {
         if self.crowd.scans() == 0 {
             return;
@@ -57,6 +59,7 @@ impl<S: Stream, N: Named, B: Given> Desk<S, N, B> {
         requires { Promises N.board N.format S.promised S.listed }
         ensures given { self.new.given ≡ self.old.given }
         ensures free { self.new.free ≡ self.old.free }
+        ensures within { BeginsWithin self.old self.new }
     {
         for _ in 0..self.crowd.scans() {
             self.list_page(alloc, set, observer);
@@ -74,6 +77,7 @@ impl<S: Stream, N: Named, B: Given> Desk<S, N, B> {
         requires { Promises N.board N.format S.promised S.listed }
         ensures given { self.new.given ≡ self.old.given }
         ensures free { self.new.free ≡ self.old.free }
+        ensures within { BeginsWithin self.old self.new }
     {
         if let Some(meeting) = &mut self.meeting {
             let halted = list_one(alloc, set, &mut self.crowd, meeting, observer);
@@ -113,6 +117,7 @@ where
     ensures seen { HaveSeenIn crowd.new (part free.new.pass).known }
     ensures page { MayTellPage crowd.old crowd.new free.old.pass free.new.pass }
     ensures halted { result ≡ true → SawHalt free.new.pass }
+    ensures begun { crowd.new.begun ≡ crowd.old.begun }
 {
     let Some((token, awaited)) = crowd.take_scan() else {
         return false;

@@ -2,7 +2,7 @@
 use Rattle.std.specs.{Prelude.{◌≡◌, [], ◌∷◌, refl, codes, Ok, Err, None, Some}, Fmt.{digits}}
 use Rattle.lz_slot.specs.{Numerals.{number_in}, Texts.{key_read, key_text}, MarkTexts.{mark_text}}
 use Rattle.lz_slot.specs.declared.{spelling.KeyFault.TheVariants.{NoRoom, NoNumber, TooLarge}, command.Command.TheVariants.{Add}}
-use Rattle.lz_slot.specs.declared.history.{Refusal.TheVariants.{OldFile}, Mark.TheVariants.{Call, Refused, Opened}}
+use Rattle.lz_slot.specs.declared.history.{Refusal.TheVariants.{OldFile}, HistoryEvent.TheVariants.{Call, Refused, Opened}}
 
 -- a key in room 0 is written without its room, and read in both spellings
 room_0 : (key_text 17 ≡ codes "17") × (key_read (codes "17") ≡ Ok 17) × (key_read (codes "0:17") ≡ Ok 17)

@@ -9,7 +9,7 @@ use Rattle.lz_allot.specs.Uses.{collect, lowest_free}
 use Rattle.lz_list.specs.{declared.{place.Place.{Place}, word.Word.{Word}}, Words.{Words, set}, Lists.{IsCurr, IsWord}, Locks.{is_pair_free}}
 use Rattle.lz_machine.specs.declared.event.Event.{Event}
 use Rattle.lz_machine.specs.declared.event.Event.TheVariants.{Invoke, Reserve, Claim, Check, WriteOpen, Link, WriteClose, Mark, Release, Unlink, Retire, Answer}
-use Rattle.lz_machine.specs.declared.{event.Outcome.{Outcome, TheVariants.{Fault}}, course.Course.TheVariants.{Plays}, actor.Hold.{Hold, TheVariants.{Locks}}}
+use Rattle.lz_machine.specs.declared.{event.Outcome.{Outcome, TheVariants.{Fault}}, course.Course.TheVariants.{Plays}, actor.LockPhase.{LockPhase, TheVariants.{Locks}}}
 use Rattle.lz_machine.specs.{declared.actor.Actor.{Actor}, Yards.{Yard, actor_at}, Table.{course, cells_after, words_after, uses_after, actors_after}}
 use Rattle.lz_machine.specs.{Table.{kept_slot, line_failed, with_hold, with_slot, with_vault, yard_done, needs}, Ready.{IsEventOf, IsReady}}
 use Rattle.lz_machine.{specs.Runs.{MayPlay, with_words}, proofs.{Runs.Shape.{line_keeps_shape}, Theorem.Readiness.{ready_to_play}}}
@@ -74,7 +74,7 @@ module _ (y : Yard) (known : ℕ) (fits : PartsFit y known) (a : ℕ) (low : 1 �
   has : (x : Actor) → HasInRange N x → IsKept (set_of_pass y.actors a x)
   has x range = record { count = length-set_of_pass y.actors a x; hands = pass_hands N y.actors a x fits.hands range }
 
-  holds : (hold : Hold) → IsKept (set_of_pass y.actors a (with_hold mine hold))
+  holds : (hold : LockPhase) → IsKept (set_of_pass y.actors a (with_hold mine hold))
   holds hold = has (with_hold mine hold) (record { slot = in_range.slot; curr = in_range.curr })
 
   found_range : (found : Option ℕ) → lowest_free (collect y.uses) ≡ found → IfSome found (λ s. s < N)

@@ -1,6 +1,6 @@
 use Rattle.lz_judge.proofs.judging.judge.Goals as goal
 use Rattle.std.proofs.Common.{sym, subst, List, [], reverse}
-use Rattle.lz_slot.specs.{Sets.{members}, Histories.{ChainTo, lives}, declared.history.Mark.{Mark}}
+use Rattle.lz_slot.specs.{Sets.{members}, Histories.{ChainTo, lives}, declared.history.HistoryEvent.{HistoryEvent}}
 use Rattle.lz_judge.specs.{declared.{flaw.Flaw.{Flaw}, history.Point.{Point}}, Records.{ArePlaces, IsLawful, IsPoint, Record}, Flaws.{IsFlaw, OrderedChain}}
 use Rattle.lz_judge.proofs.Readings.ReadingTable.{ordered_chain}
 
@@ -15,14 +15,14 @@ returns-clause-ordered c =
     let (T, chain) = c.in_ok-flaw.ensures.ordered c.in_default.is in (
       T,
       subst (λ (ps : List Point). OrderedChain (IsPoint ps) (lives (members []) c.args.history.now.marks) T) (sym c.points-points.ensures.points)
-          (subst (λ (M : List Mark). OrderedChain (IsPoint (reverse c.points-points.result.now)) (lives (members []) M) T) (sym c.marks-marks.ensures.marks) chain),
+          (subst (λ (M : List HistoryEvent). OrderedChain (IsPoint (reverse c.points-points.result.now)) (lives (members []) M) T) (sym c.marks-marks.ensures.marks) chain),
     )
 
 pub returns-clause-chain : goal.returns-clause-chain
 returns-clause-chain c =
     let (T, chain) = c.in_ok-flaw.ensures.ordered c.in_default.is in (
       T,
-      subst (λ (M : List Mark). ChainTo (lives (members []) M) T) (sym c.marks-marks.ensures.marks)
+      subst (λ (M : List HistoryEvent). ChainTo (lives (members []) M) T) (sym c.marks-marks.ensures.marks)
           (ordered_chain (IsPoint (reverse c.points-points.result.now)) (lives (members []) (reverse c.marks-marks.result.now)) T chain),
     )
 

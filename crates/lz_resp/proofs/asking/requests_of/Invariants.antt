@@ -6,7 +6,7 @@ use Rattle.lz_resp.specs.{Commands.{requests_of}, Keys.{subset_of}}
 abbrev pub invariant-loop-member : goal.invariant-loop-member
 invariant-loop-member l =
     record {
-      asked : option_map (λ more. l.list.items ++ more) (requests_of l.form (subset_of l.subset) (map (λ word. word.now) (drop l.member-index l.members)))
-          ≡ requests_of l.form (subset_of l.subset) (map (λ word. word.now) l.members);
+      asked : option_map (λ more. l.list.items ++ more) (requests_of l.form (subset_of l.subset) (map (λ argument. argument.now) (drop l.member-index l.members)))
+          ≡ requests_of l.form (subset_of l.subset) (map (λ argument. argument.now) l.members);
       asks : All (λ request. request ≢ Quit) l.list.items;
     }

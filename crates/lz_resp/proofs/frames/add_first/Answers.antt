@@ -4,6 +4,6 @@ use Rattle.lz_resp.{specs.Pieces.{Adds}, proofs.Texts.{first_frame}}
 
 pub returns-in-Some-clause-ok : goal.returns-in-Some-clause-ok
 returns-in-Some-clause-ok c =
-    let words = map (λ (w : Bor (List ℕ)). w.now) c.in-Some.three.words in
-    let so = first_frame c.args.selected c.args.text.now words (drop c.in-Some.three.count c.args.text.now) c.in-Some.ensures.gives in
+    let arguments = map (λ (w : Bor (List ℕ)). w.now) c.in-Some.three.arguments in
+    let so = first_frame c.args.state c.args.text.now arguments (drop c.in-Some.three.count c.args.text.now) c.in-Some.ensures.gives in
     IfOk-weaker c.add_frame.result _ _ (λ next p. (p.0, subst (λ s. Adds s next c.args.text.now p.0) (sym so) (p.1 c.args.text.now), p.2)) c.add_frame.ensures.ok

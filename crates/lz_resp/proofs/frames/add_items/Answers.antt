@@ -10,8 +10,8 @@ frames-preserved c =
     let rest = drop c.frames.used c.args.text.now in (
       so.0 ++ one.0,
       one.2 ∙ ap (λ (x : List Item). x ++ one.0) so.1 ∙ append_assoc c.args.items.now.items so.0 one.0,
-      subst (GoesOn c.args.selected c.args.text.now (so.0 ++ one.0) c.in-Goes.next) (drop-drop c.in-Goes.count c.frames.used c.args.text.now)
-          (goes_more c.args.selected c.args.text.now so.0 c.frames.selected rest one.0 c.in-Goes.next (drop c.in-Goes.count rest) so.2 one.1),
+      subst (GoesOn c.args.state c.args.text.now (so.0 ++ one.0) c.in-Goes.next) (drop-drop c.in-Goes.count c.frames.used c.args.text.now)
+          (goes_more c.args.state c.args.text.now so.0 c.frames.state rest one.0 c.in-Goes.next (drop c.in-Goes.count rest) so.2 one.1),
       range.0,
       omega (arith, range.2, c.split_at.ensures.back_len),
     )
@@ -21,7 +21,7 @@ returns-in-Stops-clause-ok c =
     let so = c.frames.invariant in
     let one = rw (c.in-Stops.is, c.split_at.ensures.back) at c.in_ok-add_first.ensures.ok in (
       so.0 ++ one.0,
-      goes_stops c.args.selected c.args.text.now so.0 c.frames.selected (drop c.frames.used c.args.text.now) one.0 so.2 one.1,
+      goes_stops c.args.state c.args.text.now so.0 c.frames.state (drop c.frames.used c.args.text.now) one.0 so.2 one.1,
       one.2 ∙ ap (λ (x : List Item). x ++ one.0) so.1 ∙ append_assoc c.args.items.now.items so.0 one.0,
     )
 
@@ -30,6 +30,6 @@ returns-clause-ok c =
     let so = c.frames.invariant in
     let rest = drop c.frames.used c.args.text.now in (
       so.0,
-      goes_waits c.args.selected c.args.text.now so.0 c.frames.selected rest so.2 (step_empty c.frames.selected rest (omega (arith, length-drop c.frames.used c.args.text.now))),
+      goes_waits c.args.state c.args.text.now so.0 c.frames.state rest so.2 (step_empty c.frames.state rest (omega (arith, length-drop c.frames.used c.args.text.now))),
       so.1,
     )

@@ -6,5 +6,5 @@ pub returns-in-Ok-Some-clause-waits : goal.returns-in-Ok-Some-clause-waits
 returns-in-Ok-Some-clause-waits c =
     let so = (rw c.in-Ok-Some.field-0-is at c.in-Ok-Some.ensures.ok).1.0 in
     let left = c.drop_front.ensures ∙ ap (λ (t : List ℕ). drop c.in-Ok-Some.used t) (sym c.as_slice.ensures.value) in
-    let waits_so = ap (step c.in-Ok-Some.selected) left ∙ so in
-    (waits_so, step_short c.in-Ok-Some.selected c.drop_front.new.kept.items waits_so)
+    let waits_so = ap (step c.in-Ok-Some.state) left ∙ so in
+    (waits_so, step_short c.in-Ok-Some.state c.drop_front.new.kept.items waits_so)

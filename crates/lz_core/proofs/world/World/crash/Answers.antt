@@ -1,6 +1,6 @@
 use Rattle.lz_core.proofs.world.World.crash.Goals as goal
 use Rattle.std.proofs.{Common.{arith, ◌≡◌, ◌∙◌, ℕ, Bool, List, [], ◌∷◌, Option, false, sym, ap, subst, refl}, lemmas.Bool.Decides.{nat_tests}}
-use Rattle.lz_slot.specs.declared.history.Mark.TheVariants.{Crash as crashed}
+use Rattle.lz_slot.specs.declared.history.HistoryEvent.TheVariants.{Crash as crashed}
 use Rattle.lz_disk.specs.{declared.memory.Pick.{Pick}, Images.{Medium, IsImage, at_rest}, Picks.{left_by}, Records.{Past}}
 use Rattle.lz_core.specs.declared.{play.Step.TheVariants.{Crash}, open_calls.OpenCall.{OpenCall}}
 use Rattle.lz_core.{specs.Worlds.{Goes, WorldOver, IsWorld, HasOne, state_shown, world_shown, disk_shown}, proofs.Runs.PlayedStep.{leads}}

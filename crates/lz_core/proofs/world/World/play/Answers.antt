@@ -4,7 +4,7 @@ use Rattle.std.proofs.lemmas.{Option.{slice_get_read}, List.{take_all, append-ni
 use Rattle.lz_core.specs.{declared.{world.PlayFault.TheVariants.{NotNow, Memory}, play.Step.{Step as PlayStep}}, Worlds.{PlaysOn, mark_list}}
 use Rattle.lz_core.proofs.Runs.{PlayedStep.{stays}, JoinedPlays.{chains, goes_on, early_on, stops_at, same_fault, no_mark}}
 use Rattle.lz_core.proofs.world.World.play.Goals.{in-Some, in_default}
-use Rattle.lz_slot.specs.declared.history.Mark.{Mark}
+use Rattle.lz_slot.specs.declared.history.HistoryEvent.{HistoryEvent}
 
 pub loop-before-init : goal.loop-before-init
 loop-before-init c = record {
@@ -36,15 +36,15 @@ pub loop-before-preserved : goal.loop-before-preserved
 loop-before-preserved c =
     let at = slice_get_read c.args.steps.now (length c.args.steps.now) c.loop-before.before c.index-steps-before.result refl c.loop-before-test.true c.index-steps-before.is in
     let more = goes_on c.args.self.now c.loop-before.self c.play_step.new.self c.args.steps.now c.loop-before.before c.index-steps-before.result c.loop-before.marks.items _ at c.loop-before.invariant.played c.in_ok-mark.ensures.ok in
-    let kept = ap (λ (ms : List Mark). ms ++ mark_list c.in_ok-mark.field-0) (sym c.reserve.ensures.items) in
+    let kept = ap (λ (ms : List HistoryEvent). ms ++ mark_list c.in_ok-mark.field-0) (sym c.reserve.ensures.items) in
     record {
       played = elim c.match-branch-2.branch [
         | in-Some w ↦
-            subst (λ (ms : List Mark). PlaysOn c.args.self.now (take (c.loop-before.before + 1) c.args.steps.now) ms c.play_step.new.self)
-            (kept ∙ ap (λ (mark : Option Mark). c.reserve.new.self.items ++ mark_list mark) w.in-Some.is ∙ sym w.push_reserved.ensures.items ∙ ap (λ v. v.items) (sym w.marks-is)) more
+            subst (λ (ms : List HistoryEvent). PlaysOn c.args.self.now (take (c.loop-before.before + 1) c.args.steps.now) ms c.play_step.new.self)
+            (kept ∙ ap (λ (mark : Option HistoryEvent). c.reserve.new.self.items ++ mark_list mark) w.in-Some.is ∙ sym w.push_reserved.ensures.items ∙ ap (λ v. v.items) (sym w.marks-is)) more
         | in_default w ↦
-            subst (λ (ms : List Mark). PlaysOn c.args.self.now (take (c.loop-before.before + 1) c.args.steps.now) ms c.play_step.new.self)
-            (kept ∙ ap (λ (ms : List Mark). c.reserve.new.self.items ++ ms) (no_mark c.in_ok-mark.field-0 w.in_default.not-Some) ∙ append-nil c.reserve.new.self.items ∙ ap (λ v. v.items) (sym w.marks-is)) more
+            subst (λ (ms : List HistoryEvent). PlaysOn c.args.self.now (take (c.loop-before.before + 1) c.args.steps.now) ms c.play_step.new.self)
+            (kept ∙ ap (λ (ms : List HistoryEvent). c.reserve.new.self.items ++ ms) (no_mark c.in_ok-mark.field-0 w.in_default.not-Some) ∙ append-nil c.reserve.new.self.items ∙ ap (λ v. v.items) (sym w.marks-is)) more
       ];
       still = λ none. absurd (omega (arith, none));
     }

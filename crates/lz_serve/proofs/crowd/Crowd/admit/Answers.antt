@@ -14,4 +14,4 @@ returns g c =
     let new = c.admit.new.self in
     keeps_then c.args.self.now _ c.tend.new.self
     (admits_at (λ place. place.client) c.args.self.now c.self.inside.admitted c.self.inside.places.items c.in-Some.token old new c.new-client.result c.self.view_is c.in-Some-get_mut.ensures.item.3.0 c.in-Some-get_mut.ensures.value c.admit.ensures
-    (ap (λ (a : Asker). a.connection) c.new-client.ensures) (ap (λ (a : Asker). a.seen) c.new-client.ensures)) c.tend.ensures
+    (ap (λ (a : Asker). a.connection) c.new-client.ensures) (ap (λ (a : Asker). a.seen) c.new-client.ensures)) c.tend.ensures.kept

@@ -33,7 +33,7 @@ returns-clause-heard g c = λ token q awaited heard.
     let new = c.give_back-is_back.new.self in
     (leave_keeps _ c.put_back.new.self c.put_back.ensures.leave).heard token q
     (keeps_awaited (λ place. place.client) c.args.self.now c.self.inside.admitted c.self.inside.places.items c.args.token old c.self.view_is c.in-Some.ensures.item.3.0 c.in-Some.ensures.value new (λ q own. same_own told.client new.client c.give_back-is_back.ensures q (c.tell_page.ensures.kept q own)) token q awaited)
-    (keeps_heard (λ place. place.client) c.args.self.now c.self.inside.admitted c.self.inside.places.items c.args.token old c.self.view_is c.in-Some.ensures.item.3.0 c.in-Some.ensures.value new c.args.self.now.queue (λ q own was. subst (λ (a : Option Asker). IsHeardOf a q) (sym c.give_back-is_back.ensures) (c.tell_page.ensures.heard q own was)) token q awaited heard)
+    (keeps_heard (λ place. place.client) c.args.self.now c.self.inside.admitted c.self.inside.places.items c.args.token old c.self.view_is c.in-Some.ensures.item.3.0 c.in-Some.ensures.value new c.args.self.now.begun c.args.self.now.queue (λ q own was. subst (λ (a : Option Asker). IsHeardOf a q) (sym c.give_back-is_back.ensures) (c.tell_page.ensures.heard q own was)) token q awaited heard)
 
 pub returns-clause-paged : goal.returns-clause-paged
 returns-clause-paged g c =

@@ -71,5 +71,6 @@ passes-preserved g c =
       given = c.passes.invariant.given;
       ends = c.passes.invariant.ends;
       calls = λ ends. absurd (true≢false (sym c.if-begin_next.true ∙ (over (c.passes.invariant.ends ∙ ends)).0));
+      within = (let low = c.passes.invariant.within in let more = (c.begin_next.ensures.counted c.if-begin_next.true).most in omega (arith, low, more, c.if-self-eq0.false));
       desk = desk_begun (λ free. (part free.pass).known) s.given s.most (vec_capacity s.free) (vec_capacity s.calls) s.crowd b s.meeting c.meet.new.meeting s.calls.items s.free.items (vec_len s.free) inv c.begin_next.ensures.kept.awaited (alike_seen (λ free. (part free.pass).known) b c.meet.new.meeting now alike later) c.meet.ensures.none (vec_capacity c.push.new.self) c.pop.new.self.items last (vec_len c.pop.new.self) asked c.push.new.self.items split fewer c.in-Ok.ensures.items (omega (arith, more, spare_calls)) is (vec_capacity c.pop.new.self) (omega (arith, room, spare_free));
     }

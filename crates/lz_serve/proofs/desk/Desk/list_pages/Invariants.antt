@@ -1,5 +1,6 @@
 use Rattle.lz_serve.proofs.desk.Desk.list_pages.Given as goal
 use Rattle.std.specs.Prelude.{◌≡◌}
+use Rattle.lz_serve.specs.Desks.{BeginsWithin}
 
 abbrev pub invariant-loop : goal.invariant-loop
-invariant-loop g l = record { given : l.self.given ≡ l.fn.self.given; free : l.self.free ≡ l.fn.self.free }
+invariant-loop g l = record { given : l.self.given ≡ l.fn.self.given; free : l.self.free ≡ l.fn.self.free; within : BeginsWithin l.fn.self l.self }

@@ -1,8 +1,9 @@
 use Rattle.lz_serve.proofs.desk.Desk.play_all.Goals as goal
-use Rattle.std.proofs.Common.{◌≡◌, ◌<◌, All, true, option_map, vec_capacity, vec_len, length, get_or-set_same, ap, sym, ◌∙◌, subst, arith}
+use Rattle.std.proofs.Common.{◌≡◌, ◌<◌, ◌≤◌, ◌+◌, ℕ, All, true, option_map, vec_capacity, vec_len, length, get_or-set_same, ap, sym, ◌∙◌, subst, arith}
 use Rattle.lz_board.specs.{declared.pass.Pass.{Pass}, Seats.{part}}
 use Rattle.lz_serve.{specs.{Clients.{HaveSeenIn}, Askings.{Asked}, Desks.{AnswersOneOf, Passes}}, proofs.Desks.{desk_answered, desk_rested}}
-use Rattle.lz_serve.proofs.{Joins.{all_left, begun_none, each_its_own, either_so, knows_met}, Meetings.{some_mapped}}
+use Rattle.lz_serve.proofs.{TurnShares.{begun_same, fewer_left, none_left}, Joins.{all_left, begun_none, each_its_own, either_so, knows_met}}
+use Rattle.lz_serve.proofs.Meetings.{some_mapped}
 
 pub calls-init : goal.calls-init
 calls-init g c =
@@ -10,6 +11,7 @@ calls-init g c =
     record {
       given = ap (λ (p : Passes). p.given) c.self.view_is;
       ends = subst (λ (p : Passes). p.ends ≡ true → (from.ends ≡ true) × All (AnswersOneOf p.calls) from.calls.items) c.self.view_is (λ over. (over, each_its_own from.calls.items));
+      within = subst (λ (p : Passes). from.crowd.begun + from.left ≤ p.begun + p.left) c.self.view_is (omega arith);
       desk = c.self.invariant;
     }
 
@@ -26,6 +28,8 @@ calls-preserved-in-GoesOn g c =
             begun_none c.args.self.now.calls s.calls.items c.calls.at c.index_mut-asking.result.now c.play_call.new.asking (omega (arith, long, c.if-at-len.false, c.len.ensures)) c.index_mut-asking.ensures.value (c.play_call.ensures.ends (either_so _ so.0))
                 (c.play_call.ensures.goes (λ other. absurd (cc))) so.1,
           );
+      within = subst (λ (n : ℕ). c.play_call.new.crowd.begun + n ≤ c.args.self.now.begun + c.args.self.now.left) (sym c.saturating_sub-self-inside.ensures)
+          (fewer_left s.crowd.begun c.play_call.new.crowd.begun s.left _ c.calls.invariant.within c.play_call.ensures.counted (λ none. c.play_call.ensures.ended (none_left s.ends _ s.left none)));
       desk = desk_answered (λ free. (part free.pass).known) s.given s.most (vec_capacity s.free) (vec_capacity s.calls) s.crowd c.play_call.new.crowd s.meeting c.play_call.new.meeting s.calls.items s.free.items (vec_len s.free) c.calls.invariant.desk c.play_call.ensures.kept
           c.play_call.ensures.met c.play_call.ensures.none c.calls.at c.play_call.new.asking (omega (arith, long, c.if-at-len.false, c.len.ensures)) (c.play_call.ensures.goes (λ other. absurd (cc)));
     }
@@ -43,6 +47,7 @@ calls-preserved-in-Waits g c =
             begun_none c.args.self.now.calls s.calls.items c.calls.at c.index_mut-asking.result.now c.play_call.new.asking (omega (arith, long, c.if-at-len.false, c.len.ensures)) c.index_mut-asking.ensures.value (c.play_call.ensures.ends (either_so _ so.0))
                 (c.play_call.ensures.goes (λ other. absurd (cc))) so.1,
           );
+      within = begun_same _ _ s.left _ c.calls.invariant.within (c.play_call.ensures.uncounted (λ other. absurd (cc)));
       desk = desk_answered (λ free. (part free.pass).known) s.given s.most (vec_capacity s.free) (vec_capacity s.calls) s.crowd c.play_call.new.crowd s.meeting c.play_call.new.meeting s.calls.items s.free.items (vec_len s.free) c.calls.invariant.desk c.play_call.ensures.kept
           c.play_call.ensures.met c.play_call.ensures.none c.calls.at c.play_call.new.asking (omega (arith, long, c.if-at-len.false, c.len.ensures)) (c.play_call.ensures.goes (λ other. absurd (cc)));
     }
@@ -75,6 +80,7 @@ calls-preserved g c =
       ends = λ over.
           let so = c.calls.invariant.ends over in
           (either_so _ so.0, all_left (AnswersOneOf c.args.self.now.calls) s.calls.items left.items c.calls.at (vec_len s.calls) asked long (omega (arith, left_long, fewer)) c.swap_remove.ensures.by_index so.1);
+      within = begun_same _ _ s.left _ c.calls.invariant.within (c.play_call.ensures.uncounted (λ other. absurd (cc)));
       desk = desk_rested (λ free. (part free.pass).known) s.given s.most (vec_capacity s.free) (vec_capacity s.calls) s.crowd b s.meeting c.play_call.new.meeting s.calls.items s.free.items (vec_len s.free) inv c.play_call.ensures.kept c.play_call.ensures.met c.play_call.ensures.none
           (vec_capacity c.put_free.new.passes) (vec_capacity left) c.calls.at (vec_len s.calls) asked left.items c.put_free.new.passes.items back (vec_len c.put_free.new.passes) within long (omega (arith, left_long, fewer)) c.swap_remove.ensures.by_index c.put_free.ensures.items
           c.put_free.ensures.count (omega (arith, spare, grown)) (omega (arith, spare_calls, kept_room)) (knows_met b after (part back.pass).known (some_mapped (HaveSeenIn b) (λ free. (part free.pass).known) c.play_call.new.meeting c.play_call.ensures.met) (λ _. seen));

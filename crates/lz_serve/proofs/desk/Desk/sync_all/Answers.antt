@@ -2,7 +2,7 @@ use Rattle.lz_serve.proofs.desk.Desk.sync_all.Goals as goal
 use Rattle.std.proofs.Common.{◌≢◌, ◌+◌, ◌<◌, ◌≤◌, ℕ, All, List, Some, map, option_map, take, vec_capacity, vec_len, length, subst, sym, arith}
 use Rattle.std.proofs.lemmas.List.{take_all, take_more_set, Elements.{All-push}}
 use Rattle.lz_board.specs.Seats.{part}
-use Rattle.lz_set.specs.declared.underway.Stage.TheVariants.{Syncs}
+use Rattle.lz_set.specs.declared.underway.Blocked.TheVariants.{Syncs}
 use Rattle.lz_serve.{specs.{Askings.{Asked}, Desks.{count_of}}, proofs.Desks.{desk_played}}
 
 pub loop-at-preserved : goal.loop-at-preserved
@@ -15,6 +15,7 @@ loop-at-preserved g c =
     let within : c.loop-at.at < length s.calls.items = omega (arith, same, long, c.loop-at-test.true) in
     record {
       given = inv.given;
+      within = inv.within;
       long = same;
       synced = subst (λ (l : List Asked). All (λ (a : Asked). a.stage ≢ Some Syncs) l) (sym (take_more_set s.calls.items c.loop-at.at c.sync-synced.new.self within))
           (All-push (λ (a : Asked). a.stage ≢ Some Syncs) (take c.loop-at.at s.calls.items) c.sync-synced.new.self inv.synced c.sync-synced.ensures.stage);

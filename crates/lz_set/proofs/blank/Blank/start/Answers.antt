@@ -1,7 +1,7 @@
 use Rattle.lz_set.proofs.blank.Blank.start.Goals as goal
 use Rattle.std.proofs.Common.{◌≡◌, [], List, sym, ap, ◌∙◌, subst}
 use Rattle.lz_board.specs.{declared.view.Note.{Note}, Seats.{BoardId, id_of}}
-use Rattle.lz_tie.specs.{Holds.{IsLocked}, Lives.{LivesOn}, Moments.{LeftSince}}
+use Rattle.lz_refinement.specs.{Holds.{IsLocked}, Lives.{LivesOn}, Moments.{LeftSince}}
 
 pub new-locked-requires-clause-yard : goal.new-locked-requires-clause-yard
 new-locked-requires-clause-yard g c =

@@ -2,7 +2,7 @@ use Rattle.lz_set.proofs.set.Set+D+G+Brand.open_by.Goals as goal
 use Rattle.std.proofs.Common.{[], refl, sym, ap, ◌∙◌, subst}
 use Rattle.lz_list.specs.Addresses.{sizes_in}
 use Rattle.lz_board.specs.{Opened.{AreOpened, opened_by}, Seats.{id_of}}
-use Rattle.lz_tie.proofs.Start.{FirstSets.{begins_with_read}, OpenedYard.{words_opened}, OpenedMoments.{now_since}, OpenedLives.{now_lives}}
+use Rattle.lz_refinement.proofs.Start.{FirstSets.{begins_with_read}, OpenedYard.{words_opened}, OpenedMoments.{now_since}, OpenedLives.{now_lives}}
 use Rattle.lz_set.proofs.Opening.{blank}
 
 pub new-requires-clause-opened : goal.new-requires-clause-opened

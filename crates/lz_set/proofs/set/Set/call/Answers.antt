@@ -2,7 +2,7 @@ use Rattle.lz_set.proofs.set.Set.call.Goals as goal
 use Rattle.std.proofs.Common.{sym, subst}
 use Rattle.lz_machine.specs.Orders.{Calling}
 use Rattle.lz_board.specs.Seats.{part}
-use Rattle.lz_tie.specs.Counting.{Counts}
+use Rattle.lz_refinement.specs.Counting.{Counts}
 
 pub sync_for_all-requires-clause-counted : goal.sync_for_all-requires-clause-counted
 sync_for_all-requires-clause-counted g c =

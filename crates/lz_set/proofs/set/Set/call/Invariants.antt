@@ -1,6 +1,6 @@
 use Rattle.lz_set.proofs.set.Set.call.Given as goal
 use Rattle.lz_board.specs.Seats.{IsOf, part}
-use Rattle.lz_tie.specs.Counting.{Counts}
+use Rattle.lz_refinement.specs.Counting.{Counts}
 
 abbrev pub invariant-loop : goal.invariant-loop
 invariant-loop g l = record {

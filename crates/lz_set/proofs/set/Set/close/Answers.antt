@@ -2,7 +2,7 @@ use Rattle.lz_set.proofs.set.Set.close.Goals as goal
 use Rattle.std.proofs.Common.{◌+◌, ◌≤◌, sym, subst}
 use Rattle.lz_machine.specs.Halts.{told_device}
 use Rattle.lz_board.specs.Notes.{shape_of_sizes}
-use Rattle.lz_tie.specs.{Holds.{IsLocked}, Marks.{marks_in}, RunningSets.{HasHistory}}
+use Rattle.lz_refinement.specs.{Holds.{IsLocked}, Marks.{marks_in}, RunningSets.{HasHistory}}
 
 pub returns : goal.returns
 returns g c =

@@ -2,7 +2,7 @@ use Rattle.lz_set.proofs.set.Set.close_with.Goals as goal
 use Rattle.std.proofs.Common.{◌≡◌, ◌+◌, ◌≤◌, List, All, map, sym, ap, subst}
 use Rattle.lz_machine.specs.Halts.{told_device}
 use Rattle.lz_board.specs.{declared.view.{Note.{Note}, Part.{Part}}, Notes.{Extends, shape_of_sizes, trace_of}, Plays.{knowing}, Seats.{part}}
-use Rattle.lz_tie.specs.{Holds.{IsLocked}, Marks.{marks_in}, RunningSets.{HasHistory}}
+use Rattle.lz_refinement.specs.{Holds.{IsLocked}, Marks.{marks_in}, RunningSets.{HasHistory}}
 use Rattle.lz_set.specs.Left.{IsWelcome}
 
 pub returns-clause-left : goal.returns-clause-left

@@ -2,7 +2,7 @@ use Rattle.lz_set.proofs.set.Set.end.Goals as goal
 use Rattle.std.proofs.Common.{sym, ap, ◌∙◌, subst}
 use Rattle.lz_machine.specs.{declared.event.Reply.{Reply}, Orders.{Calling}, Runs.{reply_at}}
 use Rattle.lz_board.specs.Seats.{part}
-use Rattle.lz_tie.specs.{Answers.{Answers}, Counting.{Counts}, OneCaller.{IsPlainAnswer, keys_in}}
+use Rattle.lz_refinement.specs.{Answers.{Answers}, Counting.{Counts}, OneCaller.{IsPlainAnswer, keys_in}}
 use Rattle.lz_set.proofs.Plays.{answers_otherwise, one_without, plays_one}
 
 pub returns-clause-answers : goal.returns-clause-answers

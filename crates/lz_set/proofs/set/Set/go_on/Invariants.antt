@@ -1,7 +1,7 @@
 use Rattle.lz_set.proofs.set.Set.go_on.Given as goal
 use Rattle.lz_machine.specs.declared.kind.Kind.TheVariants.{Sync}
 use Rattle.lz_board.specs.Seats.{IsOf, part}
-use Rattle.lz_tie.specs.Counting.{CountsOn}
+use Rattle.lz_refinement.specs.Counting.{CountsOn}
 use Rattle.lz_set.specs.Stages.{StepsUnfailed}
 
 abbrev pub invariant-loop : goal.invariant-loop

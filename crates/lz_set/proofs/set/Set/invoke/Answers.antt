@@ -2,7 +2,7 @@ use Rattle.lz_set.proofs.set.Set.invoke.Goals as goal
 use Rattle.std.proofs.Common.{None, ap}
 use Rattle.lz_machine.specs.{declared.kind.Kind.TheVariants.{Sync}, Orders.{Calling}}
 use Rattle.lz_board.specs.Seats.{part}
-use Rattle.lz_tie.specs.Holds.{begins_with}
+use Rattle.lz_refinement.specs.Holds.{begins_with}
 use Rattle.lz_set.{specs.Stages.{kind_of_step}, proofs.Plays.{begins_otherwise, call_without, one_without, plays_one, without_then}}
 
 pub returns-clause-counts : goal.returns-clause-counts

@@ -1,8 +1,8 @@
 use Rattle.lz_set.proofs.set.Set.load.Goals as goal
 use Rattle.std.proofs.Common.{refl, sym, ◌∙◌, subst}
 use Rattle.lz_board.specs.Seats.{BoardId, IsOf, part}
-use Rattle.lz_caller.specs.Walking.{with_look}
-use Rattle.lz_tie.specs.Counting.{CountsOn, IsCounted}
+use Rattle.lz_yard.specs.Walking.{with_look}
+use Rattle.lz_refinement.specs.Counting.{CountsOn, IsCounted}
 
 pub load_next-requires-clause-counted : goal.load_next-requires-clause-counted
 load_next-requires-clause-counted g c = subst (λ (b : BoardId). IsCounted b c.args.caller.now (part c.args.pass.now)) (sym c.args.self.now.named) c.requires.counted

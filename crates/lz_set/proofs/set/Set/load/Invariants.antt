@@ -1,8 +1,8 @@
 use Rattle.lz_set.proofs.set.Set.load.Given as goal
 use Rattle.std.proofs.Common.{◌≡◌, Some}
 use Rattle.lz_board.specs.Seats.{IsOf, part}
-use Rattle.lz_caller.specs.Walking.{walk_of, with_look}
-use Rattle.lz_tie.specs.Counting.{CountsOn}
+use Rattle.lz_yard.specs.Walking.{walk_of, with_look}
+use Rattle.lz_refinement.specs.Counting.{CountsOn}
 
 abbrev pub invariant-loop : goal.invariant-loop
 invariant-loop g l = record {

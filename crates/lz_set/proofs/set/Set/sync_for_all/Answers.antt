@@ -2,7 +2,7 @@ use Rattle.lz_set.proofs.set.Set.sync_for_all.Goals as goal
 use Rattle.std.proofs.Common.{subst}
 use Rattle.lz_machine.specs.Orders.{Calling}
 use Rattle.lz_board.specs.Seats.{part}
-use Rattle.lz_tie.specs.Counting.{CountsOn}
+use Rattle.lz_refinement.specs.Counting.{CountsOn}
 
 pub returns-clause-counts : goal.returns-clause-counts
 returns-clause-counts g c =

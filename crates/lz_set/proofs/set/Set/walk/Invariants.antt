@@ -2,7 +2,7 @@ use Rattle.lz_set.proofs.set.Set.walk.Given as goal
 use Rattle.std.proofs.Common.{◌≡◌}
 use Rattle.lz_machine.specs.{declared.event.Event.TheVariants.{Hop}, Calls.{event_at}, Orders.{shape_with}}
 use Rattle.lz_board.specs.Seats.{IsOf, part}
-use Rattle.lz_tie.specs.Counting.{CountsOn}
+use Rattle.lz_refinement.specs.Counting.{CountsOn}
 
 abbrev pub invariant-loop : goal.invariant-loop
 invariant-loop g l = record {

@@ -1,0 +1,147 @@
+"""The Python client's connection to a service that speaks Redis's protocol."""
+
+from __future__ import annotations
+
+import os
+import socket
+import threading
+from typing import List
+
+import lazyset
+from lazyset import Command, RespKeys
+from lazyset.resp import PAGE
+
+from .fake import AgainstAFake, answers
+from .service import AgainstTheProgram
+
+BY_REDIS = ("--connections", "10", "--resp")
+
+
+class ByRedisProtocol(AgainstTheProgram):
+    slots = 2
+    options = BY_REDIS
+
+    def test_a_set_of_keys(self) -> None:
+        with RespKeys(self.service.port) as keys:
+            self.assertFalse(keys.has(17))
+            self.assertTrue(keys.add(17))
+            self.assertFalse(keys.add(17))
+            self.assertTrue(keys.has(17))
+            self.assertFalse(keys.has(17, room=15))
+            self.assertTrue(keys.remove(17))
+            self.assertFalse(keys.remove(17))
+
+    def test_full_changes_nothing_and_names_its_command(self) -> None:
+        with RespKeys(self.service.port) as keys:
+            self.assertTrue(keys.add(1) and keys.add(2))
+            with self.assertRaises(lazyset.Full) as caught:
+                keys.add(3, room=1)
+            self.assertEqual(caught.exception.command, Command.add(3, room=1))
+            self.assertFalse(keys.has(3, room=1))
+
+    def test_a_path_in_place_of_a_port(self) -> None:
+        path = os.path.join(self.service.folder, "s")
+        self.service.kill()
+        self.service.start_at(path)
+        with RespKeys(path) as keys:
+            self.assertTrue(keys.add(17))
+        self.service.kill()
+        with self.assertRaises(lazyset.NoConnection):
+            RespKeys(path)
+        self.service.start()
+
+    def test_an_answer_lasts_over_a_kill(self) -> None:
+        keys = RespKeys(self.service.port)
+        self.addCleanup(keys.close)
+        self.assertTrue(keys.add(17))
+        self.service.kill()
+        with self.assertRaises(lazyset.LostConnection) as caught:
+            keys.has(17)
+        self.assertEqual(caught.exception.command, Command.has(17))
+        self.service.start(self.service.port)
+        with self.assertRaises(lazyset.Closed):
+            keys.has(17)
+        keys.reconnect()
+        self.assertTrue(keys.has(17))
+
+    def test_what_is_no_key(self) -> None:
+        with RespKeys(self.service.port) as keys:
+            with self.assertRaises(ValueError):
+                keys.add(-1)
+            with self.assertRaises(ValueError):
+                keys.remove_all([1] * (PAGE + 1))
+            with self.assertRaises(ValueError):
+                list(keys.pages(16))
+            self.assertEqual(keys.remove_all([]), 0)
+            self.assertFalse(keys.has(17))
+
+
+class Rooms(AgainstTheProgram):
+    slots = 5000
+    options = BY_REDIS
+
+    def test_the_members_of_a_room(self) -> None:
+        with RespKeys(self.service.port) as keys:
+            for number in range(600):
+                keys.add(number, room=number % 2 * 7)
+            pages = list(keys.pages(7))
+            self.assertEqual(sorted(sum(pages, [])), list(range(1, 600, 2)))
+            self.assertEqual([keys.remove_all(page, 7) for page in pages], [len(page) for page in pages])
+            self.assertEqual(sum(keys.pages(7), []), [])
+            self.assertEqual(len(sum(keys.pages(0), [])), 300)
+
+    def test_eight_threads_share_one_connection(self) -> None:
+        told: List[bool] = []
+        with RespKeys(self.service.port) as keys:
+
+            def add_all() -> None:
+                told.extend([keys.add(number) for number in range(100)])
+
+            threads = [threading.Thread(target=add_all) for _ in range(8)]
+            for thread in threads:
+                thread.start()
+            for thread in threads:
+                thread.join()
+        self.assertEqual((told.count(True), told.count(False)), (100, 700))
+
+
+class Answers(AgainstAFake):
+    def raised(self, replies: bytes, timeout: float = 20) -> lazyset.LazysetError:
+        """What a call raises that is answered so. The connection is closed after it."""
+        keys = RespKeys(self.fake(answers(replies)).port, timeout=timeout)
+        with self.assertRaises(lazyset.LazysetError) as caught:
+            keys.has(1)
+        with self.assertRaises(lazyset.Closed):
+            keys.has(1)
+        return caught.exception
+
+    def test_what_is_no_reply(self) -> None:
+        for replies in (b"yes\r\n", b":x\r\n", b":-1\r\n", b"+OK\r\n", b"*1\r\n:1\r\n", b"$-1\r\n", b"-ERR unknown command\r\n"):
+            self.assertIs(type(self.raised(replies)), lazyset.BadReply, replies)
+
+    def test_replies_that_are_cut_off(self) -> None:
+        for replies in (b"", b":1", b":1\r", b"*2\r\n:1\r\n", b"$5\r\nhel"):
+            self.assertIs(type(self.raised(replies)), lazyset.LostConnection, replies)
+
+    def test_a_device_that_failed(self) -> None:
+        error = self.raised(b"-HALTED the device failed\r\n")
+        self.assertIs(type(error), lazyset.Halted)
+
+    def test_a_page_that_is_none(self) -> None:
+        for replies in (b":1\r\n", b"*1\r\n:1\r\n", b"*2\r\n:1\r\n*0\r\n", b"*2\r\n$1\r\n0\r\n*1\r\n$1\r\nx\r\n"):
+            with self.assertRaises(lazyset.BadReply):
+                list(RespKeys(self.fake(answers(replies)).port).pages(0))
+
+    def test_no_reply_in_time(self) -> None:
+        release = threading.Event()
+        self.addCleanup(release.set)
+
+        def is_silent(connection: socket.socket) -> None:
+            connection.recv(4096)
+            release.wait(20)
+
+        keys = RespKeys(self.fake(is_silent).port, timeout=0.2)
+        with self.assertRaises(lazyset.TimedOut):
+            keys.has(1)
+        with self.assertRaises(lazyset.Closed):
+            keys.has(1)

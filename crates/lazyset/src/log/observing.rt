@@ -1,0 +1,170 @@
+//! What a service tells its log as it goes on.
+use crate::identity::process;
+use crate::level::Level;
+use crate::log::{Log, Stoppable};
+use crate::watched::Watched;
+use lazyset_arguments::{MAJOR, MINOR};
+use lazyset_set_commands::format_number;
+use lz_proto::Reply;
+use lz_resp::Figures;
+use lz_serve::{Lack, Listener, Observer, Serving, Verb, close_listener};
+use std::io;
+use std::sync::Wait;
+use std::sync::atomic::Ordering;
+use std::time::Clock;
+
+impl<'a, R> Observer for Log<'a, R>
+where
+    R: Eprint + Clock + Wait + AllocGlobal,
+{
+    fn serving(&self, serving: Serving, listener: &Listener) {
+        if let Ok(same) = listener.try_clone() {
+            let _ = self.listener.set(self.rt, same);
+        }
+        let places = match serving.loops {
+            Some(loops) => loops.connections,
+            None => serving.passes,
+        };
+        self.places.store(places, Ordering::SeqCst);
+        let _ = self.serving.set(self.rt, serving);
+        self.gauge.begin(serving.slots, serving.members);
+        self.tell_opened();
+        let serving = Serving {
+            members: self.members(),
+            ..serving
+        };
+        self.say(Level::Info, format_args!("serving: {serving}"));
+        self.tell_lists(serving.members, serving.buckets);
+        self.around.ready.tell();
+        // It may have been asked before it had a listener.
+        if self.stops() {
+            close_listener(listener);
+        }
+    }
+
+    fn no_port(&self, error: io::Error) {
+        let file = self.file;
+        self.write(
+            Level::Error,
+            format_args!("lazyset: serve {file}: noport: {error}"),
+        );
+    }
+
+    fn unserved(&self, why: Lack) {
+        self.say(Level::Error, format_args!("it serves nobody: {why}"));
+    }
+
+    fn threadless(&self) {
+        if let Some(Serving { loops: Some(_), .. }) = self.serving.get() {
+            self.lacks_loop.store(true, Ordering::SeqCst);
+            if self.begin_end() {
+                self.say(
+                    Level::Error,
+                    "no thread can be made for a loop: the service ends",
+                );
+            }
+            return;
+        }
+        self.say(
+            Level::Warning,
+            format_args!(
+                "no thread can be made: the one that starts the others serves in its place"
+            ),
+        );
+    }
+
+    fn accepted(&self) {
+        self.sessions.fetch_add(1, Ordering::SeqCst);
+        self.guests.fetch_add(1, Ordering::SeqCst);
+        if let Some(change) = self.watched.as_ref().and_then(Watched::change)
+            && !self.was_changed.swap(true, Ordering::SeqCst)
+        {
+            self.say(
+                Level::Error,
+                format_args!("{change}: no further change is answered"),
+            );
+        }
+        self.tell_crowd();
+    }
+
+    fn crowded(&self) {
+        self.tell_crowd();
+    }
+
+    fn unaccepted(&self, error: io::Error) {
+        if !self.stops() && self.unaccepted.may(self.second()) {
+            self.say(
+                Level::Warning,
+                format_args!("no connection can be accepted: {error}"),
+            );
+        }
+    }
+
+    fn parted(&self) {
+        self.guests.fetch_sub(1, Ordering::SeqCst);
+    }
+
+    fn answered(&self, verb: Verb, reply: Reply, members: Option<usize>) {
+        self.tally.count(verb, reply);
+        match (verb, reply) {
+            (Verb::Add, Reply::Yes) => {
+                if let Some(share) = self.gauge.came(members) {
+                    let (members, slots) = (self.members(), self.gauge.slots());
+                    self.say(
+                        Level::Warning,
+                        format_args!("{share} % full: {members} members in {slots} slots"),
+                    );
+                }
+            }
+            (Verb::Remove, Reply::Yes) => self.gauge.left(members),
+            (_, Reply::Full) => {
+                if self.gauge.fills() {
+                    self.say(Level::Warning, "full: no slot was free for a new key");
+                }
+            }
+            _ => {}
+        }
+    }
+
+    fn figures(&self) -> Figures {
+        let (buckets, passes, loops) = self.shape();
+        Figures {
+            major: MAJOR,
+            minor: MINOR,
+            process: process(),
+            run: self.run,
+            seconds: self.seconds(),
+            stoppable: matches!(self.listener.get(), Some(Listener::Path(_))),
+            clients: self.guests.load(Ordering::SeqCst),
+            most_clients: self.places.load(Ordering::SeqCst),
+            sessions: self.sessions.load(Ordering::SeqCst),
+            answered: self.tally.all(),
+            adds: self.tally.adds(),
+            removes: self.tally.removes(),
+            lookups: self.tally.lookups(),
+            full: self.tally.full(),
+            format: format_number(self.format) as usize,
+            slots: self.gauge.slots(),
+            members: self.members(),
+            marks: self.marks(),
+            buckets,
+            passes,
+            loops,
+        }
+    }
+
+    fn shut_down(&self) {
+        self.stop();
+    }
+
+    fn halted(&self) {
+        self.say(
+            Level::Error,
+            "the device failed: nothing is answered until the file is opened again",
+        );
+    }
+
+    fn stops(&self) -> bool {
+        self.stops.load(Ordering::SeqCst)
+    }
+}

@@ -1,0 +1,376 @@
+//! What a command line asks for.
+ghost use Rattle.std.specs.Prelude.{◌≡◌, ◌≤◌, IfOk, IfSome};
+ghost use Rattle.lz_slot.specs.Limits.{most_buckets};
+ghost use Rattle.lazyset_arguments.specs.Requests.{ArePasses, AreWithin, IsWithin};
+
+use crate::command::{Listens, command_line};
+use crate::refusal::{Refusal, bad_passes, refusal_of, too_many_buckets, too_many_loops};
+use crate::values::{format_of, format_with_rooms, number, number_within, text};
+use crate::words::{ADOPT, SOCKET_ID, TEXT_ID};
+use clap::ArgMatches;
+use lz_resp::Naming;
+use lz_serve::{Language, Loops, MOST_CONNECTIONS, MOST_THREADS, ServeOptions};
+use lz_slot::{Format, MOST_BUCKETS, MOST_PASSES, MOST_REHEARSED};
+use std::alloc::{AllocError, Global};
+use std::fmt;
+
+/// A command, with its words.
+#[derive(Clone, Copy)]
+pub enum Request<'a> {
+    Make {
+        file: &'a str,
+        slots: u64,
+        format: Format,
+    },
+    /// A making of a file that holds the keys of standard input.
+    MakeKeys {
+        file: &'a str,
+        slots: u64,
+        format: Format,
+    },
+    Renew {
+        old: &'a str,
+        new: &'a str,
+        slots: u64,
+        format: Format,
+    },
+    /// A renewal into a new file that takes the old one's place.
+    Grow {
+        file: &'a str,
+        slots: u64,
+        /// Where none is named, that of the file, or the next one that has all rooms.
+        format: Option<Format>,
+    },
+    /// A making of a file that holds the keys of a running service.
+    Copy {
+        address: &'a str,
+        file: &'a str,
+        slots: u64,
+        format: Format,
+    },
+    Run {
+        file: &'a str,
+        buckets: usize,
+        /// It goes on where the file can't be locked.
+        no_lock: bool,
+    },
+    Serve {
+        file: &'a str,
+        options: ServeOptions,
+        /// It has as many buckets as the file has slots, or as many as its format allows, in place of those of its options.
+        is_spread: bool,
+        /// The path of the socket on which it listens, in place of a port.
+        socket: Option<&'a str>,
+        /// The path of the socket on which it is asked to stop.
+        control: Option<&'a str>,
+        /// It stops when standard input ends.
+        until_eof: bool,
+        /// It goes on where the file can't be locked.
+        no_lock: bool,
+        /// Its keys are taken for numbers, whatever the file says.
+        as_numbers: bool,
+        /// Its keys are texts, of a file from before there were marks of that.
+        adopts: bool,
+    },
+    /// Asks the service with this control socket to stop, and waits for its end, up to so many seconds.
+    Stop {
+        path: &'a str,
+        within: u64,
+    },
+    Info {
+        file: &'a str,
+    },
+    Check {
+        file: &'a str,
+        of: Option<&'a str>,
+    },
+    /// A check that prints the keys alone.
+    Keys {
+        file: &'a str,
+    },
+    Judge {
+        file: &'a str,
+    },
+    Rehearse {
+        slots: usize,
+        buckets: usize,
+        format: Format,
+    },
+}
+
+/// The command and the files that it names.
+impl fmt::Display for Request<'_> {
+    fn fmt<W: fmt::Write>(&self, f: &mut fmt::Formatter<W>) -> fmt::Result {
+        match *self {
+            Request::Make { file, .. } | Request::MakeKeys { file, .. } => write!(f, "make {file}"),
+            Request::Renew { old, new, .. } => write!(f, "renew {old} {new}"),
+            Request::Grow { file, .. } => write!(f, "grow {file}"),
+            Request::Copy { address, file, .. } => write!(f, "copy {address} {file}"),
+            Request::Run { file, .. } => write!(f, "run {file}"),
+            Request::Serve { file, .. } => write!(f, "serve {file}"),
+            Request::Stop { path, .. } => write!(f, "stop {path}"),
+            Request::Info { file } => write!(f, "info {file}"),
+            Request::Check { file, .. } | Request::Keys { file } => write!(f, "check {file}"),
+            Request::Judge { file } => write!(f, "judge {file}"),
+            Request::Rehearse { .. } => f.write_str("rehearse"),
+        }
+    }
+}
+
+/// What the words of a command line ask for, the first of which names the program.
+pub fn read<'a>(alloc: Global, words: &'a [String]) -> Result<Request<'a>, Refusal>
+    ensures { IfOk result IsWithin }
+{
+    let Ok(command) = command_line(alloc, Listens::of(words)) else {
+        return Err(Refusal::Memory(AllocError));
+    };
+    match command.try_get_matches_from(words) {
+        Ok(matches) => match request_of(&matches) {
+            Some(request) => Ok(request),
+            None => Err(misfit(alloc, &matches)),
+        },
+        Err(error) => Err(refusal_of(alloc, error)),
+    }
+}
+
+// The faults that the table of words doesn't show: a format has its own most buckets, loops may have more passes than there are
+// threads, and each loop needs a pass.
+fn misfit(alloc: Global, matches: &ArgMatches<'_>) -> Refusal {
+    if let Some((buckets, format)) = rehearsed(matches) {
+        return too_many_buckets(alloc, buckets, format);
+    }
+    match beyond(matches) {
+        Some((passes, most)) => bad_passes(alloc, passes, most),
+        None => too_many_loops(alloc),
+    }
+}
+
+// The buckets and the format of a rehearsal.
+fn rehearsed(matches: &ArgMatches<'_>) -> Option<(u64, Format)> {
+    match matches.subcommand()? {
+        ("rehearse", words) => Some((number(words, "buckets")?, format_of(words)?)),
+        _ => None,
+    }
+}
+
+// The passes of a service that can't have them, and how many it may have.
+fn beyond(matches: &ArgMatches<'_>) -> Option<(u64, usize)> {
+    let ("serve", words) = matches.subcommand()? else {
+        return None;
+    };
+    let most = match words.get_str("connections") {
+        Some(_) => MOST_PASSES,
+        None => MOST_THREADS,
+    };
+    match number_within(words, "PASSES", most) {
+        Some(_) => None,
+        None => Some((number(words, "PASSES")?, most)),
+    }
+}
+
+fn request_of<'a>(matches: &ArgMatches<'a>) -> Option<Request<'a>>
+    ensures { IfSome result IsWithin }
+{
+    match matches.subcommand()? {
+        ("make", words) => make(words),
+        ("renew", words) => renew(words),
+        ("grow", words) => grow(words),
+        ("copy", words) => copy(words),
+        ("stop", words) => stop(words),
+        ("info", words) => info(words),
+        ("check", words) => check(words),
+        ("judge", words) => judge(words),
+        ("rehearse", words) => rehearse(words),
+        ("serve", words) => serve(words),
+        (_, words) => run(words),
+    }
+}
+
+fn make<'a>(words: &ArgMatches<'a>) -> Option<Request<'a>>
+    ensures { IfSome result IsWithin }
+{
+    let file = text(words, "FILE")?;
+    let slots = number(words, "SLOTS")?;
+    let format = format_of(words)?;
+    Some(if words.get_flag("keys") {
+        Request::MakeKeys {
+            file,
+            slots,
+            format,
+        }
+    } else {
+        Request::Make {
+            file,
+            slots,
+            format,
+        }
+    })
+}
+
+fn renew<'a>(words: &ArgMatches<'a>) -> Option<Request<'a>>
+    ensures { IfSome result IsWithin }
+{
+    Some(Request::Renew {
+        old: text(words, "OLD")?,
+        new: text(words, "NEW")?,
+        slots: number(words, "SLOTS")?,
+        format: format_with_rooms(words)?,
+    })
+}
+
+fn grow<'a>(words: &ArgMatches<'a>) -> Option<Request<'a>>
+    ensures { IfSome result IsWithin }
+{
+    let format = match number(words, "format") {
+        Some(_) => Some(format_with_rooms(words)?),
+        None => None,
+    };
+    Some(Request::Grow {
+        file: text(words, "FILE")?,
+        slots: number(words, "SLOTS")?,
+        format,
+    })
+}
+
+fn copy<'a>(words: &ArgMatches<'a>) -> Option<Request<'a>>
+    ensures { IfSome result IsWithin }
+{
+    let format = format_with_rooms(words)?;
+    Some(Request::Copy {
+        address: text(words, "ADDRESS")?,
+        file: text(words, "NEW")?,
+        slots: number(words, "SLOTS")?,
+        format,
+    })
+}
+
+fn run<'a>(words: &ArgMatches<'a>) -> Option<Request<'a>>
+    ensures { IfSome result IsWithin }
+{
+    let buckets = number_within(words, "buckets", MOST_BUCKETS)?;
+    Some(Request::Run {
+        file: text(words, "FILE")?,
+        buckets,
+        no_lock: words.get_flag("no-lock"),
+    })
+}
+
+fn serve<'a>(words: &ArgMatches<'a>) -> Option<Request<'a>>
+    ensures { IfSome result IsWithin }
+{
+    let options = serve_options(words)?;
+    Some(Request::Serve {
+        file: text(words, "FILE")?,
+        options,
+        is_spread: options.loops.is_some() && words.get_str("buckets").is_none(),
+        socket: text(words, SOCKET_ID),
+        control: text(words, "control"),
+        until_eof: words.get_flag("until-eof"),
+        no_lock: words.get_flag("no-lock"),
+        as_numbers: words.get_flag("numbers"),
+        adopts: words.get_str(TEXT_ID) == Some(ADOPT),
+    })
+}
+
+fn stop<'a>(words: &ArgMatches<'a>) -> Option<Request<'a>>
+    ensures { IfSome result IsWithin }
+{
+    Some(Request::Stop {
+        path: text(words, "PATH")?,
+        within: number(words, "within")?,
+    })
+}
+
+// How the command line asks to serve.
+fn serve_options(matches: &ArgMatches<'_>) -> Option<ServeOptions>
+    ensures passes { IfSome result ArePasses }
+    ensures buckets { IfSome result (λ options. (1 ≤ options.buckets) × (options.buckets ≤ most_buckets)) }
+    ensures loops { IfSome result (λ options. IfSome options.loops (AreWithin options.passes)) }
+{
+    let port = match matches.get_str(SOCKET_ID) {
+        Some(_) => 0,
+        None => u16::try_from(number(matches, "PORT")?).ok()?,
+    };
+    let buckets = match matches.get_str("buckets") {
+        Some(_) => number_within(matches, "buckets", MOST_BUCKETS)?,
+        None => 1,
+    };
+    let (passes, loops) = match matches.get_str("connections") {
+        Some(_) => {
+            let passes = number_within(matches, "PASSES", MOST_PASSES)?;
+            (passes, Some(loops_of(matches, passes)?))
+        }
+        None => (number_within(matches, "PASSES", MOST_THREADS)?, None),
+    };
+    Some(ServeOptions {
+        port,
+        passes,
+        loops,
+        sessions: number(matches, "sessions")?,
+        buckets,
+        idle: number(matches, "idle")?,
+    })
+}
+
+// The loops that the command line asks for, each of which needs a thread, a pass and a connection.
+fn loops_of(matches: &ArgMatches<'_>, passes: usize) -> Option<Loops>
+    requires { 1 ≤ passes }
+    ensures { IfSome result (AreWithin passes) }
+{
+    let connections = number_within(matches, "connections", MOST_CONNECTIONS)?;
+    let count = match matches.get_str("loops") {
+        Some(_) => number_within(matches, "loops", passes.min(MOST_THREADS))?,
+        None => 1,
+    };
+    let language = match (matches.get_flag("resp"), matches.contains_id(TEXT_ID)) {
+        (true, true) => Language::Frames(Naming::Texts),
+        (true, false) => Language::Frames(Naming::Rooms),
+        (false, _) => Language::Lines,
+    };
+    Some(Loops {
+        count: count.min(connections),
+        connections,
+        language,
+    })
+}
+
+fn info<'a>(words: &ArgMatches<'a>) -> Option<Request<'a>>
+    ensures { IfSome result IsWithin }
+{
+    Some(Request::Info {
+        file: text(words, "FILE")?,
+    })
+}
+
+fn check<'a>(words: &ArgMatches<'a>) -> Option<Request<'a>>
+    ensures { IfSome result IsWithin }
+{
+    let file = text(words, "FILE")?;
+    Some(if words.get_flag("keys") {
+        Request::Keys { file }
+    } else {
+        let of = text(words, "of");
+        Request::Check { file, of }
+    })
+}
+
+fn judge<'a>(words: &ArgMatches<'a>) -> Option<Request<'a>>
+    ensures { IfSome result IsWithin }
+{
+    Some(Request::Judge {
+        file: text(words, "FILE")?,
+    })
+}
+
+fn rehearse<'a>(words: &ArgMatches<'a>) -> Option<Request<'a>>
+    ensures { IfSome result IsWithin }
+{
+    let slots = number_within(words, "SLOTS", MOST_REHEARSED)?;
+    let format = format_of(words)?;
+    let buckets = number_within(words, "buckets", format.most_buckets())?;
+    Some(Request::Rehearse {
+        slots,
+        buckets,
+        format,
+    })
+}

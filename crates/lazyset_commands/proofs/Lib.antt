@@ -1,6 +1,0 @@
-pub mod Openings
-pub mod Runs
-pub mod Services
-pub mod RunRows
-pub mod LifeRows
-pub mod ServiceRows

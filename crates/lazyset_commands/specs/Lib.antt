@@ -1,3 +1,0 @@
-pub mod PlainReplies
-pub mod Runs
-pub mod Services

@@ -1,0 +1,11 @@
+use Rattle.lazyset_file_commands.proofs.list.read_list.Given as goal
+use Rattle.std.{proofs.Common.{◌≡◌, ◌<◌, length}, specs.Prelude.{IfSome}}
+use Rattle.lazyset_file_commands.{specs.ListParts.{IsOpenList}, proofs.ListPieces.{IsLeftOf}}
+
+abbrev pub invariant-pieces : goal.invariant-pieces
+invariant-pieces g l = record {
+  kept : IsOpenList l.list;
+  same : l.list.format ≡ l.fn.format;
+  room : 0 < length l.piece;
+  read : IfSome (g.R.Read.remaining l.initial.reader) (IsLeftOf l.list (g.R.Read.remaining l.reader));
+}

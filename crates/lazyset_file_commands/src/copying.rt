@@ -1,0 +1,121 @@
+//! The command that makes a file of the keys that a running service tells.
+ghost use Rattle.std.specs.Prelude.{◌≡◌, ◌↔◌, ◌≤◌, ℕ, Result as Answer, Err, IfErr, IfOk, IsErrOf, IsTrue};
+ghost use Rattle.lz_slot.specs.Limits.{last_room};
+ghost use Rattle.lz_slot.specs.Rooms.{last_room_of};
+ghost use Rattle.lz_vault.specs.Makes.{IsBadCount, MayBeMade, WritesNothing};
+ghost use Rattle.lazyset_file_commands.specs.Copies.{IsCopy, IsCopyFaultOf, IsToldFirst, LeavesCopy, MakesCopy, copy_status, copy_text, scan_status, scan_text};
+ghost use Rattle.lazyset_file_commands.specs.Tellings.{Tells};
+
+use crate::listing::tell_too_many;
+use crate::making::tell_fault;
+use crate::refusal::send_line;
+use crate::status::Status;
+use crate::telling::{NO_MEMORY, NO_READ, status_sent, tell};
+use lz_disk::Disk;
+use lz_scan_client::{ScanFault, scan_rooms};
+use lz_slot::Format;
+use lz_vault::{MakeFault, make_with};
+use std::alloc::Global;
+use std::io::{Read, Write};
+
+// What is said of a reply that is no page of keys.
+const NO_REPLY: &[u8] = b"noreply\n";
+
+/// Why no copy was made.
+#[derive(Clone, Copy)]
+pub enum CopyFault {
+    OfScan(ScanFault),
+    /// There are so many keys, and the file would have only so many slots.
+    TooMany(u64, u64),
+    OfMaking(MakeFault),
+}
+
+/// Makes a file of this format with so many slots, of which the first hold the keys that a service tells to a scan of all its rooms, and
+/// says so: `copied M`, or why not, by the first of these: `refused 2` where no file has so many slots, before anything is asked;
+/// `noread` where the connection failed or ended, `noreply` where a reply is no page of keys; `refused 9 M S` where M keys have no room
+/// in S slots; and `refused N` with the fault of a making. Failed where a device failed or the connection did, or there was no
+/// memory, with `nomemory`, and where the line could not be written. The connection is one that is read from and asked over.
+pub fn copy_on<R: Read, A: Write, W: Write + Drop, D: Disk>(
+    alloc: Global,
+    reader: &mut R,
+    asker: &mut A,
+    writer: &mut W,
+    disk: &mut D,
+    slots: u64,
+    format: Format,
+) -> Status
+    requires rooms { last_room_of format ≡ last_room }
+    ensures told { (answer : Answer ℕ CopyFault)
+        × IsCopy format slots (record { input = R.remaining reader.old; before = A.contents asker.old; after = A.contents asker.new }) (D.device disk.old) (D.device disk.new) answer
+        × IfErr answer (λ fault. IsToldFirst fault → disk.new ≡ disk.old)
+        × Tells (W.contents writer.old) (W.contents writer.new) (copy_text answer) (copy_status answer) result }
+    ensures uncalled { IsBadCount format slots → (reader.new ≡ reader.old) × (asker.new ≡ asker.old) × (disk.new ≡ disk.old) }
+    ensures safe { IsTrue (D.device disk.old).honest → (MayBeMade (D.device disk.old).medium.seen slots → ⊥) → WritesNothing (D.device disk.old) (D.device disk.new) }
+    ensures any_moment { IsTrue (D.device disk.old).honest
+        → LeavesCopy format slots (record { input = R.remaining reader.old; before = A.contents asker.old; after = A.contents asker.new }) (D.device disk.old) (D.device disk.new) }
+    ensures faults { (D.device disk.old).faults ≤ (D.device disk.new).faults }
+    ensures honest { (D.device disk.new).honest ≡ (D.device disk.old).honest }
+{
+    let answer = make_copy(alloc, reader, asker, disk, slots, format);
+    tell_answer(writer, answer)
+}
+
+// Makes the file, and gives the number of its keys.
+fn make_copy<R: Read, A: Write, D: Disk>(
+    alloc: Global,
+    reader: &mut R,
+    asker: &mut A,
+    disk: &mut D,
+    slots: u64,
+    format: Format,
+) -> Result<u64, CopyFault>
+    requires rooms { last_room_of format ≡ last_room }
+    ensures made { IfOk result (MakesCopy format slots (record { input = R.remaining reader.old; before = A.contents asker.old; after = A.contents asker.new }) (D.device disk.old) (D.device disk.new)) }
+    ensures refused { IfErr result (IsCopyFaultOf format slots (record { input = R.remaining reader.old; before = A.contents asker.old; after = A.contents asker.new }) (D.device disk.old) (D.device disk.new)) }
+    ensures count { IsErrOf result (CopyFault.OfMaking MakeFault.BadCount) ↔ IsBadCount format slots }
+    ensures unread { IsBadCount format slots → (reader.new ≡ reader.old) × (asker.new ≡ asker.old) }
+    ensures untouched { IfErr result (λ fault. IsToldFirst fault → disk.new ≡ disk.old) }
+    ensures safe { IsTrue (D.device disk.old).honest → (MayBeMade (D.device disk.old).medium.seen slots → ⊥) → WritesNothing (D.device disk.old) (D.device disk.new) }
+    ensures any_moment { IsTrue (D.device disk.old).honest
+        → LeavesCopy format slots (record { input = R.remaining reader.old; before = A.contents asker.old; after = A.contents asker.new }) (D.device disk.old) (D.device disk.new) }
+    ensures faults { (D.device disk.old).faults ≤ (D.device disk.new).faults }
+    ensures honest { (D.device disk.new).honest ≡ (D.device disk.old).honest }
+{
+    if slots == 0 || slots > format.most_slots() {
+        return Err(CopyFault::OfMaking(MakeFault::BadCount));
+    }
+    let keys = match scan_rooms(alloc, reader, asker) {
+        Ok(keys) => keys,
+        Err(fault) => return Err(CopyFault::OfScan(fault)),
+    };
+    let count = keys.len() as u64;
+    if slots < count {
+        return Err(CopyFault::TooMany(count, slots));
+    }
+    match make_with(disk, format, slots, &keys) {
+        Ok(()) => Ok(count),
+        Err(fault) => Err(CopyFault::OfMaking(fault)),
+    }
+}
+
+// Says how a copy went.
+fn tell_answer<W: Write + Drop>(writer: &mut W, answer: Result<u64, CopyFault>) -> Status
+    ensures { Tells (W.contents writer.old) (W.contents writer.new) (copy_text answer) (copy_status answer) result }
+{
+    match answer {
+        Ok(keys) => status_sent(send_line(writer, b"copied ", keys), Status::Done),
+        Err(CopyFault::OfScan(fault)) => tell_scan_fault(writer, fault),
+        Err(CopyFault::TooMany(count, room)) => tell_too_many(writer, count, room),
+        Err(CopyFault::OfMaking(fault)) => tell_fault(writer, fault),
+    }
+}
+
+fn tell_scan_fault<W: Write + Drop>(writer: &mut W, fault: ScanFault) -> Status
+    ensures { Tells (W.contents writer.old) (W.contents writer.new) (scan_text fault) (scan_status fault) result }
+{
+    match fault {
+        ScanFault::Connection => tell(writer, Status::Failed, NO_READ),
+        ScanFault::Reply => tell(writer, Status::Refused, NO_REPLY),
+        ScanFault::Memory => tell(writer, Status::Failed, NO_MEMORY),
+    }
+}

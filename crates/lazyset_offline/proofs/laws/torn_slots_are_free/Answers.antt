@@ -1,5 +1,0 @@
-use Rattle.lazyset_offline.proofs.TornFree as proved
-use Rattle.lazyset_offline.proofs.laws.torn_slots_are_free.Goals as goal
-
-pub returns : goal.returns
-returns c = proved.torn_are_free

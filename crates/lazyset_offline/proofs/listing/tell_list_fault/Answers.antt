@@ -1,4 +1,0 @@
-use Rattle.lazyset_offline.proofs.listing.tell_list_fault.Goals as goal
-
-pub returns-in-Memory : goal.returns-in-Memory
-returns-in-Memory g c = rw c.in-Memory.is c.tell-in-Memory.ensures.tells

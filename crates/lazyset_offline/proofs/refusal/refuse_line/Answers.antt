@@ -1,5 +1,0 @@
-use Rattle.lazyset_offline.proofs.refusal.refuse_line.Goals as goal
-use Rattle.lazyset_offline.{specs.declared.status.Status.TheVariants.{Refused}, proofs.SentTexts.{sent_tells}}
-
-pub returns : goal.returns
-returns g c = rw c.status_sent.ensures (sent_tells _ _ _ Refused c.send_line.result c.send_line.ensures)

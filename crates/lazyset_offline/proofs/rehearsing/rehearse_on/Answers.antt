@@ -1,5 +1,0 @@
-use Rattle.lazyset_offline.proofs.rehearsing.rehearse_on.Goals as goal
-use Rattle.std.proofs.Common.{inr}
-
-pub returns-in-Err-Memory-clause-told : goal.returns-in-Err-Memory-clause-told
-returns-in-Err-Memory-clause-told g c = inr (inr (inr c.tell-in-Err-Memory.ensures.tells))

@@ -1,4 +1,0 @@
-use Rattle.lazyset_offline.proofs.rehearsing.tell_fault.Goals as goal
-
-pub returns-in-Memory : goal.returns-in-Memory
-returns-in-Memory g c = rw c.in-Memory.is c.tell.ensures.tells

@@ -1,0 +1,9 @@
+pub mod FoundKeys
+pub mod MarkedSets
+pub mod Openings
+pub mod Reopened
+pub mod Runs
+pub mod Services
+pub mod RunRows
+pub mod LifeRows
+pub mod ServiceRows

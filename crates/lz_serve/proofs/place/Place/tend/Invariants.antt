@@ -1,5 +1,0 @@
-use Rattle.lz_serve.proofs.place.Place.tend.Given as goal
-use Rattle.lz_serve.specs.Clients.{KeepsLines}
-
-abbrev pub invariant-loop : goal.invariant-loop
-invariant-loop g l = KeepsLines l.initial.client l.client

@@ -1,5 +1,0 @@
-use Rattle.lz_tie.proofs.history.answers_are_told.Goals as goal
-use Rattle.lz_tie.proofs.Marks.ToldCalls.{answers_told}
-
-pub returns : goal.returns
-returns c = answers_told

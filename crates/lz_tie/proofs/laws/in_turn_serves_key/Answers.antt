@@ -1,5 +1,0 @@
-use Rattle.lz_tie.proofs.laws.in_turn_serves_key.Goals as goal
-use Rattle.lz_tie.proofs.Replies.LoneClient.{in_turn_serves}
-
-pub returns : goal.returns
-returns c = in_turn_serves

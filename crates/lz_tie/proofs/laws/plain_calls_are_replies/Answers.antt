@@ -1,5 +1,0 @@
-use Rattle.lz_tie.proofs.laws.plain_calls_are_replies.Goals as goal
-use Rattle.lz_tie.proofs.Replies.KeyByKey.{plain_replies}
-
-pub returns : goal.returns
-returns c = plain_replies

@@ -1,5 +1,0 @@
-use Rattle.lz_tie.proofs.laws.session_is_held.Goals as goal
-use Rattle.lz_tie.proofs.Sessions.SessionEnd.{session_is_held as session_is_held_law}
-
-pub returns : goal.returns
-returns c = session_is_held_law

@@ -1,5 +1,0 @@
-use Rattle.lz_tie.proofs.laws.turns_serve_key.Goals as goal
-use Rattle.lz_tie.proofs.Replies.LoneClient.{serve}
-
-pub returns : goal.returns
-returns c = serve

@@ -1,4 +1,0 @@
-use Rattle.lz_tie.proofs.playing.stamp.Given as goal
-
-abbrev pub ghost-new : goal.ghost-new
-ghost-new g a = g.moment

@@ -1,5 +1,0 @@
-use Rattle.test_drill_calls.proofs.sets.drill.Given as goal
-use Rattle.lz_disk.specs.Records.{device_of}
-
-abbrev pub ghosts-ask : goal.ghosts-ask
-ghosts-ask g a = record { board = a.blank.board; first = device_of a.blank.disk; format = a.blank.yard.vault.format }
