@@ -1,4 +1,4 @@
-use Rattle.lz_serve.proofs.workers.fn.serve_by.scope.Given as goal
+use Rattle.lz_serve.proofs.workers.fn.serve_shares.scope.Given as goal
 use Rattle.std.specs.{Prelude.{◌≡◌, ◌+◌, ◌≤◌, vec_capacity, vec_items, vec_len}, Vec.Iter.{into_iter_len}}
 use Rattle.lz_serve.specs.Promised.{promised}
 

@@ -1,4 +1,4 @@
-use Rattle.lz_serve.proofs.workers.fn.serve_by.scope.Goals as goal
+use Rattle.lz_serve.proofs.workers.fn.serve_shares.scope.Goals as goal
 use Rattle.std.proofs.Common.{rules, ap, ◌∙◌, arith}
 use Rattle.lz_serve.{specs.{declared.shares.HandsBack.{HandsBack}, Promised.{promised}}, proofs.RunningLoops.{one_more}}
 
