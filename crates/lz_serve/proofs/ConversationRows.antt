@@ -10,8 +10,8 @@ use Rattle.lz_proto.specs.declared.{item.Item.TheVariants.{Asks, Faulty}, reply.
 use Rattle.lz_proto.{specs.{declared.end.End.{End}, Lines.{line, nothing}, Pieces.{Reads}, Sessions.{Serves, session_text}}, proofs.LineReads.{item_read}}
 use Rattle.lz_proto.proofs.Texts.{only}
 use Rattle.lz_board.specs.declared.pass.Pass.{Pass}
-use Rattle.lz_serve.specs.declared.{line.Line.{Line}, language.Language.TheVariants.{Lines, Frames}, turn.Turn.{Turn, TheVariants.{Asks as asks, Says as says}}}
-use Rattle.lz_serve.specs.{Grants.{Grant, IsOfLine, key_asked}, Lines.{IsFree, awaited}, Listings.{Listing}, Exchanges.{CameFrom, Exchange}}
+use Rattle.lz_serve.specs.declared.{line.Line.{Line}, language.Language.{Language, TheVariants.{Lines, Frames}}, turn.Turn.{Turn, TheVariants.{Asks as asks, Says as says}}}
+use Rattle.lz_serve.specs.{Grants.{Grant, IsOfLine, key_asked}, Lines.{IsFree, awaited}, Listings.{Listing}, Exchanges.{CameFrom, Exchange, read_as}}
 use Rattle.lz_serve.specs.{Conversations.{AreTold, IsAt, IsTold, Rests, Talk, more, nothing as none_told}, LineSessions.{IsGranted, IsSession}}
 use Rattle.lz_serve.proofs.LineSessions.{lines_are_sessions}
 use Rattle.lz_resp.specs.declared.{form.Form.TheVariants.{Added}, naming.Naming.{Naming}}
@@ -117,7 +117,7 @@ not_as_frames : (naming : Naming) (text : List ℕ) (exchanges : List Exchange) 
 not_as_frames naming text exchanges came = let apart = came.0 in cc
 
 session : (grants : List Grant) (text : List ℕ) (t : Talk) → t.spoken ≡ Lines → IsAt any 1 grants text [] t → IsSession 1 grants text [] t
-session grants text t spoken at = lines_are_sessions any 1 grants text [] t spoken at
+session grants text t spoken at = lines_are_sessions any 1 grants text [] t (ap (λ (l : Language). read_as l text) spoken) at
 
 -- lines that ended have these items alone
 only_items : (text : List ℕ) (all done left : List Item) → Reads text all (Some []) → Reads text (done ++ left) (Some []) → length left ≡ 0 → done ≡ all

@@ -29,6 +29,8 @@ pub mod TurnRows
 pub mod OwnLines
 pub mod OwnLinesRows
 pub mod ExchangesMore
+pub mod Languages
+pub mod LanguageRows
 pub mod Standings
 pub mod LineSessions
 pub mod TalksOnStreams

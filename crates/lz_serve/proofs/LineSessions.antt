@@ -8,8 +8,8 @@ use Rattle.lz_proto.specs.declared.{request.Request.{Request, TheVariants.{Add, 
 use Rattle.lz_proto.specs.{declared.{reply.Reply.{Reply}, end.End.{End}}, Sessions.{Answered, reply_text}, Steps.{end_after}}
 use Rattle.lz_proto.proofs.Serving.{answered_more, fault_answered, request_answered}
 use Rattle.lz_serve.specs.declared.{language.Language.{Language}, reader.Reader.{Reader}, turn.{Wording.TheVariants.{Line}, Turn.{Turn}}}
-use Rattle.lz_serve.specs.{Exchanges.{CameFrom, Exchange, asks, end_by, of_line, turn_of}, Conversations.{AreTold, IsTold, more, nothing}, Grants.{Grant}}
-use Rattle.lz_serve.specs.{Listings.{Listing}, LineSessions.{IsGranted, LinesAreSessions, LinesCame}}
+use Rattle.lz_serve.specs.{Exchanges.{CameFrom, CameOfAll, Exchange, asks, end_by, of_line, read_as, turn_of}, Conversations.{AreTold, IsTold, more, nothing}, Grants.{Grant}}
+use Rattle.lz_serve.{specs.{Listings.{Listing}, LineSessions.{IsGranted, LinesAreSessions, LinesCame}}, proofs.Languages.{untold_yet}}
 
 -- the items of a front of exchanges
 record Fronts (items : List Item) (xs ys : List Exchange) : Type 0 where
@@ -81,14 +81,17 @@ length_map : {A B : Type 0} (f : A → B) (l : List A) → length l ≡ length (
 length_map f [] = refl
 length_map f (x ∷ l) = ap (λ (n : ℕ). suc n) (length_map f l)
 
-lines_came : (text : List ℕ) (exchanges : List Exchange) (r : Option Reader) → CameFrom language.Lines text exchanges r → (items : List Item) × LinesCame text items r × (exchanges ≡ map of_line items)
-lines_came text exchanges (Some (reader.Lines kept)) came = came.1
-lines_came text exchanges (Some (reader.Frames place)) came = absurd (let apart = came.1 in cc)
-lines_came text exchanges None came = came
+lines_came : (spoken : Language) (text : List ℕ) (exchanges : List Exchange) (r : Option Reader) → read_as spoken text ≡ language.Lines → CameFrom spoken text exchanges r → (items : List Item) × LinesCame text items r × (exchanges ≡ map of_line items)
+lines_came spoken text exchanges (Some (reader.Lines kept)) lines came = came.1
+lines_came spoken text exchanges (Some (reader.Frames place)) lines came =
+    let apart : ◌≡◌ {A = Language} language.Lines (language.Frames came.0) = sym lines ∙ came.1 in absurd (cc)
+lines_came spoken text exchanges (Some (reader.Unread naming)) lines came =
+    let apart : ◌≡◌ {A = Language} language.Lines (language.Either naming) = sym lines ∙ untold_yet spoken naming text came.0 came.1 in absurd (cc)
+lines_came spoken text exchanges None lines came = subst (λ (l : Language). CameOfAll l text exchanges) lines came
 
 pub lines_are_sessions : (L : Listing → Type 0) → LinesAreSessions L
-lines_are_sessions L connection grants text sent t spoken at =
-    let came = lines_came text (at.done ++ at.left) t.reader (subst (λ (l : Language). CameFrom l text (at.done ++ at.left) t.reader) spoken at.came) in
+lines_are_sessions L connection grants text sent t lines at =
+    let came = lines_came t.spoken text (at.done ++ at.left) t.reader lines at.came in
     let f = fronts came.0 at.done at.left (sym came.2) in
     record {
       done = f.front;
