@@ -8,7 +8,8 @@ use Rattle.lz_disk.{specs.{Images.{Medium, synced}, Devices.{Device, IsCall, IsT
 use Rattle.lz_vault.specs.{Opens.{IsRefusedFor}, Renewals.{OnlySyncs}, Scans.{OnlyReads}, Vaults.{LeavesEither}, declared.opening.OpenFault.TheVariants.{Device as DeviceFailed, Memory}}
 use Rattle.lz_vault.proofs.Openings.{call_reads, read_before, refused}
 use Rattle.lz_slot.proofs.Files.ExactBytes.{header_reads_back}
-use Rattle.lazyset_set_commands.specs.{Founds.{HasNoForeign, IsFoundOf, found_below, is_foreign, texts_mark, with_slot}, declared.found.Found.{Found}}
+use Rattle.lazyset_file_commands.specs.Marks.{texts_mark}
+use Rattle.lazyset_set_commands.specs.{Founds.{HasNoForeign, IsFoundOf, found_below, is_foreign, with_slot}, declared.found.Found.{Found}}
 
 or_first : (a b : Bool) → a ≡ true → (a || b) ≡ true
 or_first a b is = rw is refl

@@ -1,4 +1,4 @@
-use Rattle.lazyset_file_commands.proofs.list.key_on.Goals as goal
+use Rattle.lazyset_file_commands.proofs.lines.spelled_on.Goals as goal
 use Rattle.std.proofs.Common.{◌≡◌, sym, ◌∙◌, ap, false, true, refl}
 use Rattle.lz_slot.specs.Texts.{key_read}
 use Rattle.lazyset_file_commands.proofs.Listed.{spelled_by, spelled_not, spelled_other}
