@@ -1,5 +1,5 @@
 //! One function for each command: it opens what the command works on.
-ghost use Rattle.std.specs.Prelude.{◌≡◌, ◌≤◌, IsTrue};
+ghost use Rattle.std.specs.Prelude.{◌≡◌, ◌≤◌, IfSome, IsTrue};
 ghost use Rattle.lz_slot.specs.Limits.{last_room, most_buckets, most_buckets_of, most_passes, most_rehearsed};
 ghost use Rattle.lz_slot.specs.Rooms.{last_room_of};
 ghost use Rattle.lz_vault.specs.Makes.{WritesNothing};
@@ -22,7 +22,7 @@ use crate::texts::wanted_by;
 use crate::words::words_of;
 use lazyset_arguments::{Request, read, too_many_buckets};
 use lazyset_set_commands::{
-    MOST_JUDGED, ServeOptions, Shown, Status, Wanted, check_of_on, judge_on, rehearse_on,
+    Lines, MOST_JUDGED, ServeOptions, Shown, Status, Wanted, check_of_on, judge_on, rehearse_on,
     survey_on, torn_slots,
 };
 use lz_disk::{Disk, FileDisk, Lock};
@@ -91,7 +91,8 @@ where
             file,
             slots,
             format,
-        } => make_keys(rt, writer, stands, file, slots, format),
+            texts_of,
+        } => make_keys(rt, writer, stands, file, slots, format, texts_of),
         Request::Renew {
             old,
             new,
@@ -187,22 +188,35 @@ fn make_keys<R, W>(
     file: &str,
     slots: u64,
     format: Format,
+    texts_of: Option<&str>,
 ) -> Result<Status, Fault>
 where
     R: Files<File = File> + Input + Eprint + Clock + AllocGlobal,
     W: Write + Drop,
+    requires { IfSome texts_of (λ name. last_room_of format ≡ last_room) }
 {
     if stands.has_no_input() {
         return Err(Fault::NoRead);
     }
     let (making, disk) = Making::begin(rt, file, None)?;
     let mut reader = Counted::new(rt.reader());
-    let (status, disk) = make_keys_over(rt, &mut reader, writer, file, disk, slots, format);
+    let lines = match texts_of {
+        Some(name) => Lines::Texts(name.as_bytes()),
+        None => Lines::Keys,
+    };
+    let (status, disk) = make_keys_over(rt, &mut reader, writer, file, disk, slots, format, lines);
     if status == Status::Done {
-        let keys = reader.lines();
-        let _ = eprintln!(rt; "lazyset: make {file}: {keys} keys");
+        say_count(rt, file, reader.lines(), lines);
     }
     Ok(making.end(rt, &disk, status))
+}
+
+// Says how many lines a list had. A text may stand there twice.
+fn say_count<R: Eprint>(rt: &R, file: &str, count: u64, lines: Lines<'_>) {
+    let _ = match lines {
+        Lines::Keys => eprintln!(rt; "lazyset: make {file}: {count} keys"),
+        Lines::Texts(_) => eprintln!(rt; "lazyset: make {file}: {count} lines of texts"),
+    };
 }
 
 fn renew<R, W>(

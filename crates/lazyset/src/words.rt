@@ -126,6 +126,9 @@ fn words_of_read(request: Request<'_>) -> Option<&'static str> {
 // Why a line of the input is refused.
 fn words_of_line(request: Request<'_>) -> &'static str {
     match request {
+        Request::MakeKeys {
+            texts_of: Some(_), ..
+        } => "a text has at most 512 bytes, and each line has its end",
         Request::MakeKeys { .. } => "this line holds no key that the format has",
         _ => "this line doesn't read, or may not stand there",
     }

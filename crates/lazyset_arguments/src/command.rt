@@ -1,5 +1,6 @@
 //! The command line that the program understands, made of the table.
-use crate::words::{Beside, Form, NO_PORT, SHEETS, SOCKET_ID, STATUSES, Sheet, Word};
+use crate::sheets::{SHEETS, STATUSES, Sheet};
+use crate::words::{Beside, Form, NO_PORT, SOCKET_ID, Word};
 use clap::{Arg, ArgAction, Command, value_parser};
 use std::alloc::{AllocError, Global};
 
@@ -86,6 +87,7 @@ fn arg_of<'a>(alloc: Global, word: Word, listens: Listens) -> Result<Arg<'a>, Al
             .value_name(name)
             .num_args(0..=1)
             .require_equals(true),
+        (Form::LastNumber, _) => arg,
         (_, None) => arg.required(true),
         (_, Some(name)) => arg.long(word.id).value_name(name),
     };
@@ -106,7 +108,7 @@ fn parsed<'a>(arg: Arg<'a>, form: Form, listens: Listens) -> Arg<'a> {
         Form::Flag => arg.action(ArgAction::SetTrue),
         Form::Text => arg,
         Form::Choice(choices) => arg.value_parser(choices),
-        Form::Number => arg.value_parser(value_parser!(u64)),
+        Form::Number | Form::LastNumber => arg.value_parser(value_parser!(u64)),
         Form::Within(least, most) => within(arg, least, most),
         Form::Port(least, most) => match listens {
             Listens::AtPort => within(arg, least, most),

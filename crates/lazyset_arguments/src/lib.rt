@@ -2,8 +2,10 @@
 #![tactic(auto)]
 
 mod command;
+mod misfit;
 mod refusal;
 mod request;
+mod sheets;
 mod values;
 mod words;
 

@@ -1,16 +1,19 @@
 //! What a command line asks for.
-ghost use Rattle.std.specs.Prelude.{◌≡◌, ◌≤◌, IfOk, IfSome};
-ghost use Rattle.lz_slot.specs.Limits.{most_buckets};
+ghost use Rattle.std.specs.Prelude.{◌≡◌, ◌≤◌, IfOk, IfSome, length};
+ghost use Rattle.lz_resp.specs.Limits.{most_argument};
+ghost use Rattle.lz_slot.specs.Limits.{last_room, most_buckets};
+ghost use Rattle.lz_slot.specs.Rooms.{last_room_of};
 ghost use Rattle.lazyset_arguments.specs.Requests.{ArePasses, AreWithin, IsWithin};
 
 use crate::command::{Listens, command_line};
-use crate::refusal::{Refusal, bad_passes, refusal_of, too_many_buckets, too_many_loops};
-use crate::values::{format_of, format_with_rooms, number, number_within, text};
+use crate::misfit::misfit;
+use crate::refusal::{Refusal, refusal_of};
+use crate::values::{format_of, format_with_rooms, named_format, number, number_within, text};
 use crate::words::{ADOPT, SOCKET_ID, TEXT_ID};
 use clap::ArgMatches;
-use lz_resp::Naming;
+use lz_resp::{MOST_ARGUMENT, Naming};
 use lz_serve::{Language, Loops, MOST_CONNECTIONS, MOST_THREADS, ServeOptions};
-use lz_slot::{Format, MOST_BUCKETS, MOST_PASSES, MOST_REHEARSED};
+use lz_slot::{Format, LAST_ROOM, MOST_BUCKETS, MOST_PASSES, MOST_REHEARSED};
 use std::alloc::{AllocError, Global};
 use std::fmt;
 
@@ -27,6 +30,8 @@ pub enum Request<'a> {
         file: &'a str,
         slots: u64,
         format: Format,
+        /// Its lines are texts, members of the set of this name, and no keys.
+        texts_of: Option<&'a str>,
     },
     Renew {
         old: &'a str,
@@ -38,15 +43,19 @@ pub enum Request<'a> {
     Grow {
         file: &'a str,
         slots: u64,
-        /// Where none is named, that of the file, or the next one that has all rooms.
+        /// Where none is named, that of the file, or one with all rooms and so many slots.
         format: Option<Format>,
     },
     /// A making of a file that holds the keys of a running service.
     Copy {
         address: &'a str,
         file: &'a str,
-        slots: u64,
-        format: Format,
+        /// Where none are named, those of the service.
+        slots: Option<u64>,
+        /// Where none is named, one with all rooms and so many slots; that of the service where no slots are named.
+        format: Option<Format>,
+        /// It takes the place of a set.
+        replaces: bool,
     },
     Run {
         file: &'a str,
@@ -133,41 +142,6 @@ pub fn read<'a>(alloc: Global, words: &'a [String]) -> Result<Request<'a>, Refus
     }
 }
 
-// The faults that the table of words doesn't show: a format has its own most buckets, loops may have more passes than there are
-// threads, and each loop needs a pass.
-fn misfit(alloc: Global, matches: &ArgMatches<'_>) -> Refusal {
-    if let Some((buckets, format)) = rehearsed(matches) {
-        return too_many_buckets(alloc, buckets, format);
-    }
-    match beyond(matches) {
-        Some((passes, most)) => bad_passes(alloc, passes, most),
-        None => too_many_loops(alloc),
-    }
-}
-
-// The buckets and the format of a rehearsal.
-fn rehearsed(matches: &ArgMatches<'_>) -> Option<(u64, Format)> {
-    match matches.subcommand()? {
-        ("rehearse", words) => Some((number(words, "buckets")?, format_of(words)?)),
-        _ => None,
-    }
-}
-
-// The passes of a service that can't have them, and how many it may have.
-fn beyond(matches: &ArgMatches<'_>) -> Option<(u64, usize)> {
-    let ("serve", words) = matches.subcommand()? else {
-        return None;
-    };
-    let most = match words.get_str("connections") {
-        Some(_) => MOST_PASSES,
-        None => MOST_THREADS,
-    };
-    match number_within(words, "PASSES", most) {
-        Some(_) => None,
-        None => Some((number(words, "PASSES")?, most)),
-    }
-}
-
 fn request_of<'a>(matches: &ArgMatches<'a>) -> Option<Request<'a>>
     ensures { IfSome result IsWithin }
 {
@@ -193,10 +167,15 @@ fn make<'a>(words: &ArgMatches<'a>) -> Option<Request<'a>>
     let slots = number(words, "SLOTS")?;
     let format = format_of(words)?;
     Some(if words.get_flag("keys") {
+        let texts_of = match text(words, TEXT_ID) {
+            Some(name) => Some(name_of_texts(name, format)?),
+            None => None,
+        };
         Request::MakeKeys {
             file,
             slots,
             format,
+            texts_of,
         }
     } else {
         Request::Make {
@@ -205,6 +184,17 @@ fn make<'a>(words: &ArgMatches<'a>) -> Option<Request<'a>>
             format,
         }
     })
+}
+
+// The name of a set of texts, where a file of this format can hold their mark.
+fn name_of_texts(name: &str, format: Format) -> Option<&str>
+    ensures rooms { IfSome result (λ name. last_room_of format ≡ last_room) }
+    ensures bytes { IfSome result (λ name. length name.now ≤ most_argument) }
+{
+    if format.last_room() != LAST_ROOM || name.len() > MOST_ARGUMENT {
+        return None;
+    }
+    Some(name)
 }
 
 fn renew<'a>(words: &ArgMatches<'a>) -> Option<Request<'a>>
@@ -221,10 +211,7 @@ fn renew<'a>(words: &ArgMatches<'a>) -> Option<Request<'a>>
 fn grow<'a>(words: &ArgMatches<'a>) -> Option<Request<'a>>
     ensures { IfSome result IsWithin }
 {
-    let format = match number(words, "format") {
-        Some(_) => Some(format_with_rooms(words)?),
-        None => None,
-    };
+    let format = named_format(words)?;
     Some(Request::Grow {
         file: text(words, "FILE")?,
         slots: number(words, "SLOTS")?,
@@ -235,12 +222,13 @@ fn grow<'a>(words: &ArgMatches<'a>) -> Option<Request<'a>>
 fn copy<'a>(words: &ArgMatches<'a>) -> Option<Request<'a>>
     ensures { IfSome result IsWithin }
 {
-    let format = format_with_rooms(words)?;
+    let format = named_format(words)?;
     Some(Request::Copy {
         address: text(words, "ADDRESS")?,
         file: text(words, "NEW")?,
-        slots: number(words, "SLOTS")?,
+        slots: number(words, "SLOTS"),
         format,
+        replaces: words.get_flag("replace"),
     })
 }
 
