@@ -24,7 +24,7 @@ mod torn;
 
 pub use checking::survey_on;
 pub use comparing::check_of_on;
-pub use copying::copy_on;
+pub use copying::{ask_shape_on, copy_on};
 pub use counting::format_number;
 pub use growing::{Shelf, Standing, grow_on};
 pub use judging::{MOST_JUDGED, judge_on};
