@@ -1,28 +1,27 @@
 //! One function for each command: it opens what the command works on.
-ghost use Rattle.std.specs.Prelude.{◌≡◌, ◌≤◌, IfSome, IsTrue};
+ghost use Rattle.std.specs.Prelude.{◌≡◌, ◌≤◌, IsTrue};
 ghost use Rattle.lz_slot.specs.Limits.{last_room, most_buckets, most_buckets_of, most_passes, most_rehearsed};
 ghost use Rattle.lz_slot.specs.Rooms.{last_room_of};
 ghost use Rattle.lz_vault.specs.Makes.{WritesNothing};
 ghost use Rattle.lazyset_arguments.specs.Requests.{IsWithin};
 
 use crate::control::ask_to_stop;
-use crate::copying::copy;
-use crate::counted::Counted;
+use crate::copying::{Wish, copy};
 use crate::fault::Fault;
 use crate::files::{StandIns, header_on, open, open_alone, open_source, read_front, say_cause};
 use crate::growing::grow;
 use crate::handed::handed;
 use crate::heard::Heard;
 use crate::held::is_held;
-use crate::making::Making;
-use crate::over_disk::{make_keys_over, make_over, renew_over, run_over};
+use crate::new_files::{make, make_keys, renew};
+use crate::over_disk::run_over;
 use crate::service::{At, Until, serve};
 use crate::source::Source;
 use crate::texts::wanted_by;
 use crate::words::words_of;
 use lazyset_arguments::{Request, read, too_many_buckets};
 use lazyset_set_commands::{
-    Lines, MOST_JUDGED, ServeOptions, Shown, Status, Wanted, check_of_on, judge_on, rehearse_on,
+    MOST_JUDGED, ServeOptions, Shown, Status, Wanted, check_of_on, judge_on, rehearse_on,
     survey_on, torn_slots,
 };
 use lz_disk::{Disk, FileDisk, Lock};
@@ -109,7 +108,16 @@ where
             file,
             slots,
             format,
-        } => copy(rt, writer, address, file, slots, format),
+            replaces,
+        } => {
+            let wish = Wish {
+                file,
+                slots,
+                format,
+                replaces,
+            };
+            copy(rt, writer, address, wish)
+        }
         // The others work on a file that is there, or on none.
         _ => dispatch_other(rt, request, writer),
     }
@@ -163,80 +171,6 @@ where
         // They make files, and were dispatched before.
         _ => Ok(Status::CommandLine),
     }
-}
-
-fn make<R, W>(
-    rt: &R,
-    writer: &mut W,
-    file: &str,
-    slots: u64,
-    format: Format,
-) -> Result<Status, Fault>
-where
-    R: Files<File = File> + Eprint + Clock + AllocGlobal,
-    W: Write + Drop,
-{
-    let (making, disk) = Making::begin(rt, file, None)?;
-    let (status, disk) = make_over(rt, writer, file, disk, slots, format);
-    Ok(making.end(rt, &disk, status))
-}
-
-fn make_keys<R, W>(
-    rt: &R,
-    writer: &mut W,
-    stands: &StandIns,
-    file: &str,
-    slots: u64,
-    format: Format,
-    texts_of: Option<&str>,
-) -> Result<Status, Fault>
-where
-    R: Files<File = File> + Input + Eprint + Clock + AllocGlobal,
-    W: Write + Drop,
-    requires { IfSome texts_of (λ name. last_room_of format ≡ last_room) }
-{
-    if stands.has_no_input() {
-        return Err(Fault::NoRead);
-    }
-    let (making, disk) = Making::begin(rt, file, None)?;
-    let mut reader = Counted::new(rt.reader());
-    let lines = match texts_of {
-        Some(name) => Lines::Texts(name.as_bytes()),
-        None => Lines::Keys,
-    };
-    let (status, disk) = make_keys_over(rt, &mut reader, writer, file, disk, slots, format, lines);
-    if status == Status::Done {
-        say_count(rt, file, reader.lines(), lines);
-    }
-    Ok(making.end(rt, &disk, status))
-}
-
-// Says how many lines a list had. A text may stand there twice.
-fn say_count<R: Eprint>(rt: &R, file: &str, count: u64, lines: Lines<'_>) {
-    let _ = match lines {
-        Lines::Keys => eprintln!(rt; "lazyset: make {file}: {count} keys"),
-        Lines::Texts(_) => eprintln!(rt; "lazyset: make {file}: {count} lines of texts"),
-    };
-}
-
-fn renew<R, W>(
-    rt: &R,
-    writer: &mut W,
-    old: &str,
-    new: &str,
-    slots: u64,
-    format: Format,
-) -> Result<Status, Fault>
-where
-    R: Files<File = File> + Eprint + Clock + AllocGlobal,
-    W: Write + Drop,
-    requires { last_room_of format ≡ last_room }
-{
-    let old_disk = open(rt, old, Lock::Shared)?;
-    let (making, disk) = Making::begin(rt, new, Some(&old_disk))?;
-    let (status, old_disk, disk) = renew_over(rt, writer, old, old_disk, new, disk, slots, format);
-    say_cause(rt, old, old_disk.cause());
-    Ok(making.end(rt, &disk, status))
 }
 
 // The file as a disk. More buckets than its format allows are refused as the command line refuses a number that is out of range. In

@@ -3,6 +3,8 @@
 
 mod at_path;
 mod backlog;
+mod before;
+mod beside;
 mod commands;
 mod control;
 mod copying;
@@ -10,6 +12,7 @@ mod counted;
 mod ending;
 mod fault;
 mod files;
+mod formats;
 mod gauge;
 mod growing;
 mod handed;
@@ -19,6 +22,7 @@ mod identity;
 mod level;
 mod log;
 mod making;
+mod new_files;
 mod over_disk;
 mod ready;
 mod seldom;
