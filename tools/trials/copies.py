@@ -202,8 +202,9 @@ def try_refused(program: Program, folder: str) -> None:
     for options in (["--connections", "4"], [*by_frames(4), "--text"]):
         with Service(program, file, 4, *options) as service:
             expect(copy(program, service.port, new, 10), NO_REPLY, f"a copy of a service with {options}")
-            for slots in ("0", "65537"):
-                expect(copy(program, service.port, new, int(slots)), Ended("refused 2\n", 3), f"a copy with {slots} slots")
+            for slots in (0, 16_777_217):
+                expect(copy(program, service.port, new, slots), Ended("refused 2\n", 3), f"a copy with {slots} slots")
+            expect(copy(program, service.port, new, 65_537, "--format", "2"), Ended("refused 2\n", 3), "a copy into a format that has fewer slots")
     expect(sorted(os.listdir(folder)), ["f"], "what is left")
 
 

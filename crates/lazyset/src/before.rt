@@ -7,7 +7,7 @@ use lz_slot::{OPEN_GATE, read_head};
 /// What stands there before.
 #[derive(Clone, Copy)]
 pub enum Before {
-    /// No bytes.
+    /// No bytes, or the zero with which a making begins.
     Nothing,
     /// So many bytes, which are those of a set, perhaps but for the first one: then its making was cut off, or its head was spoiled.
     Set(u64),
@@ -18,13 +18,13 @@ pub enum Before {
 impl Before {
     /// What stands on this disk. Where it can't be read nothing is known of it, and what is to be done there will fail as well.
     pub fn on(disk: &mut FileDisk) -> Before {
-        let mut head = [0; 16];
         let Ok(size) = disk.size() else {
             return Before::Nothing;
         };
-        if size == 0 {
+        if size == 0 || size == 1 && begins_with_zero(disk) {
             return Before::Nothing;
         }
+        let mut head = [0; 16];
         if size < 16 || disk.read(0, &mut head).is_err() {
             return Before::Others(size);
         }
@@ -46,4 +46,9 @@ impl Before {
             )),
         }
     }
+}
+
+fn begins_with_zero(disk: &mut FileDisk) -> bool {
+    let mut first = [OPEN_GATE];
+    disk.read(0, &mut first).is_ok() && first[0] == 0
 }

@@ -174,7 +174,7 @@ where
     let path = itself.as_str();
     let facts = facts_of(rt, path)?;
     let mut old = open(rt, path, Lock::Exclusive)?;
-    Before::on(&mut old).see_free(rt, path)?;
+    Before::on(&mut old).see_free(rt, file)?;
     let beside = format!(in rt.alloc(); "{path}.copy")?;
     let beside = beside.as_str();
     let mut new = create_beside(rt, beside, &facts)?;
