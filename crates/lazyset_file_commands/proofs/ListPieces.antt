@@ -1,19 +1,19 @@
 -- A list of keys that is read in pieces.
-use Rattle.std.proofs.Common.{◌≡◌, ◌≢◌, inl, inr, ℕ, ◌+◌, ◌-◌, ◌<◌, ◌≤◌, List, [], ◌∷◌, ◌++◌, length, take, drop, false, true, Option, Some, None, refl, sym, ap}
-use Rattle.std.proofs.{Common.{subst, ◌∙◌, arith, append_assoc, length-append, decimal}, lemmas.Bool.{cond_both, Decides.{nat_tests}}}
-use Rattle.std.proofs.lemmas.{Fmt.{length-decimal-le}, List.{append-nil, drop-drop, length-take, take_rest, Folds.{list_any-append}}}
-use Rattle.std.specs.{List.{IsDistinct}, Prelude.{IfErr, IfOk, IfSome, OnOk, map, Result, Ok, Err, nat_eq, ◌||◌}, Io.KnownBytes.{Consumes, IsAtEnd}}
+use Rattle.std.proofs.Common.{◌≡◌, ◌≢◌, inl, inr, ℕ, ◌+◌, ◌-◌, ◌<◌, ◌≤◌, List, [], ◌∷◌, ◌++◌, length, take, drop, false, true, Option, Some, None, refl, sym}
+use Rattle.std.proofs.{Common.{ap, subst, ◌∙◌, arith, append_assoc, length-append, decimal}, lemmas.Bool.{cond_both, Decides.{nat_tests}}}
+use Rattle.std.{proofs.lemmas.{Fmt.{length-decimal-le}, List.{append-nil, drop-drop, length-take, take_rest, Folds.{list_any-append}}}, specs.List.{IsDistinct}}
+use Rattle.std.specs.{Prelude.{IfErr, IfOk, IfSome, OnOk, map, Result, Ok, Err, nat_eq, ◌||◌}, Io.KnownBytes.{Consumes, IsAtEnd}}
 use Rattle.memchr.specs.Find.{IsFirstByte, is_byte}
-use Rattle.lz_slot.{specs.{Rooms.{number_of, room_of}, Texts.{Spells}, declared.format.Format.{Format}}, proofs.Files.ExactBytes.{key_of_format}}
-use Rattle.lz_slot.specs.Sets.{members}
-use Rattle.lz_slot.proofs.Texts.Cuts.{cut_at, first_cut, lacks_more, stands}
+use Rattle.lz_slot.specs.{Rooms.{number_of, room_of}, Texts.{Spells}, declared.format.Format.{Format}, Sets.{members}}
+use Rattle.lz_slot.proofs.{Files.ExactBytes.{key_of_format}, Texts.Cuts.{cut_at, first_cut, lacks_more, stands}}
 use Rattle.lz_judge.specs.Places.{IsTable}
 use Rattle.lz_proto.specs.Lines.{has_line_feed, line_feed, without_return}
 use Rattle.lz_vault.specs.Makes.{MayBeMembers}
-use Rattle.lazyset_file_commands.specs.Lists.{Adds, AddsKey, AreKeysOf, HasFirstLine, HasNoKey, HasPlaceFor, IsLineFaultOf, IsListFaultOf, Lists, Named, keys, texts, NamesKey, Spelled, nothing, named_by}
-use Rattle.lazyset_file_commands.specs.Marks.{texts_mark}
-use Rattle.lazyset_file_commands.specs.{ListParts.{EndsWith, FailsAtEnd, FailsIn, GoesOn, HasRead, IsLike, IsOpenList, IsUnread, Leaves, named_in}, declared.{list.KeyList.{KeyList}, lines.Lines.{Lines, TheVariants.{Keys, Texts}}}}
-use Rattle.lazyset_file_commands.{specs.declared.list.ListFault.{ListFault, TheVariants.{Line, Twice, Read, Memory}}, proofs.Listed.{one_more}}
+use Rattle.lazyset_file_commands.specs.Lists.{Adds, AddsKey, AreKeysOf, HasFirstLine, HasNoKey, HasPlaceFor, IsLineFaultOf, IsListFaultOf, Lists, Named, keys}
+use Rattle.lazyset_file_commands.specs.{Lists.{texts, NamesKey, nothing, named_by}, Marks.{texts_mark}}
+use Rattle.lazyset_file_commands.specs.ListParts.{EndsWith, FailsAtEnd, FailsIn, GoesOn, HasRead, IsLike, IsOpenList, IsUnread, Leaves, named_in}
+use Rattle.lazyset_file_commands.specs.declared.{list.{KeyList.{KeyList}, ListFault.{ListFault, TheVariants.{Line, Twice, Read, Memory}}}, lines.Lines.{Lines}}
+use Rattle.lazyset_file_commands.{specs.declared.lines.Lines.TheVariants.{Keys, Texts}, proofs.Listed.{one_more}}
 use Rattle.lz_scan_client.{specs.Told.{AreOnce}, proofs.OneEach.{none_told, none_twice, told_more}}
 
 -- a line that goes on has no line feed where neither part has one

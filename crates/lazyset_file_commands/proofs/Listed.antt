@@ -1,17 +1,16 @@
 -- A list of keys that is read a line at a time.
-use Rattle.std.proofs.Common.{◌≡◌, ℕ, zero, suc, ◌+◌, ◌<◌, ◌≤◌, List, [], ◌∷◌, ◌++◌, length, get_or, false, Ok, Err, inl, inr, refl, sym, ap, subst, ◌∙◌, ⊎_elim, arith, append_assoc}
-use Rattle.std.{proofs.lemmas.{Bool.{cases_lt, Decides.{nat_tests}}, Map.Keys.{IsDistinct-push, apart_from_distinct}}, specs.Prelude.{nat_eq}}
+use Rattle.std.proofs.Common.{◌≡◌, ℕ, zero, suc, ◌<◌, ◌≤◌, List, [], ◌∷◌, ◌++◌, length, get_or, false, Ok, Err, inl, inr, refl, sym, ap, subst, ◌∙◌, ⊎_elim}
+use Rattle.std.{proofs.{Common.{arith, append_assoc}, lemmas.{Bool.{cases_lt}, Map.Keys.{IsDistinct-push, apart_from_distinct}}}, specs.Prelude.{nat_eq}}
 use Rattle.std.specs.{Cmp.{nat_eq_equiv}, List.{IsDistinct}}
-use Rattle.lz_slot.specs.{Limits.{largest_key, last_room}, Rooms.{largest_of, last_room_of}, Texts.{key_read}, declared.{format.Format.{Format}, spelling.KeyFault.{KeyFault}}}
-use Rattle.lz_slot.specs.declared.format.Format.TheVariants.{One, Two, Three, Four}
-use Rattle.lz_slot.proofs.{Files.ExactBytes.{key_of_format}, Texts.Spellings.{read_spelled, spelled_read}}
+use Rattle.lz_slot.specs.{Limits.{largest_key, last_room}, Rooms.{largest_of, last_room_of}, Texts.{key_read}, declared.format.Format.{Format}}
+use Rattle.lz_slot.{specs.declared.{format.Format.TheVariants.{One, Two, Three, Four}, spelling.KeyFault.{KeyFault}}, proofs.Files.ExactBytes.{key_of_format}}
+use Rattle.lz_slot.proofs.Texts.Spellings.{read_spelled, spelled_read}
 use Rattle.lz_resp.specs.Keys.{text_number}
 use Rattle.lz_scan_client.{specs.Told.{AddsOnce, AreOnce}, proofs.OneEach.{told_more, unlike}}
 use Rattle.lz_proto.specs.Lines.{has_line_feed, line_feed, without_return}
 use Rattle.lz_vault.specs.Makes.{MayBeMembers}
 use Rattle.lazyset_file_commands.specs.Lists.{Adds, AddsKey, AreKeysOf, HasPlaceFor, Lists, Named, keys, texts, NamesKey, Spelled, nothing, more, named_by}
-use Rattle.lazyset_file_commands.specs.Marks.{texts_mark}
-use Rattle.lazyset_file_commands.specs.declared.lines.Lines.{Lines, TheVariants.{Keys, Texts}}
+use Rattle.lazyset_file_commands.specs.{Marks.{texts_mark}, declared.lines.Lines.{Lines, TheVariants.{Keys, Texts}}}
 
 -- a line spells the key that is read of it
 pub spelled_by : (format : Format) (line : List ℕ) (k : ℕ) → key_read (without_return line) ≡ Ok k → k ≤ largest_of format → NamesKey (keys format) line k

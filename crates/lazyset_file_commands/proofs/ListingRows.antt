@@ -5,7 +5,8 @@ use Rattle.lz_slot.specs.{Bytes.{Holds, IsMade, format_of}, Sets.{members}, decl
 use Rattle.lz_disk.specs.{Devices.{Device}, Images.{IsImage}}
 use Rattle.lz_vault.specs.Makes.{IsUnmadeOrHolds}
 use Rattle.lz_machine.proofs.Open.FirstPoint.{one_set}
-use Rattle.lazyset_file_commands.{specs.{Listings.{LeavesListed}, Lists.{keys as of_keys}}, proofs.{ListRows.{not_ended_lists_none, one_key_above}, OneList.{one_list}, Listed.{spelled_keys}}}
+use Rattle.lazyset_file_commands.{specs.{Listings.{LeavesListed}, Lists.{keys as of_keys}}, proofs.ListRows.{not_ended_lists_none, one_key_above}}
+use Rattle.lazyset_file_commands.proofs.{OneList.{one_list}, Listed.{spelled_keys}}
 
 -- A crash since the making began might have left the text, and couldn't have before. Its gate is open.
 module _ (n : ℕ) (before after : Device) (t : List ℕ) (since : after.left_since before.moment t) (never : ¬ IsImage before.medium t) (made : IsMade t) where
@@ -13,7 +14,7 @@ module _ (n : ℕ) (before after : Device) (t : List ℕ) (since : after.left_si
   holds_seven : LeavesListed Two (of_keys Two) n (Some (codes "7" ++ 10 ∷ [])) before after → Holds t n (members (7 ∷ [])) × (format_of t ≡ Two)
   holds_seven (inl only) = absurd (never (only.each t since))
   holds_seven (inr (keys, lists, only)) =
-      let same = one_list (of_keys Two) (codes "7" ++ 10 ∷ []) keys (7 ∷ []) (spelled_keys Two _ keys lists) one_key_above.spelled in
+      let same = one_list (of_keys Two) (codes "7" ++ 10 ∷ []) keys (7 ∷ []) (spelled_keys Two _ keys lists) (spelled_keys Two _ (7 ∷ []) one_key_above) in
       ⊎_elim
       (λ was. absurd (never was))
       (λ file. ⊎_elim (λ unmade. absurd (unmade made)) (λ is. is) (subst (λ (ks : List ℕ). IsUnmadeOrHolds Two n (members ks) t) same file))

@@ -15,9 +15,10 @@ use Rattle.lz_judge.specs.{Surveys.{AreFindings, IsFinding, IsSurveyed, is_good,
 use Rattle.lz_judge.{specs.declared.finding.{Finding.TheVariants.{Key, BadKey, Twice}, Survey.{Survey}}, proofs.Surveys.SlotFinding.{sound_where}}
 use Rattle.lz_judge.proofs.Surveys.SoundFile.{held_head}
 use Rattle.lz_vault.specs.Renewals.{AreHeldBy}
-use Rattle.lazyset_file_commands.specs.{Checks.{end_text, line_of, shown_text}, Lists.{Lists, keys as of_keys, Spelled, nothing, more, NamesKey}, Makings.{refused_text}}
-use Rattle.lazyset_file_commands.specs.{ShownLists.{ShownKeysAreListed}, declared.shown.Shown.TheVariants.{Keys}}
-use Rattle.lazyset_file_commands.proofs.{HeldKeys.{IsNodeBelow, are_held, fit, keys, nodes, once, slots}, Listed.{spelled_keys, spelled_not}, OneList.{begun, one_list}}
+use Rattle.lazyset_file_commands.specs.{Checks.{end_text, line_of, shown_text}, Lists.{Lists, keys as of_keys, Spelled, nothing, more, NamesKey}}
+use Rattle.lazyset_file_commands.specs.{Makings.{refused_text}, ShownLists.{ShownKeysAreListed}, declared.shown.Shown.TheVariants.{Keys}}
+use Rattle.lazyset_file_commands.proofs.{HeldKeys.{IsNodeBelow, are_held, fit, keys, nodes, once, slots}, Listed.{spelled_keys, spelled_not}}
+use Rattle.lazyset_file_commands.proofs.OneList.{begun, one_list}
 
 -- a key on a line of its own
 abbrev key_line : ℕ → List ℕ

@@ -6,8 +6,9 @@ use Rattle.lz_disk.specs.{Images.{IsImage}, Devices.{Device, LeavesOnly}}
 use Rattle.lz_vault.specs.Makes.{IsBadCount, IsMakeFaultOf, IsRenewed, IsUnmadeOrHolds, MayBeMade, make_fault_number}
 use Rattle.lz_vault.specs.declared.making.MakeFault.TheVariants.{BadCount}
 use Rattle.lazyset_file_commands.specs.{Ends.{make_status}, Lists.{IsListFaultOf, Lists, Named}, Makings.{made_text, refused_text, room_text}}
-use Rattle.lazyset_file_commands.specs.{Tellings.{line_text, memory_text, unread_text}, declared.list.ListFault.{ListFault, TheVariants.{Line, Twice, Read, Memory}}}
-use Rattle.lazyset_file_commands.specs.declared.{listing.ListingFault.{ListingFault, TheVariants.{OfList, TooMany, OfMaking}}, status.Status.{Status}}
+use Rattle.lazyset_file_commands.specs.{Tellings.{line_text, memory_text, unread_text}, declared.list.ListFault.{ListFault}}
+use Rattle.lazyset_file_commands.specs.declared.{list.ListFault.TheVariants.{Line, Twice, Read, Memory}, listing.ListingFault.{ListingFault}}
+use Rattle.lazyset_file_commands.specs.declared.{listing.ListingFault.TheVariants.{OfList, TooMany, OfMaking}, status.Status.{Status}}
 use Rattle.lazyset_file_commands.specs.declared.status.Status.TheVariants.{Done, Failed, Refused}
 
 -- the disk is at rest with a file of this format and so many slots, of which the first hold the keys that the input lists

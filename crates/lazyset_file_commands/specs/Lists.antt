@@ -4,8 +4,8 @@ use Rattle.lz_slot.specs.{Limits.{last_room}, Rooms.{largest_of, last_room_of}, 
 use Rattle.lz_proto.specs.Lines.{has_line_feed, line_feed, without_return}
 use Rattle.lz_resp.specs.{Keys.{text_number}, Limits.{most_argument}}
 use Rattle.lz_scan_client.specs.Told.{AreOnce}
-use Rattle.lazyset_file_commands.specs.Marks.{texts_mark}
-use Rattle.lazyset_file_commands.specs.declared.{lines.Lines.{Lines, TheVariants.{Keys, Texts}}, list.ListFault.{ListFault, TheVariants.{Line, Twice, Read, Memory}}}
+use Rattle.lazyset_file_commands.specs.{Marks.{texts_mark}, declared.{lines.Lines.{Lines, TheVariants.{Keys, Texts}}, list.ListFault.{ListFault}}}
+use Rattle.lazyset_file_commands.specs.declared.list.ListFault.TheVariants.{Line, Twice, Read, Memory}
 
 -- What lines name: keys of a format, each of them once, or members of the set of texts with this name, which may come again.
 pub data Named : Type 0 where

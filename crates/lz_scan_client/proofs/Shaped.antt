@@ -1,6 +1,7 @@
 -- What a service's reply tells of its file.
-use Rattle.std.proofs.Common.{◌≡◌, ℕ, ◌≤◌, inl, inr, List, [], ◌∷◌, ◌++◌, length, Option, Some, None, Result, Ok, Err, IfOk, IfSome, Bor, decimal, codes, refl, sym, ap, ◌∙◌, arith, append_assoc}
-use Rattle.lz_slot.{specs.Numerals.{largest_read, number_in}, proofs.Texts.{Numerals.{numbers_read_back}}}
+use Rattle.std.proofs.Common.{◌≡◌, ℕ, ◌≤◌, inl, inr, List, [], ◌∷◌, ◌++◌, length, Option, Some, None, Result, Ok, Err, IfOk, IfSome, Bor, decimal, codes, refl}
+use Rattle.std.proofs.Common.{sym, ap, ◌∙◌, arith, append_assoc}
+use Rattle.lz_slot.{specs.Numerals.{largest_read, number_in}, proofs.Texts.Numerals.{numbers_read_back}}
 use Rattle.lz_proto.specs.Lines.{carriage_return, line_feed}
 use Rattle.lz_resp.specs.{Frames.{bulk, dollar, line_end}, Queries.{row}}
 use Rattle.lz_scan_client.specs.{Shapes.{HasRow, IsBeforeLine}, declared.fault.ScanFault.{ScanFault}}

@@ -1,6 +1,5 @@
 use Rattle.lz_scan_client.proofs.shape.length_on.Goals as goal
-use Rattle.std.proofs.Common.{Some, arith, codes}
-use Rattle.std.proofs.lemmas.{Bool.Decides.{Decides-eqb}, Slice.Eq.{strip_prefix_is, strip_suffix_is}}
+use Rattle.std.proofs.{Common.{Some, arith, codes}, lemmas.{Bool.Decides.{Decides-eqb}, Slice.Eq.{strip_prefix_is, strip_suffix_is}}}
 use Rattle.lz_scan_client.proofs.Shaped.{heading_is, told_number, where_some}
 
 pub returns : goal.returns

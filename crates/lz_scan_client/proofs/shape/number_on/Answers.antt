@@ -1,6 +1,5 @@
 use Rattle.lz_scan_client.proofs.shape.number_on.Goals as goal
-use Rattle.std.proofs.Common.{Some, arith, codes}
-use Rattle.std.proofs.lemmas.{Bool.Decides.{Decides-eqb}, Slice.Eq.{strip_prefix_is, strip_suffix_is}}
+use Rattle.std.proofs.{Common.{Some, arith, codes}, lemmas.{Bool.Decides.{Decides-eqb}, Slice.Eq.{strip_prefix_is, strip_suffix_is}}}
 use Rattle.lz_slot.specs.Numerals.{largest_read}
 use Rattle.lz_scan_client.proofs.Shaped.{row_is, told_number, where_some}
 
