@@ -72,12 +72,13 @@ impl<'a, R: Files<File = File>> Name<'a, R> {
 impl<R: Files<File = File> + Eprint> Name<'_, R> {
     /// Says why the file beside wasn't given it, and takes that away then.
     pub fn end(&self) {
+        let rt = self.rt;
         if let Some(error) = &self.cause {
             let path = self.path;
-            let _ = eprintln!(self.rt; "lazyset: {path}: {error}");
+            let _ = eprintln!(rt; "lazyset: {path}: {error}");
         }
         if self.stands != Standing::New {
-            let _ = self.rt.remove_file(self.beside);
+            let _ = rt.remove_file(self.beside);
         }
     }
 }

@@ -141,12 +141,19 @@ where
             Err(status) => return Err(status),
         },
     };
-    let format = match (wish.format, told) {
+    Ok((slots, format_of(wish.format, told, slots)))
+}
+
+// The format of a copy with so many slots: the one that was named, or the service's, where that is told and has room.
+fn format_of(named: Option<Format>, told: Option<Format>, slots: u64) -> Format
+    requires { IfSome named (λ f. last_room_of f ≡ last_room) }
+    ensures { last_room_of result ≡ last_room }
+{
+    match (named, told) {
         (Some(format), _) => format,
         (None, Some(format)) => kept_format(format, slots),
         (None, None) => format_for(slots),
-    };
-    Ok((slots, format))
+    }
 }
 
 // Makes the copy beside the set at this path, under locks of both, and gives it the set's name once it is whole, durably: each moment
