@@ -1,5 +1,5 @@
 //! Workers, each with a share of a set's passes, in threads.
-ghost use Rattle.std.specs.Prelude.{◌≡◌, ◌≤◌, [], All, IfSome, vec_capacity, vec_len};
+ghost use Rattle.std.specs.Prelude.{◌≡◌, ◌≤◌, [], All, IfErr, IfOk, IfSome, vec_capacity, vec_len};
 ghost use Rattle.lz_set.specs.Names.{MayCall};
 ghost use Rattle.lz_serve.specs.Halts.{IsCalmAfter};
 ghost use Rattle.lz_serve.specs.Services.{Serves};
@@ -18,7 +18,7 @@ use lz_set::{Named, Pass, StepGate};
 use std::alloc::{AllocError, Global};
 use std::sync::Wait;
 use std::thread;
-use std::thread::{Scope, SpawnError, Threads};
+use std::thread::{Promise, PromisedHandle, Scope, SpawnError, Threads};
 use std::time::Clock;
 
 /// What serves by a share of the passes, until it is done.
@@ -152,7 +152,7 @@ where
                 let serve = move || -> Vec<FreePass<N, B>>
                     ensures { vec_len result ≡ vec_len share }
                 { worker.serve(share) };
-                match begin(scope, count, serve) {
+                match begin(scope, HandsBack { count }, serve) {
                     Ok(thread) => {
                         let Ok(()) = threads.push(thread) else {
                             unreachable!()
@@ -171,24 +171,22 @@ where
     )
 }
 
-// Begins this in a thread of its own. Where none can be made, it is done here, and what it hands back is the error.
-fn begin<'s, E, N: Named + Send + 's, B: Given + Send + 's, F>(
+// Does this in a thread of its own. Where none can be made, it is done here, and what comes of it is the error.
+fn begin<'s, E, P: Promise<T> + Drop, F: FnOnce() -> T + Send + 's, T: Send + Drop + 's>(
     scope: &Scope<'s, E>,
-    count: usize,
-    serve: F,
-) -> Result<Running<N, B>, Vec<FreePass<N, B>>>
-where
-    F: FnOnce() -> Vec<FreePass<N, B>> + Send + 's,
-    requires runs { F.pre serve }
-    requires keeps { (passes : _) → F.post serve passes → vec_len passes ≡ count }
-    ensures ok { IfOk result (λ thread. thread.promise.count ≡ count) }
-    ensures err { IfErr result (λ passes. vec_len passes ≡ count) }
+    promise: P,
+    f: F,
+) -> Result<PromisedHandle<T, P>, T>
+    requires runs { F.pre f }
+    requires keeps { (r : T) → F.post f r → P.kept_by promise r }
+    ensures ok { IfOk result (λ thread. thread.promise ≡ promise) }
+    ensures err { IfErr result (λ r. P.kept_by promise r) }
 {
-    match scope.spawn_with(HandsBack { count }, serve) {
+    match scope.spawn_with(promise, f) {
         Ok(thread) => Ok(thread),
         Err(refused) => {
-            let SpawnError { value: serve_here } = refused;
-            Err(serve_here())
+            let SpawnError { value: do_here } = refused;
+            Err(do_here())
         }
     }
 }
