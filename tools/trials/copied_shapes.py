@@ -89,7 +89,7 @@ def try_told(program: Program, folder: str) -> None:
     for text in (*map(bulk, NO_ROWS), *others):
         with endless([text, *PAGES]) as port:
             ended, said = program.run_loud("copy", str(port), new)
-        why = "it doesn't tell its slots, or a page of keys: the service has to be started with --resp, and without --text"
+        why = "it doesn't tell its slots, or a page of keys: the service has to speak Redis's protocol (--resp beside PASSES), and be started without --text"
         expect((ended, said), (NO_REPLY, f"lazyset: copy {port} {new}: noreply: {why}\n"), f"a service that tells {text[:60]!r} of its file")
         expect(os.path.exists(new), False, "whether there is a file")
     whole = bulk(ROWS)

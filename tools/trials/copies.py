@@ -184,7 +184,7 @@ def try_endless(program: Program, folder: str) -> None:
 def try_words(program: Program, folder: str) -> None:
     """Standard error says in words why nothing was made."""
     new = os.path.join(folder, "new")
-    kind = "a reply is no page of keys: the service has to be started with --resp, and without --text"
+    kind = "a reply is no page of keys: the service has to speak Redis's protocol (--resp beside PASSES), and be started without --text"
     for reply, ended, why in ((b"+OK\r\n", NO_REPLY, kind), (b"", NO_READ, "the connection failed, ended or was silent for a minute")):
         with answering(reply) as port:
             line = ended.text.rstrip("\n")

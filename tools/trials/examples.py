@@ -20,6 +20,9 @@ INDENT = "    "
 END = "end-of-example"
 PATIENCE = 20.0
 
+# The port of a service that names none.
+USUAL_PORT = "7000"
+
 # How long a port is waited for that the page before has served on.
 MOST_WAIT = 5.0
 
@@ -136,7 +139,7 @@ def rows_of(text: str) -> List[Tuple[int, str, str]]:
 
 def try_row(shell: "Shell", line: int, make: str, serve: str) -> None:
     """A row's file is made, and its service listens; the file is removed again."""
-    slots, port = (re.findall(pattern, words)[0] for pattern, words in ((r"make \S+ (\d+)", make), (r"serve \S+ (\d+)", serve)))
+    slots, port = re.findall(r"make \S+ (\d+)", make)[0], ports_of(serve)[0]
     for command, wanted in ((make, [f"made {slots}"]), (f"{serve} &", [f"listening {port}"]), (f"kill $! && wait $!; rm {make.split()[2]}", [])):
         printed = shell.run(command, len(wanted))
         if printed != wanted:
@@ -223,9 +226,15 @@ def is_left_out(example: Example) -> bool:
     return any(tool in example.command and shutil.which(tool) is None for tool in OPTIONAL)
 
 
+def ports_of(command: str) -> List[str]:
+    """The ports on which a command serves."""
+    found = re.findall(r"lazyset serve \S+(?: (\d+|-))?(.*)", command)
+    return [port or USUAL_PORT for port, words in found if port != "-" and "--socket" not in words]
+
+
 def taken_ports(examples: Sequence[Example]) -> List[str]:
     """The ports that the examples serve on and that another program has, and doesn't leave."""
-    asked = {port for example in examples for port in re.findall(r"serve \S+ (\d+)", example.command)}
+    asked = {port for example in examples for port in ports_of(example.command)}
     return [port for port in sorted(asked) if _is_taken(int(port))]
 
 

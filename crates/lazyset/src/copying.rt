@@ -26,6 +26,9 @@ const PATIENCE_MS: u64 = 60_000;
 
 const MOST_PORT: u64 = 65_535;
 
+// A frame of no words, which asks for nothing: by it a service of both protocols knows which one is spoken.
+const OPENING: &[u8] = b"*0\r\n";
+
 // What is said where a copy is whole and can't be put in its place.
 const NOT_PUT: &[u8] = b"refused 3\n";
 
@@ -105,6 +108,8 @@ where
     W: Write + Drop,
     requires { IfSome wish.format (λ f. last_room_of f ≡ last_room) }
 {
+    // Where it can't be sent the first question can't be either, which is told.
+    let _ = asker.write_all(OPENING);
     let (slots, format) = match shape_of(rt, reader, asker, writer, wish) {
         Ok(shape) => shape,
         Err(status) => return Ok(status),

@@ -1,9 +1,9 @@
 //! Command lines that the table of words lets through, and that ask for nothing that can be done.
 use crate::refusal::{Refusal, bad_passes, long_name, no_mark, too_many_buckets, too_many_loops};
-use crate::values::{format_of, number, number_within};
+use crate::service::beyond;
+use crate::values::{format_of, number};
 use clap::ArgMatches;
-use lz_serve::MOST_THREADS;
-use lz_slot::{Format, LAST_ROOM, MOST_PASSES};
+use lz_slot::{Format, LAST_ROOM};
 use std::alloc::Global;
 
 /// The faults that the table of words doesn't show: texts need a mark and a name that a service takes, a format has its own most
@@ -36,20 +36,5 @@ fn rehearsed(matches: &ArgMatches<'_>) -> Option<(u64, Format)> {
     match matches.subcommand()? {
         ("rehearse", words) => Some((number(words, "buckets")?, format_of(words)?)),
         _ => None,
-    }
-}
-
-// The passes of a service that can't have them, and how many it may have.
-fn beyond(matches: &ArgMatches<'_>) -> Option<(u64, usize)> {
-    let ("serve", words) = matches.subcommand()? else {
-        return None;
-    };
-    let most = match words.get_str("connections") {
-        Some(_) => MOST_PASSES,
-        None => MOST_THREADS,
-    };
-    match number_within(words, "PASSES", most) {
-        Some(_) => None,
-        None => Some((number(words, "PASSES")?, most)),
     }
 }

@@ -1,19 +1,21 @@
 //! What a command line asks for.
 ghost use Rattle.std.specs.Prelude.{◌≡◌, ◌≤◌, IfOk, IfSome, length};
 ghost use Rattle.lz_resp.specs.Limits.{most_argument};
-ghost use Rattle.lz_slot.specs.Limits.{last_room, most_buckets};
+ghost use Rattle.lz_slot.specs.Limits.{last_room};
 ghost use Rattle.lz_slot.specs.Rooms.{last_room_of};
-ghost use Rattle.lazyset_arguments.specs.Requests.{ArePasses, AreWithin, IsWithin};
+ghost use Rattle.lazyset_arguments.specs.Requests.{IsWithin};
 
-use crate::command::{Listens, command_line};
+use crate::command::command_line;
+use crate::given::Given;
 use crate::misfit::misfit;
 use crate::refusal::{Refusal, refusal_of};
+use crate::service::{Chosen, serve};
 use crate::values::{format_of, format_with_rooms, named_format, number, number_within, text};
-use crate::words::{ADOPT, SOCKET_ID, TEXT_ID};
+use crate::words::TEXT_ID;
 use clap::ArgMatches;
-use lz_resp::{MOST_ARGUMENT, Naming};
-use lz_serve::{Language, Loops, MOST_CONNECTIONS, MOST_THREADS, ServeOptions};
-use lz_slot::{Format, LAST_ROOM, MOST_BUCKETS, MOST_PASSES, MOST_REHEARSED};
+use lz_resp::MOST_ARGUMENT;
+use lz_serve::ServeOptions;
+use lz_slot::{Format, LAST_ROOM, MOST_BUCKETS, MOST_REHEARSED};
 use std::alloc::{AllocError, Global};
 use std::fmt;
 
@@ -66,8 +68,8 @@ pub enum Request<'a> {
     Serve {
         file: &'a str,
         options: ServeOptions,
-        /// It has as many buckets as the file has slots, or as many as its format allows, in place of those of its options.
-        is_spread: bool,
+        /// What it takes as it finds it, in place of those of its options.
+        chosen: Chosen,
         /// The path of the socket on which it listens, in place of a port.
         socket: Option<&'a str>,
         /// The path of the socket on which it is asked to stop.
@@ -130,7 +132,7 @@ impl fmt::Display for Request<'_> {
 pub fn read<'a>(alloc: Global, words: &'a [String]) -> Result<Request<'a>, Refusal>
     ensures { IfOk result IsWithin }
 {
-    let Ok(command) = command_line(alloc, Listens::of(words)) else {
+    let Ok(command) = command_line(alloc, Given::of(words)) else {
         return Err(Refusal::Memory(AllocError));
     };
     match command.try_get_matches_from(words) {
@@ -243,82 +245,12 @@ fn run<'a>(words: &ArgMatches<'a>) -> Option<Request<'a>>
     })
 }
 
-fn serve<'a>(words: &ArgMatches<'a>) -> Option<Request<'a>>
-    ensures { IfSome result IsWithin }
-{
-    let options = serve_options(words)?;
-    Some(Request::Serve {
-        file: text(words, "FILE")?,
-        options,
-        is_spread: options.loops.is_some() && words.get_str("buckets").is_none(),
-        socket: text(words, SOCKET_ID),
-        control: text(words, "control"),
-        until_eof: words.get_flag("until-eof"),
-        no_lock: words.get_flag("no-lock"),
-        as_numbers: words.get_flag("numbers"),
-        adopts: words.get_str(TEXT_ID) == Some(ADOPT),
-    })
-}
-
 fn stop<'a>(words: &ArgMatches<'a>) -> Option<Request<'a>>
     ensures { IfSome result IsWithin }
 {
     Some(Request::Stop {
         path: text(words, "PATH")?,
         within: number(words, "within")?,
-    })
-}
-
-// How the command line asks to serve.
-fn serve_options(matches: &ArgMatches<'_>) -> Option<ServeOptions>
-    ensures passes { IfSome result ArePasses }
-    ensures buckets { IfSome result (λ options. (1 ≤ options.buckets) × (options.buckets ≤ most_buckets)) }
-    ensures loops { IfSome result (λ options. IfSome options.loops (AreWithin options.passes)) }
-{
-    let port = match matches.get_str(SOCKET_ID) {
-        Some(_) => 0,
-        None => u16::try_from(number(matches, "PORT")?).ok()?,
-    };
-    let buckets = match matches.get_str("buckets") {
-        Some(_) => number_within(matches, "buckets", MOST_BUCKETS)?,
-        None => 1,
-    };
-    let (passes, loops) = match matches.get_str("connections") {
-        Some(_) => {
-            let passes = number_within(matches, "PASSES", MOST_PASSES)?;
-            (passes, Some(loops_of(matches, passes)?))
-        }
-        None => (number_within(matches, "PASSES", MOST_THREADS)?, None),
-    };
-    Some(ServeOptions {
-        port,
-        passes,
-        loops,
-        sessions: number(matches, "sessions")?,
-        buckets,
-        idle: number(matches, "idle")?,
-    })
-}
-
-// The loops that the command line asks for, each of which needs a thread, a pass and a connection.
-fn loops_of(matches: &ArgMatches<'_>, passes: usize) -> Option<Loops>
-    requires { 1 ≤ passes }
-    ensures { IfSome result (AreWithin passes) }
-{
-    let connections = number_within(matches, "connections", MOST_CONNECTIONS)?;
-    let count = match matches.get_str("loops") {
-        Some(_) => number_within(matches, "loops", passes.min(MOST_THREADS))?,
-        None => 1,
-    };
-    let language = match (matches.get_flag("resp"), matches.contains_id(TEXT_ID)) {
-        (true, true) => Language::Frames(Naming::Texts),
-        (true, false) => Language::Frames(Naming::Rooms),
-        (false, _) => Language::Lines,
-    };
-    Some(Loops {
-        count: count.min(connections),
-        connections,
-        language,
     })
 }
 

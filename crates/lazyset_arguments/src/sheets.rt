@@ -1,8 +1,8 @@
 //! The commands, as a table.
 use crate::words::{
     ADDRESS, BUCKETS, CONNECTIONS, CONTROL, CONTROLLED, COPIED_FORMAT, COPIED_SLOTS, FILE, FORMAT,
-    GROWN_FORMAT, HISTORY, IDLE, KEYS, LIST, LOOPS, NEW, NO_LOCK, NUMBERS, OF, OLD, PASSES, PORT,
-    REHEARSED, REPLACE, RESP, ROOMY_FORMAT, SERVED_BUCKETS, SESSIONS, SLOTS, SOCKET, TEXT,
+    GROWN_FORMAT, HISTORY, IDLE, KEYS, LINES, LIST, LOOPS, NEW, NO_LOCK, NUMBERS, OF, OLD, PASSES,
+    PORT, REHEARSED, REPLACE, RESP, ROOMY_FORMAT, SERVED_BUCKETS, SESSIONS, SLOTS, SOCKET, TEXT,
     TEXTS_OF, UNTIL_EOF, WITHIN, Word,
 };
 
@@ -20,12 +20,32 @@ pub struct Sheet {
 pub const STATUSES: &str =
     "Exit statuses: 0 done; 1 the device, a read, a write or the port failed, or out of memory; 2 the command line; 3 the file or the input was refused; 4 damaged, not the same, or judged wrong. Standard error says in words why.";
 
+/// The words of a service.
+pub(crate) const SERVICE: &[Word] = &[
+    FILE,
+    PORT,
+    PASSES,
+    CONNECTIONS,
+    LOOPS,
+    RESP,
+    LINES,
+    TEXT,
+    NUMBERS,
+    SESSIONS,
+    IDLE,
+    SERVED_BUCKETS,
+    SOCKET,
+    CONTROL,
+    UNTIL_EOF,
+    NO_LOCK,
+];
+
 /// The commands, as the help lists them.
 pub const SHEETS: [Sheet; 11] = [
     Sheet {
         name: "make",
         about: "Makes a file that holds the empty set, or the keys of standard input. It overwrites any file that isn't a set, unless that is longer",
-        notes: "Prints `made SLOTS`, or `refused N`: 1 it is a set already, 2 bad number of slots, 3 the device failed, 4 the file is longer than the new one. A file that can't be had, or isn't a regular one, is `nofile`.\n\nWith --keys the file holds the keys of standard input, one a line, as `17` or `3:17`: what `check FILE --keys` prints. Where line L holds no key that the format has it prints `line L`, where its key stands in a line above `twice L`, and `refused 9 M S` where M keys have no room in S slots. Nothing is made then.\n\nWith --keys --text NAME each line is a text of 512 bytes at most, a member of the set NAME for `serve --resp --text`; one that stands there twice counts once, and the file's mark takes a slot (format 1 has none).\n\nExample: lazyset make f 1000",
+        notes: "Prints `made SLOTS`, or `refused N`: 1 it is a set already, 2 bad number of slots, 3 the device failed, 4 the file is longer than the new one. A file that can't be had, or isn't a regular one, is `nofile`.\n\nWith --keys the file holds the keys of standard input, one a line, as `17` or `3:17`: what `check FILE --keys` prints. Where line L holds no key that the format has it prints `line L`, where its key stands in a line above `twice L`, and `refused 9 M S` where M keys have no room in S slots. Nothing is made then.\n\nWith --keys --text NAME each line is a text of 512 bytes at most, a member of the set NAME for `serve --text`; one that stands there twice counts once, and the file's mark takes a slot (format 1 has none).\n\nExample: lazyset make f 1000",
         words: &[FILE, SLOTS, FORMAT, LIST, TEXTS_OF],
     },
     Sheet {
@@ -43,7 +63,7 @@ pub const SHEETS: [Sheet; 11] = [
     Sheet {
         name: "copy",
         about: "Makes a file that holds the keys of a running service, which speaks Redis's protocol",
-        notes: "ADDRESS is a port of this machine, HOST:PORT, or the path of a socket; the service was started with --resp, and without --text. Prints `copied M`, `noread` where the connection failed, ended, or was silent for a minute, `noreply` where a reply is no page of keys, `refused N` with what `make` would say of NEW, or `refused 9 M S` where M keys have no room in S slots. Nothing is made then. An address where nobody listens is `nofile`, and so is a NEW that isn't empty and is no set's. Without SLOTS the service is asked for its slots and its format.\n\nWith --replace the copy is made beside NEW, as NEW.copy, and renamed: a crash at any moment leaves NEW as it was or the copy, whole.\n\nEach key is in it that was a member all the while, and none that was no member at any moment of it.\n\nExample: lazyset copy 7000 g, and the next day lazyset copy 7000 g --replace",
+        notes: "ADDRESS is a port of this machine, HOST:PORT, or the path of a socket; the service speaks Redis's protocol, and was started without --text. Prints `copied M`, `noread` where the connection failed, ended, or was silent for a minute, `noreply` where a reply is no page of keys, `refused N` with what `make` would say of NEW, or `refused 9 M S` where M keys have no room in S slots. Nothing is made then. An address where nobody listens is `nofile`, and so is a NEW that isn't empty and is no set's. Without SLOTS the service is asked for its slots and its format.\n\nWith --replace the copy is made beside NEW, as NEW.copy, and renamed: a crash at any moment leaves NEW as it was or the copy, whole.\n\nEach key is in it that was a member all the while, and none that was no member at any moment of it.\n\nExample: lazyset copy 7000 g, and the next day lazyset copy 7000 g --replace",
         words: &[ADDRESS, NEW, COPIED_SLOTS, COPIED_FORMAT, REPLACE],
     },
     Sheet {
@@ -54,25 +74,9 @@ pub const SHEETS: [Sheet; 11] = [
     },
     Sheet {
         name: "serve",
-        about: "Answers the lines of many connections at once, as `run` does",
-        notes: "Prints `listening PORT`, or `listening PATH`, when clients can connect, `refused N` as `run` does, `noport`, `othertext` or `othernumbers`. Standard error is its log.\n\nIt locks the file: where another process has it, it says `nofile`.\n\nExample: lazyset serve f 7000 8 --buckets 1024 --idle 600\n\nFor thousands of connections: lazyset serve f 7000 1024 --connections 5000\n\nFor this user's programs alone: lazyset serve f - 8 --socket f.socket\n\nFor Redis's clients: lazyset serve f 7000 1024 --connections 5000 --resp",
-        words: &[
-            FILE,
-            PORT,
-            PASSES,
-            CONNECTIONS,
-            LOOPS,
-            RESP,
-            TEXT,
-            NUMBERS,
-            SESSIONS,
-            IDLE,
-            SERVED_BUCKETS,
-            SOCKET,
-            CONTROL,
-            UNTIL_EOF,
-            NO_LOCK,
-        ],
+        about: "Answers many connections at once: their lines, as `run` does, or the frames of Redis's protocol",
+        notes: "Without PASSES it chooses what isn't given: port 7000, 1024 commands at once, as many connections as descriptors allow, 10000 at most, as many buckets as the file has slots, or as its format allows, and a control socket at FILE.control. A connection whose first byte is `*` speaks Redis's protocol then, and any other lines. With PASSES nothing but the buckets is chosen, and lines are spoken unless --resp is given.\n\nPrints `listening PORT`, or `listening PATH`, when clients can connect, `refused N` as `run` does, `noport`, `othertext` or `othernumbers`. Standard error is its log.\n\nIt locks the file: where another process has it, it says `nofile`.\n\nExample: lazyset serve f\n\nFor Redis's clients, whose members are any bytes: lazyset serve f 7000 --resp --text\n\nFor this user's programs alone: lazyset serve f --socket f.socket\n\nBy a thread for each of 8 connections, in lines: lazyset serve f 7000 8 --buckets 1024 --idle 600\n\nBy a few threads for thousands of them: lazyset serve f 7000 1024 --connections 5000",
+        words: SERVICE,
     },
     Sheet {
         name: "stop",

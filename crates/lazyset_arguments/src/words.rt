@@ -14,8 +14,10 @@ pub enum Form {
     /// A number in the last place, which may be left out.
     LastNumber,
     Within(i64, i64),
-    /// Within these bounds, or `-` where `--socket` stands.
+    /// Within these bounds, or `-` where `--socket` stands. It may be left out where PASSES are.
     Port(i64, i64),
+    /// A number that may be left out, as a service's PASSES.
+    Passes,
 }
 
 /// What else may stand with an option.
@@ -26,15 +28,15 @@ pub enum Beside {
     Needs(&'static str),
     /// It stands without this one.
     Excludes(&'static str),
-    /// It needs the first one, and stands without the other.
-    Parts(&'static str, &'static str),
+    /// Where a service's PASSES stand it needs the first one, if there is one. It stands without the others.
+    Serving(Option<&'static str>, &'static [&'static str]),
 }
 
 /// A word of a command.
 #[derive(Clone, Copy)]
 pub struct Word {
     pub id: &'static str,
-    /// What the help calls the value of an option. A word without it stands in its place, and is required but for a last one.
+    /// What the help calls the value of an option. A word without it stands in its place, and is required unless its form says otherwise.
     pub value_name: Option<&'static str>,
     pub form: Form,
     pub default: Option<&'static str>,
@@ -42,7 +44,24 @@ pub struct Word {
     pub help: &'static str,
 }
 
-/// The option by which a service listens at a path.
+/// What stands last among a service's words that have places of their own.
+pub const PASSES_ID: &str = "PASSES";
+
+/// The options by which a service speaks one protocol alone.
+pub const RESP_ID: &str = "resp";
+
+pub const LINES_ID: &str = "lines";
+
+/// The option by which it serves many connections.
+pub const CONNECTIONS_ID: &str = "connections";
+
+/// The option by which it takes any keys for numbers.
+pub const NUMBERS_ID: &str = "numbers";
+
+/// The option by which it is asked to stop.
+pub const CONTROL_ID: &str = "control";
+
+/// The option by which it listens at a path.
 pub const SOCKET_ID: &str = "socket";
 
 /// What stands in the place of a port then.
@@ -210,7 +229,7 @@ pub(crate) const BUCKETS: Word = Word {
 
 pub(crate) const SERVED_BUCKETS: Word = Word {
     default: None,
-    help: "The number of hash buckets, 1 to 4096, or to 1048576 with format 3 or 4: choose about the number of members. Where it isn't given 1, and with --connections as many as the file has slots, or as its format allows",
+    help: "The number of hash buckets, 1 to 4096, or to 1048576 with format 3 or 4: choose about the number of members. Where it isn't given 1, and with --connections, or without PASSES, as many as the file has slots, or as its format allows",
     ..BUCKETS
 };
 
@@ -220,25 +239,25 @@ pub(crate) const PORT: Word = Word {
     form: Form::Port(0, 65_535),
     default: None,
     beside: Beside::Anything,
-    help: "The port of 127.0.0.1; 0 takes a free one, which is printed; - with --socket",
+    help: "The port of 127.0.0.1, 7000 where it isn't given; 0 takes a free one, which is printed; - with --socket",
 };
 
 pub(crate) const PASSES: Word = Word {
-    id: "PASSES",
+    id: PASSES_ID,
     value_name: None,
-    form: Form::Number,
+    form: Form::Passes,
     default: None,
     beside: Beside::Anything,
-    help: "How many commands are carried out at once, 1 to 64, or to 1024 with --connections; without it also how many connections are served, each by a thread. Further ones wait",
+    help: "How many commands are carried out at once, 1 to 64, or to 1024 with --connections; without it also how many connections are served, each by a thread. Further ones wait. Where it isn't given it is 1024, and what else isn't given is chosen",
 };
 
 pub(crate) const CONNECTIONS: Word = Word {
-    id: "connections",
+    id: CONNECTIONS_ID,
     value_name: Some("C"),
     form: Form::Within(1, MOST_CONNECTIONS as i64),
     default: None,
     beside: Beside::Anything,
-    help: "Serves up to C connections at once, 1 to 10000, by a few threads, in place of a thread for each",
+    help: "Serves up to C connections at once, 1 to 10000, by a few threads, in place of a thread for each; without PASSES as many as descriptors allow unless given",
 };
 
 pub(crate) const LOOPS: Word = Word {
@@ -246,17 +265,26 @@ pub(crate) const LOOPS: Word = Word {
     value_name: Some("L"),
     form: Form::Within(1, MOST_THREADS as i64),
     default: None,
-    beside: Beside::Needs("connections"),
+    beside: Beside::Serving(Some(CONNECTIONS_ID), &[]),
     help: "How many threads serve the connections, 1 to 64 and at most PASSES; 1 unless given",
 };
 
 pub(crate) const RESP: Word = Word {
-    id: "resp",
+    id: RESP_ID,
     value_name: None,
     form: Form::Flag,
     default: None,
-    beside: Beside::Needs("connections"),
-    help: "Speaks the protocol of Redis (RESP2) in place of lines, so that its clients can be used",
+    beside: Beside::Serving(Some(CONNECTIONS_ID), &[]),
+    help: "Speaks the protocol of Redis (RESP2) in place of lines, so that its clients can be used; without PASSES both are spoken unless one is named",
+};
+
+pub(crate) const LINES: Word = Word {
+    id: LINES_ID,
+    value_name: None,
+    form: Form::Flag,
+    default: None,
+    beside: Beside::Serving(None, &[RESP_ID, TEXT_ID, NUMBERS_ID]),
+    help: "Speaks lines alone",
 };
 
 pub(crate) const TEXT: Word = Word {
@@ -264,16 +292,16 @@ pub(crate) const TEXT: Word = Word {
     value_name: Some("HOW"),
     form: Form::Choice(&[ADOPT]),
     default: None,
-    beside: Beside::Needs("resp"),
+    beside: Beside::Serving(Some(RESP_ID), &[]),
     help: "Takes any bytes as names and members, whose SHA-256 is the key (docs/PROTOCOL.md); else a name is a room, and a member a number. An empty file is marked so, and one of numbers is refused, `othernumbers`. --text=adopt marks a file that release 1.16 or an older one served with --text",
 };
 
 pub(crate) const NUMBERS: Word = Word {
-    id: "numbers",
+    id: NUMBERS_ID,
     value_name: None,
     form: Form::Flag,
     default: None,
-    beside: Beside::Parts("resp", TEXT_ID),
+    beside: Beside::Serving(Some(RESP_ID), &[TEXT_ID]),
     help: "Takes keys for numbers though the file is marked as one of texts, which is refused without it, `othertext`",
 };
 
@@ -305,12 +333,12 @@ pub(crate) const SOCKET: Word = Word {
 };
 
 pub(crate) const CONTROL: Word = Word {
-    id: "control",
+    id: CONTROL_ID,
     value_name: Some("PATH"),
     form: Form::Text,
     default: None,
     beside: Beside::Anything,
-    help: "Makes a socket at this path, on which `lazyset stop PATH` asks the service to stop",
+    help: "Makes a socket at this path, on which `lazyset stop PATH` asks the service to stop; without PASSES at FILE.control unless given",
 };
 
 pub(crate) const UNTIL_EOF: Word = Word {
