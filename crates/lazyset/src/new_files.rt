@@ -75,9 +75,11 @@ fn lines_of(texts_of: Option<&str>, format: Format) -> Lines<'_>
 
 // Says how many lines a list had. A text may stand there twice.
 fn say_count<R: Eprint>(rt: &R, file: &str, count: u64, lines: Lines<'_>) {
-    let _ = match lines {
-        Lines::Keys => eprintln!(rt; "lazyset: make {file}: {count} keys"),
-        Lines::Texts(_) => eprintln!(rt; "lazyset: make {file}: {count} lines of texts"),
+    let _ = match (lines, count) {
+        (Lines::Keys, 1) => eprintln!(rt; "lazyset: make {file}: 1 key"),
+        (Lines::Keys, _) => eprintln!(rt; "lazyset: make {file}: {count} keys"),
+        (Lines::Texts(_), 1) => eprintln!(rt; "lazyset: make {file}: 1 line of texts"),
+        (Lines::Texts(_), _) => eprintln!(rt; "lazyset: make {file}: {count} lines of texts"),
     };
 }
 
