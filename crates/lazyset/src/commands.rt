@@ -1,7 +1,6 @@
 //! One function for each command: it opens what the command works on.
-ghost use Rattle.std.specs.Prelude.{◌≡◌, ◌≤◌};
-ghost use Rattle.lz_slot.specs.Limits.{last_room, most_buckets, most_buckets_of, most_rehearsed};
-ghost use Rattle.lz_slot.specs.Rooms.{last_room_of};
+ghost use Rattle.std.specs.Prelude.{◌≤◌};
+ghost use Rattle.lz_slot.specs.Limits.{most_buckets, most_buckets_of, most_rehearsed};
 ghost use Rattle.lazyset_arguments.specs.Requests.{IsWithin};
 
 use crate::control::ask_to_stop;
