@@ -18,7 +18,7 @@ from trials.guests import connect
 from trials.hostile import Drawn
 from trials.locks import taken
 from trials.marks import IS_NUMBERS, IS_TEXT, MARK, made
-from trials.noise_frames import FrameNoise
+from trials.noise_frames import OTHERS, FrameNoise
 from trials.plain import Plain
 from trials.plain_frames import PONG, PlainTalk, array, integer
 from trials.program import Ended, Key, Program, Service
@@ -41,18 +41,24 @@ CHOICES: Tuple[Tuple[Sequence[str], str], ...] = (
 PING = array(b"PING")
 ADD, HAS = array(b"SADD", b"3", b"17"), array(b"SISMEMBER", b"3", b"17")
 
-# What a client sends that may speak either, and what it is told by a service of both, of Redis's protocol, and of lines.
-TALKS: Tuple[Tuple[bytes, bytes, bytes, bytes], ...] = (
-    (PING + ADD + HAS, PONG + integer(1) + integer(1), PONG + integer(0) + integer(1), b"bad 2\n" * 17),
-    (b"has 3:17\nquit\n", b"yes\n", b"-ERR unknown command 'has'\r\n-ERR unknown command 'quit'\r\n", b"yes\n"),
-    (b"PING\r\n", b"bad 2\n", PONG, b"bad 2\n"),
-    (b"add 5", b"bad 5\n", b"", b"bad 5\n"),
-    (b"has 6\n*1\n", b"no\nbad 2\n", b"-ERR unknown command 'has'\r\n", b"no\nbad 2\n"),
-    (b"\n" + PING, b"bad 2\n" * 4, PONG, b"bad 2\n" * 4),
-    (PING + b"PING\r\n", PONG * 2, PONG * 2, b"bad 2\n" * 4),
-    (b"*", b"", b"", b"bad 5\n"),
-    (b"", b"", b"", b""),
+# What a client sends that may speak either, and what it is told by a service of both, and by one of lines. A key is there, 3:17.
+TALKS: Tuple[Tuple[bytes, bytes, bytes], ...] = (
+    (PING + ADD + HAS, PONG + integer(0) + integer(1), b"bad 2\n" * 17),
+    (b"has 3:17\nquit\n", b"yes\n", b"yes\n"),
+    (b"PING\r\n", b"bad 2\n", b"bad 2\n"),
+    (b"add 5", b"bad 5\n", b"bad 5\n"),
+    (b"has 6\n*1\n", b"no\nbad 2\n", b"no\nbad 2\n"),
+    (b"\n" + PING, b"bad 2\n" * 4, b"bad 2\n" * 4),
+    (PING + b"PING\r\n", PONG * 2, b"bad 2\n" * 4),
+    (b"*", b"", b"bad 5\n"),
+    (b"", b"", b""),
 )
+
+
+class WithoutSize(FrameNoise):
+    """Draws frames, and never asks how many members there are: that counts what later frames of a client have added by then."""
+
+    others = (*OTHERS, (b"RESET",))
 
 
 def serving(
@@ -134,9 +140,7 @@ def expect_taken(program: Program, file: str, other: socket.socket, words: Seque
 def try_faults(program: Program, folder: str) -> None:
     """A control socket that can't be made beside the file is told, with the word that mends it, and nothing is served."""
     file = os.path.join(folder, "f")
-    deep = os.path.join(folder, "d" * 60)
-    os.mkdir(deep)
-    long = os.path.join(deep, "f" * (107 - len(deep)))
+    long = os.path.join(folder, "f" * 100)
     for path in (file, long):
         program.make(path, SLOTS)
     said = f"lazyset: serve {long}: {control_of(long)} is too long for a socket: name a shorter path by --control\n"
@@ -158,15 +162,16 @@ def try_faults(program: Program, folder: str) -> None:
 def try_languages(program: Program, folder: str) -> None:
     """The first byte of a connection tells its protocol, in whatever pieces it comes, and one that is named is spoken alone."""
     file = os.path.join(folder, "f")
-    for place, words in enumerate(((), ("--resp",), ("--lines",)), 1):
-        what = " ".join(words)
-        made(program, file, () if place == 1 else (Key(3, 17),), SLOTS, 2)
+    made(program, file, (Key(3, 17),), SLOTS, 2)
+    plain = Plain(2, SLOTS)
+    plain.ask("add", Key(3, 17))
+    for words in ((), ("--resp",), ("--lines",)):
         with serving(program, file, *words) as service:
-            for talk in TALKS:
-                expect(replies(service.port, talk[0]), talk[place], f"{talk[0]!r} {what}")
-            for talk in TALKS[1:]:
-                pieces = [bytes([byte]) for byte in talk[0]]
-                expect(sent(connect(service.port), pieces), talk[place], f"{talk[0]!r}, byte by byte {what}")
+            for text, by_both, by_lines in TALKS:
+                wanted = by_lines if words == ("--lines",) else PlainTalk(plain).tell(text).replies if words else by_both
+                expect(replies(service.port, text), wanted, f"{text!r} {' '.join(words)}")
+                pieces = [bytes([byte]) for byte in text]
+                expect(sent(connect(service.port), pieces), wanted, f"{text!r}, byte by byte {' '.join(words)}")
 
 
 def try_beside(program: Program, folder: str) -> None:
@@ -222,6 +227,21 @@ def try_marks(program: Program, folder: str) -> None:
             expect(client.recv(64), b"yes\n", "a line that asks for the text's number")
 
 
+def try_copies(program: Program, folder: str) -> None:
+    """`copy` speaks Redis's protocol to a service of both."""
+    file, whole, named = (os.path.join(folder, name) for name in ("f", "whole", "named"))
+    keys = (Key(0, 5), Key(3, 17), Key(15, 7))
+    made(program, file, keys, SLOTS, 4)
+    with serving(program, file) as service:
+        expect(program.run("copy", str(service.port), whole), Ended("copied 3\n", 0), "a copy as large as the file")
+        expect(program.run("copy", str(service.port), named, "9"), Ended("copied 3\n", 0), "a copy of nine slots")
+    for path, slots in ((whole, SLOTS), (named, 9)):
+        expect(program.members(path), list(keys), f"the keys of {path}")
+        expect(program.run("info", path).text.splitlines()[1], f"slots {slots}", f"the slots of {path}")
+    with serving(program, file, "--lines") as service:
+        expect(program.run("copy", str(service.port), os.path.join(folder, "none")), Ended("noreply\n", 3), "a copy of a service of lines")
+
+
 # Words of a service, and how a command line with them is told to be wrong. Where PASSES are given that is as it was before they could be left out.
 NEEDS = "error: the following required arguments were not provided:\n  "
 MORE = "\n\nFor more information, try '--help'.\n"
@@ -236,7 +256,6 @@ WORDS: Tuple[Tuple[str, str], ...] = (
     ("0 8 9", f"error: unexpected argument '9' found\n\nUsage: lazyset serve [OPTIONS] <FILE> <PORT> <PASSES>{MORE}"),
     ("x", f"error: invalid value 'x' for '[PORT]': invalid digit found in string{MORE}"),
     ("-", f"error: invalid value '-' for '[PORT]': invalid digit found in string{MORE}"),
-    ("0 --resp --lines", f"error: the argument '--resp' cannot be used with '--lines'\n\nUsage: lazyset serve --resp <FILE> [PORT]{MORE}"),
 )
 
 
@@ -246,7 +265,7 @@ def try_words(program: Program, folder: str) -> None:
     program.make(file, 4)
     for words, text in WORDS:
         expect(program.run("serve", file, *words.split()), Ended(text, 2), words)
-    for words in ("0 --lines --text", "0 --lines --numbers", "0 --text --numbers", "0 --connections 0", "0 --loops 65", "0 8 --lines --connections 4 --resp"):
+    for words in ("0 --lines --resp", "0 --lines --text", "0 --lines --numbers", "0 --text --numbers", "0 --connections 0", "0 --loops 65", "0 8 --lines --connections 4 --resp"):
         expect(program.run("serve", file, *words.split()).status, 2, words)
     with Service(program, file, 4, "--lines") as service:
         expect(replies(service.port, PING), b"bad 2\n" * 3, "a service of lines by threads")
@@ -256,7 +275,7 @@ def try_words(program: Program, folder: str) -> None:
 def try_noise(program: Program, folder: str, drawn: Drawn) -> None:
     """Clients of both protocols one after the other, whose noise is drawn: each is told what a plain set tells in the protocol of its first byte."""
     file = os.path.join(folder, "f")
-    plain, lines, frames = Plain(2, 60_000), drawn.noise(8), FrameNoise(drawn.seed * 8 + 5)
+    plain, lines, frames = Plain(2, 60_000), drawn.noise(8), WithoutSize(drawn.seed * 8 + 5)
     put(file, plain.file())
     counts = {True: 0, False: 0}
     with serving(program, file) as service:
@@ -278,5 +297,6 @@ TRIALS = (
     ("both protocols on one port", try_languages),
     ("clients of both protocols", try_beside),
     ("numbers or texts for both protocols", try_marks),
+    ("a copy of a service of both protocols", try_copies),
     ("words of a service that chooses", try_words),
 )

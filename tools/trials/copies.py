@@ -155,16 +155,16 @@ def try_cut_off(program: Program, folder: str) -> None:
 
 @contextmanager
 def endless(pages: Sequence[bytes]) -> Iterator[int]:
-    """A port where one client is told these pages, one for each request, and again from the first one on."""
+    """A port where one client is told these pages, one for each request, and again from the first one on. A frame of no words asks for nothing."""
     with socket.create_server(("127.0.0.1", 0)) as listener:
 
         def answer() -> None:
             client, _ = listener.accept()
-            with client, suppress(OSError):
-                for page in itertools.cycle(pages):
-                    if not client.recv(1 << 16):
-                        return
-                    client.sendall(page)
+            with client, client.makefile("rb") as asked, suppress(OSError):
+                told_next = itertools.cycle(pages)
+                for line in asked:
+                    if line != b"*0\r\n":
+                        client.sendall(next(told_next))
 
         thread = threading.Thread(target=answer)
         thread.start()
