@@ -43,8 +43,8 @@ NOT_RUN: Dict[str, Dict[str, str]] = {
         "docker run --rm -v keys:/set lazyset make keys 1000": DOCKER,
         "docker run --init -d --name keys -v keys:/set lazyset serve keys 7000 8 --buckets 1000 --control /run/lazyset/control": DOCKER,
         "docker run --rm --network container:keys CLIENT": DOCKER,
-        "redis-cli SMEMBERS seen | lazyset make set 100000 --keys": REDIS,
-        "redis-cli SMEMBERS tags | PYTHONPATH=clients/python python3 keys_of_members.py tags | lazyset make texts 100000 --keys": REDIS,
+        "redis-cli SMEMBERS seen | lazyset make set 100000 --format 4 --keys": REDIS,
+        "redis-cli SMEMBERS tags | lazyset make texts 100000 --format 4 --keys --text tags": REDIS,
     },
     "OPERATIONS.md": {
         "make install": ROOT,
