@@ -152,16 +152,13 @@ where
                 let serve = move || -> Vec<FreePass<N, B>>
                     ensures { vec_len result ≡ vec_len share }
                 { worker.serve(share) };
-                match begin(scope, HandsBack { count }, serve) {
+                match begin(scope, HandsBack { count }, serve, observer) {
                     Ok(thread) => {
                         let Ok(()) = threads.push(thread) else {
                             unreachable!()
                         };
                     }
-                    Err(served) => {
-                        observer.threadless();
-                        add_all(&mut back, served);
-                    }
+                    Err(served) => add_all(&mut back, served),
                 }
             }
             add_all(&mut back, free);
@@ -171,12 +168,16 @@ where
     )
 }
 
-// Does this in a thread of its own. Where none can be made, it is done here, and what comes of it is the error.
-fn begin<'s, E, P: Promise<T> + Drop, F: FnOnce() -> T + Send + 's, T: Send + Drop + 's>(
-    scope: &Scope<'s, E>,
-    promise: P,
-    f: F,
-) -> Result<PromisedHandle<T, P>, T>
+// Does this in a thread of its own. Where none can be made, it is done here, and what comes of it is the error. The observer is told so
+// before: it may last as long as the service.
+fn begin<
+    's,
+    E,
+    P: Promise<T> + Drop,
+    F: FnOnce() -> T + Send + 's,
+    T: Send + Drop + 's,
+    O: Observer,
+>(scope: &Scope<'s, E>, promise: P, f: F, observer: &O) -> Result<PromisedHandle<T, P>, T>
     requires runs { F.pre f }
     requires keeps { (r : T) → F.post f r → P.kept_by promise r }
     ensures ok { IfOk result (λ thread. thread.promise ≡ promise) }
@@ -186,6 +187,7 @@ fn begin<'s, E, P: Promise<T> + Drop, F: FnOnce() -> T + Send + 's, T: Send + Dr
         Ok(thread) => Ok(thread),
         Err(refused) => {
             let SpawnError { value: do_here } = refused;
+            observer.threadless();
             Err(do_here())
         }
     }
