@@ -265,7 +265,8 @@ def try_words(program: Program, folder: str) -> None:
     program.make(file, 4)
     for words, text in WORDS:
         expect(program.run("serve", file, *words.split()), Ended(text, 2), words)
-    for words in ("0 --lines --resp", "0 --lines --text", "0 --lines --numbers", "0 --text --numbers", "0 --connections 0", "0 --loops 65", "0 8 --lines --connections 4 --resp"):
+    named = ("0 --lines --resp", "0 --lines --text", "0 --lines --numbers", "0 --text --numbers", "0 8 --lines --connections 4 --resp")
+    for words in (*named, "0 --connections 0", "0 --loops 65"):
         expect(program.run("serve", file, *words.split()).status, 2, words)
     with Service(program, file, 4, "--lines") as service:
         expect(replies(service.port, PING), b"bad 2\n" * 3, "a service of lines by threads")
