@@ -17,7 +17,8 @@ use crate::service::{At, Until};
 use crate::source::Source;
 use crate::starting::serve_file;
 use crate::texts::wanted_by;
-use crate::words::words_of;
+use crate::told::Told;
+use crate::words::{Roomy, words_of};
 use lazyset_arguments::{Request, read};
 use lazyset_set_commands::{
     MOST_JUDGED, Shown, Status, check_of_on, judge_on, rehearse_on, survey_on, torn_slots,
@@ -62,6 +63,11 @@ fn say_why<R: Eprint>(rt: &R, request: Request<'_>, line: Option<&str>) {
     let Some(line) = line else { return };
     if let Some(words) = words_of(request, line) {
         let _ = eprintln!(rt; "lazyset: {request}: {line}: {words}");
+    }
+    if let Some(command) = Roomy::of(request, line) {
+        let _ = eprintln!(rt;
+            "lazyset: {command} would do, on a disk where a crash leaves each byte that was being written old or new"
+        );
     }
 }
 
@@ -139,15 +145,20 @@ where
             chosen,
             socket,
             control,
+            mode,
             until_eof,
             no_lock,
             as_numbers,
             adopts,
         } => {
-            let until = Until { control, until_eof };
+            let until = Until {
+                control,
+                mode,
+                until_eof,
+            };
             // Before anything else is opened, which might get its number.
             let at = match socket {
-                Some(path) => At::Path(path),
+                Some(path) => At::Path(path, mode),
                 None => At::Port(handed(rt)),
             };
             let wanted = wanted_by(options.loops, as_numbers, adopts);
@@ -182,8 +193,14 @@ where
     W: Write + Drop,
     requires { (1 ≤ buckets) × (buckets ≤ most_buckets) }
 {
-    let disk = open_for(rt, file, buckets, no_lock)?;
-    let (status, disk) = run_over(rt, &mut rt.reader(), writer, file, disk, buckets);
+    let (disk, header) = open_for(rt, file, buckets, no_lock)?;
+    let told = Told {
+        rt,
+        file,
+        buckets,
+        most_buckets: header.map_or(buckets, |header| header.format.most_buckets()),
+    };
+    let (status, disk) = run_over(rt, &mut rt.reader(), writer, &told, file, disk, buckets);
     say_cause(rt, file, disk.cause());
     Ok(status)
 }

@@ -1,6 +1,7 @@
 //! The command line of the set service: it reads the words, opens the files, and hands over to the library of commands.
 #![tactic(auto)]
 
+mod asked;
 mod at_path;
 mod backlog;
 mod before;
@@ -22,7 +23,9 @@ mod held;
 mod identity;
 mod level;
 mod log;
+mod long_lists;
 mod making;
+mod moment;
 mod new_files;
 mod over_disk;
 mod ready;
@@ -34,6 +37,7 @@ mod source;
 mod starting;
 mod tally;
 mod texts;
+mod told;
 mod watched;
 mod way_out;
 mod words;

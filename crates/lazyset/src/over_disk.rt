@@ -19,7 +19,7 @@ ghost use Rattle.lazyset_set_commands.specs.Runs.{SessionOfSet};
 
 use crate::files::{bytes_of, shown};
 use lazyset_set_commands::{
-    Lines, Shelf, Standing, Status, copy_on, grow_on, make_keys_on, make_on, renew_on, run_on,
+    Heed, Lines, Shelf, Standing, Status, copy_on, grow_on, make_keys_on, make_on, renew_on, run_on,
 };
 use lz_disk::Disk;
 use lz_slot::Format;
@@ -156,10 +156,11 @@ where
 }
 
 /// Serves a session over the disk of this path, and hands the disk back.
-pub fn run_over<R, I, W, D>(
+pub fn run_over<R, I, W, H, D>(
     rt: &R,
     reader: &mut I,
     writer: &mut W,
+    heed: &H,
     path: &str,
     disk: D,
     buckets: usize,
@@ -168,6 +169,7 @@ where
     R: Files<File = File> + Eprint + AllocGlobal + Wait + Clock,
     I: Read + Drop,
     W: Write + Drop,
+    H: Heed,
     D: Disk,
     requires buckets { (1 ≤ buckets) × (buckets ≤ most_buckets) }
     requires medium { MayOpen (D.device disk) }
@@ -176,6 +178,6 @@ where
         ⊎ FailedOpen result.0 (W.contents writer.old) (W.contents writer.new) (D.device disk) (D.device result.1) }
 {
     let disk = shown(rt, path, disk, None);
-    let (status, disk) = run_on(rt, reader, writer, disk, buckets);
+    let (status, disk) = run_on(rt, reader, writer, heed, disk, buckets);
     (status, disk.end())
 }

@@ -9,6 +9,7 @@ use crate::backlog::Backlog;
 use crate::control::{Control, tell_ended};
 use crate::ending::has_ended;
 use crate::fault::Fault;
+use crate::files::shown;
 use crate::handed::is_of_six;
 use crate::level::is_journal;
 use crate::log::{Log, Stoppable, Surroundings};
@@ -42,6 +43,8 @@ const UNTIL_EOF: &str = "--until-eof";
 pub struct Until<'a> {
     /// The path of its control socket.
     pub control: Option<&'a str>,
+    /// The mode of that.
+    pub mode: Option<u32>,
     /// The end of standard input.
     pub until_eof: bool,
 }
@@ -51,15 +54,15 @@ pub struct Until<'a> {
 pub enum At<'a> {
     /// On a port, or at the listener that was handed over in place of one.
     Port(Option<io::Result<TcpListener>>),
-    /// At the socket of this path.
-    Path(&'a str),
+    /// At the socket of this path, with this mode.
+    Path(&'a str, Option<u32>),
 }
 
 impl<'a> At<'a> {
     fn is_of_six(&self) -> bool {
         match self {
             At::Port(handed) => is_of_six(handed),
-            At::Path(_) => false,
+            At::Path(..) => false,
         }
     }
 
@@ -67,7 +70,7 @@ impl<'a> At<'a> {
     fn way_out(&self, port: u16, is_chosen: bool) -> WayOut {
         match self {
             At::Port(None) if is_chosen => WayOut::Port(port),
-            At::Path(_) if is_chosen => WayOut::Path,
+            At::Path(..) if is_chosen => WayOut::Path,
             _ => WayOut::Unsaid,
         }
     }
@@ -83,8 +86,8 @@ impl<'a> At<'a> {
                 listener: Some(handed.map(Listener::Port)),
                 path: None,
             },
-            At::Path(path) => Place {
-                listener: Some(listen_at(rt, path, BACKLOG).map(Listener::Path)),
+            At::Path(path, mode) => Place {
+                listener: Some(listen_at(rt, path, mode, BACKLOG).map(Listener::Path)),
                 path: Some(path),
             },
         }
@@ -123,8 +126,10 @@ where
         Err(status) => return Ok(status),
     };
     let watched = File::open(rt, file).ok().and_then(Watched::new);
-    let around = surroundings_of(rt, &at, at.way_out(options.port, chosen.passes));
+    let by_loops = options.loops.is_some();
+    let around = surroundings_of(rt, &at, at.way_out(options.port, chosen.passes), by_loops);
     let place = at.place(rt);
+    let disk = shown(rt, file, disk, bytes_read(rt, file, wanted));
     let socket = socket_of(rt, &place);
     let log = Log::new(rt, file, watched, around);
     let Ended {
@@ -143,6 +148,7 @@ where
         control.as_ref(),
         until.until_eof,
     );
+    let disk = disk.end();
     log.say_cause(disk.cause());
     take_away_sockets(rt, until, socket);
     log.ended();
@@ -164,7 +170,7 @@ where
     let Some(path) = until.control else {
         return Ok(None);
     };
-    match Control::listen(rt, path) {
+    match Control::listen(rt, path, until.mode) {
         Ok(control) => Ok(Some(control)),
         Err(error) => {
             say_no_control(rt, file, path, is_chosen, &error);
@@ -188,13 +194,25 @@ fn say_no_control<R: Eprint>(rt: &R, file: &str, path: &str, is_chosen: bool, er
     };
 }
 
-fn surroundings_of<R>(rt: &R, at: &At<'_>, way_out: WayOut) -> Surroundings
+// How many bytes of the file are read before it is served: all, and where it matters what the keys are all once more.
+fn bytes_read<R: Files>(rt: &R, file: &str, wanted: Wanted) -> Option<u64> {
+    let length = rt.metadata(file).ok()?.len();
+    Some(match wanted {
+        Wanted::Anything => length,
+        _ => length.saturating_mul(2),
+    })
+}
+
+// Where no journal has the time of each line, the log of loops has it.
+fn surroundings_of<R>(rt: &R, at: &At<'_>, way_out: WayOut, by_loops: bool) -> Surroundings
 where
     R: Env + Files<File = File> + AllocGlobal,
 {
+    let has_levels = is_journal(rt);
     Surroundings {
         way_out,
-        has_levels: is_journal(rt),
+        has_levels,
+        has_times: by_loops && !has_levels,
         ready: Ready::new(rt),
         backlog: Backlog::new(rt, at.is_of_six()),
     }

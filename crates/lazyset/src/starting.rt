@@ -1,16 +1,15 @@
 //! The start of a service: its file is opened, and what its command line doesn't name is chosen.
-ghost use Rattle.std.specs.Prelude.{◌≡◌, ◌≤◌, IsTrue};
+ghost use Rattle.std.specs.Prelude.{◌≤◌};
 ghost use Rattle.lz_slot.specs.Limits.{most_buckets, most_passes};
-ghost use Rattle.lz_vault.specs.Makes.{WritesNothing};
 
 use crate::descriptors::connections_allowed;
 use crate::fault::Fault;
-use crate::files::{header_on, open_for};
+use crate::files::open_for;
 use crate::service::{At, Until, serve};
 use lazyset_arguments::Chosen;
 use lazyset_set_commands::{ServeOptions, Status, Wanted};
-use lz_disk::Disk;
 use lz_serve::Loops;
+use lz_slot::Header;
 use std::fs::File;
 use std::io::Write;
 use std::net::{Net, TcpListener, TcpStream};
@@ -38,9 +37,9 @@ where
     requires passes { (1 ≤ options.passes) × (options.passes ≤ most_passes) }
     requires buckets { (1 ≤ options.buckets) × (options.buckets ≤ most_buckets) }
 {
-    let mut disk = open_for(rt, file, options.buckets, no_lock)?;
+    let (disk, header) = open_for(rt, file, options.buckets, no_lock)?;
     let buckets = if chosen.buckets {
-        buckets_for(&mut disk)
+        buckets_for(header)
     } else {
         options.buckets
     };
@@ -67,11 +66,10 @@ where
 
 // As many buckets as the file has slots, or as its format allows. One where its head can't be read: its open refuses it.
 #[tactic(auto, using(crate::proofs::Buckets::buckets_of_format))]
-fn buckets_for<D: Disk>(disk: &mut D) -> usize
-    ensures range { (1 ≤ result) × (result ≤ most_buckets) }
-    ensures nothing { IsTrue (D.device disk.old).honest → WritesNothing (D.device disk.old) (D.device disk.new) }
+fn buckets_for(header: Option<Header>) -> usize
+    ensures { (1 ≤ result) × (result ≤ most_buckets) }
 {
-    let Some(header) = header_on(disk) else {
+    let Some(header) = header else {
         return 1;
     };
     let most = header.format.most_buckets();

@@ -2,6 +2,7 @@
 
 use lazyset_arguments::Request;
 use lz_slot::Format;
+use std::fmt;
 
 // What stands before the number of a fault.
 const REFUSED: &str = "refused ";
@@ -62,6 +63,42 @@ fn words_of_making(number: u8, format: Format) -> Option<&'static str> {
         b'4' => Some("it is longer than the new file would be"),
         b'9' => Some("so many keys have no room in so many slots"),
         _ => None,
+    }
+}
+
+/// The command that makes a file of so many slots, in a format that has them.
+#[derive(Clone, Copy)]
+pub struct Roomy<'a> {
+    request: Request<'a>,
+    slots: u64,
+}
+
+impl<'a> Roomy<'a> {
+    /// That for a command that ended with this line, since the format that it was to make has no file of so many slots.
+    pub fn of(request: Request<'a>, line: &str) -> Option<Roomy<'a>> {
+        let (Request::Make { slots, .. } | Request::MakeKeys { slots, .. }) = request else {
+            return None;
+        };
+        let is_many = slots > Format::Two.most_slots() && slots <= Format::Four.most_slots();
+        if !is_many || number_of_fault(line) != Some(b'2') {
+            return None;
+        }
+        Some(Roomy { request, slots })
+    }
+}
+
+impl fmt::Display for Roomy<'_> {
+    fn fmt<W: fmt::Write>(&self, f: &mut fmt::Formatter<W>) -> fmt::Result {
+        let (request, slots) = (self.request, self.slots);
+        write!(f, "lazyset {request} {slots} --format 4")?;
+        match request {
+            Request::MakeKeys {
+                texts_of: Some(name),
+                ..
+            } => write!(f, " --keys --text {name}"),
+            Request::MakeKeys { .. } => f.write_str(" --keys"),
+            _ => Ok(()),
+        }
     }
 }
 

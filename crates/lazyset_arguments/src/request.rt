@@ -74,6 +74,8 @@ pub enum Request<'a> {
         socket: Option<&'a str>,
         /// The path of the socket on which it is asked to stop.
         control: Option<&'a str>,
+        /// The mode of both sockets.
+        mode: Option<u32>,
         /// It stops when standard input ends.
         until_eof: bool,
         /// It goes on where the file can't be locked.

@@ -11,6 +11,7 @@ ghost use Rattle.lazyset_set_commands.specs.Services.{RefusedService};
 ghost use Rattle.lazyset_file_commands.specs.Tellings.{Tells};
 
 use crate::found::found_keys;
+use crate::looking::{Heed, NoHeed};
 use crate::running::run_on;
 use crate::serving::{Place, serve_on};
 use lazyset_file_commands::{Status, refuse, tell};
@@ -72,7 +73,7 @@ where
     R: Net<Listener = TcpListener, Stream = TcpStream>,
     R: Threads + Wait + Clock + AllocGlobal + Sync,
     W: Write + Drop,
-    O: Observer + Sync,
+    O: Observer + Heed + Sync,
     D: Disk + Send,
     requires passes { (1 ≤ options.passes) × (options.passes ≤ most_passes) }
     requires buckets { (1 ≤ options.buckets) × (options.buckets ≤ most_buckets) }
@@ -185,7 +186,7 @@ where
 {
     let mut line = MARK_LINE;
     let mut told: Vec<u8> = Vec::new(rt.alloc());
-    let (status, disk) = run_on(rt, &mut line, &mut told, disk, 1);
+    let (status, disk) = run_on(rt, &mut line, &mut told, &NoHeed, disk, 1);
     if status == Status::Done && is_yes(&told) {
         return Ok(disk);
     }
