@@ -12,6 +12,7 @@ use crate::formats::{format_for, format_numbered, kept_format};
 use crate::making::Making;
 use crate::over_disk::copy_over;
 use crate::share::{Share, is_terminal};
+use lazyset_arguments::{New, Wish};
 use lazyset_set_commands::{Status, ask_shape_on, tell};
 use lz_slot::{Format, read_number};
 use std::fs::File;
@@ -33,26 +34,15 @@ const OPENING: &[u8] = b"*0\r\n";
 // What is said where a copy is whole and can't be put in its place.
 const NOT_PUT: &[u8] = b"refused 3\n";
 
-/// The copy that is wanted.
-#[derive(Clone, Copy)]
-pub struct Wish<'a> {
-    pub file: &'a str,
-    /// Where none are named, those of the service.
-    pub slots: Option<u64>,
-    /// Where none is named, one that has so many slots.
-    pub format: Option<Format>,
-    /// It takes the place of a set.
-    pub replaces: bool,
-}
-
 /// Makes a file of the keys that the service at this address tells. Nothing is made where nobody listens there.
-pub fn copy<R, W>(rt: &R, writer: &mut W, address: &str, wish: Wish<'_>) -> Result<Status, Fault>
+pub fn copy<R, W>(rt: &R, writer: &mut W, wish: Wish<'_>) -> Result<Status, Fault>
 where
     R: Files<File = File> + Eprint + Clock + AllocGlobal,
     R: Net<Listener = TcpListener, Stream = TcpStream>,
     W: Write + Drop,
     requires { IfSome wish.format (λ f. last_room_of f ≡ last_room) }
 {
+    let address = wish.address;
     let patience = Duration::from_millis(PATIENCE_MS);
     if is_path(address) {
         let stream = match UnixStream::connect(rt, address) {
@@ -131,15 +121,17 @@ where
             Err(status) => return Ok(status),
         },
     };
-    let format = format_of(wish.format, told, slots);
+    let new = New {
+        file: wish.file,
+        slots,
+        format: format_of(wish.format, told, slots),
+    };
     asker.of_slots(slots);
     if wish.replaces && !is_absent(rt, wish.file) {
-        return replace(rt, reader, &mut asker, writer, wish.file, slots, format);
+        return replace(rt, reader, &mut asker, writer, new);
     }
     let (making, disk) = Making::begin_free(rt, wish.file)?;
-    let (status, disk) = copy_over(
-        rt, reader, &mut asker, writer, wish.file, disk, slots, format,
-    );
+    let (status, disk) = copy_over(rt, reader, &mut asker, writer, new, disk);
     asker.end();
     Ok(making.end(rt, &disk, status))
 }
@@ -163,28 +155,27 @@ fn replace<R, I, A, W>(
     reader: &mut I,
     asker: &mut Asked<'_, '_, R, A>,
     writer: &mut W,
-    file: &str,
-    slots: u64,
-    format: Format,
+    set: New<'_>,
 ) -> Result<Status, Fault>
 where
     R: Files<File = File> + Eprint + Clock + AllocGlobal,
     I: Read,
     A: Write,
     W: Write + Drop,
-    requires { last_room_of format ≡ last_room }
+    requires { last_room_of set.format ≡ last_room }
 {
-    let Replaced { path, facts, disk } = Replaced::open(rt, file)?;
+    let Replaced { path, facts, disk } = Replaced::open(rt, set.file)?;
     let path = path.as_str();
     let mut old = disk;
-    Before::on(&mut old).see_free(rt, file)?;
+    Before::on(&mut old).see_free(rt, set.file)?;
     let beside = format!(in rt.alloc(); "{path}.copy")?;
     let beside = beside.as_str();
     let mut new = create_beside(rt, beside, &facts)?;
     new.gather(rt.alloc());
     // What is said of the copy waits for its name.
     let mut told: Vec<u8> = Vec::new(rt.alloc());
-    let (status, new) = copy_over(rt, reader, asker, &mut told, beside, new, slots, format);
+    let made = New { file: beside, ..set };
+    let (status, new) = copy_over(rt, reader, asker, &mut told, made, new);
     asker.end();
     say_cause(rt, beside, new.cause());
     let mut name = Name::new(rt, path, beside);

@@ -9,6 +9,7 @@ use crate::fault::Fault;
 use crate::files::{header_on, say_cause};
 use crate::formats::{format_for, kept_format};
 use crate::over_disk::grow_over;
+use lazyset_arguments::New;
 use lazyset_set_commands::{Status, format_number};
 use lz_disk::Disk;
 use lz_slot::Format;
@@ -42,17 +43,12 @@ where
     let mut new = create_beside(rt, beside.as_str(), &facts)?;
     new.gather(rt.alloc());
     let mut name = Name::new(rt, path, beside.as_str());
-    let (status, old, new) = grow_over(
-        rt,
-        writer,
-        file,
-        old,
-        beside.as_str(),
-        new,
-        &mut name,
+    let made = New {
+        file: beside.as_str(),
         slots,
         format,
-    );
+    };
+    let (status, old, new) = grow_over(rt, writer, file, old, made, new, &mut name);
     say_cause(rt, file, old.cause());
     say_cause(rt, beside.as_str(), new.cause());
     name.end();

@@ -47,6 +47,29 @@ impl Chosen {
     }
 }
 
+/// What a command line asks of a service.
+#[derive(Clone, Copy)]
+pub struct Service<'a> {
+    pub file: &'a str,
+    pub options: ServeOptions,
+    /// What it takes as it finds it, in place of those of its options.
+    pub chosen: Chosen,
+    /// The path of the socket on which it listens, in place of a port.
+    pub socket: Option<&'a str>,
+    /// The path of the socket on which it is asked to stop.
+    pub control: Option<&'a str>,
+    /// The mode of both sockets.
+    pub mode: Option<u32>,
+    /// It stops when standard input ends.
+    pub until_eof: bool,
+    /// It goes on where the file can't be locked.
+    pub no_lock: bool,
+    /// Its keys are taken for numbers, whatever the file says.
+    pub as_numbers: bool,
+    /// Its keys are texts, of a file from before there were marks of that.
+    pub adopts: bool,
+}
+
 /// A mode that no socket can have.
 #[derive(Clone, Copy)]
 pub(crate) enum StrayMode<'a> {
@@ -64,7 +87,7 @@ pub(crate) fn serve<'a>(words: &ArgMatches<'a>) -> Option<Request<'a>>
     if mode.is_some() && !has_socket(words) {
         return None;
     }
-    Some(Request::Serve {
+    Some(Request::Serve(Service {
         file: text(words, "FILE")?,
         options,
         chosen: Chosen::by(words),
@@ -75,7 +98,7 @@ pub(crate) fn serve<'a>(words: &ArgMatches<'a>) -> Option<Request<'a>>
         no_lock: words.get_flag("no-lock"),
         as_numbers: words.get_flag(NUMBERS_ID),
         adopts: words.get_str(TEXT_ID) == Some(ADOPT),
-    })
+    }))
 }
 
 // Whether it makes a socket at a path: one without PASSES makes that on which it is asked to stop.

@@ -1,14 +1,13 @@
 //! The command that serves a set over the network.
 ghost use Rattle.std.specs.Prelude.{◌≡◌, ◌⊎◌, ◌≤◌, ◌==◌, ◌∷◌, ◌++◌, [], ℕ, All, Ok, Err, length, map, true, false, option_map};
 ghost use Rattle.std.specs.List.{list_any};
-ghost use Rattle.lz_slot.specs.Limits.{most_buckets, most_passes};
 ghost use Rattle.lz_vault.specs.Opens.{MayOpen};
 ghost use Rattle.lz_board.specs.Seats.{part};
 ghost use Rattle.lz_set.specs.Blanks.{MayBeNamed};
 ghost use Rattle.lz_set.specs.Names.{MayCall};
 ghost use Rattle.lz_proto.specs.Steps.{SendTells};
 ghost use Rattle.lz_serve.specs.Services.{Serves, parts_of};
-ghost use Rattle.lazyset_set_commands.specs.Services.{AreUnused, HadNoPlace, HadPlace, RanService, RefusedService, ServedPasses, TellsPlace, TellsPort, path_text};
+ghost use Rattle.lazyset_set_commands.specs.Services.{AreUnused, HadNoPlace, HadPlace, IsServable, RanService, RefusedService, ServedPasses, TellsPlace, TellsPort, path_text};
 
 use crate::looking::{Heed, first_sees_mark};
 use crate::sorting::AllProcessors;
@@ -59,8 +58,7 @@ where
     W: Write + Drop,
     O: Observer + Heed + Sync,
     D: Disk + Send,
-    requires passes { (1 ≤ options.passes) × (options.passes ≤ most_passes) }
-    requires buckets { (1 ≤ options.buckets) × (options.buckets ≤ most_buckets) }
+    requires options { IsServable options }
     requires medium { MayOpen (D.device disk) }
     // Either the passes of the set that was opened were served, or there was no place to listen, or the open was refused.
     ensures ran { RanService D.device options.buckets options.passes (option_map (λ p. p.now) place.entry.path) result.0 (W.contents writer.old) (W.contents writer.new) disk result.1
