@@ -27,7 +27,6 @@ OPENED: Tuple[Tuple[bytes, str, bool, str], ...] = (
 # How many slots a file may have.
 FEW = "a file has 1 to 65536 slots; with --format 3 or 4 it has up to 16777216"
 MILLIONS = "a file of format 3 has 1 to 16777216 slots"
-NO_ROOM = "so many keys have no room in so many slots"
 
 # A file's bytes or none, the slots and the format that are asked for, what is printed, and the words.
 MADE: Tuple[Tuple[Optional[bytes], str, str, str, str], ...] = (
@@ -48,7 +47,7 @@ LISTED: Tuple[Tuple[str, str, str, str, str], ...] = (
     ("1\n1:1\n", "2", "1", "line 2", "this line holds no key that the format has"),
     ("1", "2", "2", "line 1", "this line holds no key that the format has"),
     ("1\n0:1\n", "2", "2", "twice 2", "this line's key stands in a line above"),
-    ("1\n2\n3\n", "2", "2", "refused 9 3 2", NO_ROOM),
+    ("1\n2\n3\n", "2", "2", "refused 9 3 2", "3 keys have no room in 2 slots"),
     ("1\n", "65537", "2", "refused 2", FEW),
     ("1\n", "16777217", "3", "refused 2", MILLIONS),
 )
@@ -60,8 +59,8 @@ RENEWALS: Tuple[Tuple[bytes, Optional[bytes], str, str, str, str], ...] = (
     (RENEWED, RENEWED, "2", "2", "refused new 1", "it is a set already"),
     (RENEWED, None, "0", "2", "refused new 2", FEW),
     (RENEWED, None, "16777217", "3", "refused new 2", MILLIONS),
-    (RENEWED, b"", "1", "2", "refused 9 2 1", NO_ROOM),
-    (RENEWED, None, "1", "3", "refused 9 2 1", NO_ROOM),
+    (RENEWED, b"", "1", "2", "refused 9 2 1", "2 keys have no room in 1 slot"),
+    (RENEWED, None, "1", "3", "refused 9 2 1", "2 keys have no room in 1 slot"),
     (b"", None, "2", "2", "refused old 1", "it isn't a set: never made, or its head is damaged"),
 )
 
