@@ -136,6 +136,8 @@ NO_SET, NEARLY = "were written over, which were no set", "were written over, a s
 OVERWRITTEN: Tuple[Tuple[Optional[bytes], str], ...] = (
     (None, ""),
     (b"", ""),
+    (b"\0", ""),
+    (b"x", "1 byte was written over, which was no set"),
     (b"mine\n", f"5 bytes {NO_SET}"),
     (b"not a set at all" * 2, f"32 bytes {NO_SET}"),
     (changed(TWO_SLOTS, 0, 0), f"48 bytes {NEARLY}"),
@@ -157,7 +159,7 @@ def try_overwritten(program: Program, folder: str) -> None:
         put(file, text)
         expect(program.run_loud("make", file, "2", "--keys"), (Ended("made 2\n", 0), f"lazyset: make {file}: 0 keys\n{said}"), f"a list over {text!r}")
         put(file, text)
-        expect(NO_SET in program.run_loud("make", file, "0")[1], False, "whether a making that wasn't done says so")
+        expect("written over" in program.run_loud("make", file, "0")[1], False, "whether a making that wasn't done says so")
 
 
 def try_port(program: Program, folder: str) -> None:

@@ -23,6 +23,7 @@ mod identity;
 mod level;
 mod log;
 mod making;
+mod many;
 mod new_files;
 mod over_disk;
 mod ready;
