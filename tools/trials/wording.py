@@ -180,6 +180,19 @@ def try_command_line(program: Program) -> None:
     expect("--kyes" in said, True, "whether that names the word")
 
 
+def try_buckets(program: Program, folder: str) -> None:
+    """More buckets than the file's format has are refused, with the word that makes a file which has more."""
+    file = os.path.join(folder, "file")
+    for form, most, way_out in ((2, 4_096, True), (4, 1_048_576, False)):
+        put(file, of_format(form, TWO_SLOTS))
+        for words in (("run", file), ("serve", file, "0", "2")):
+            ended, said = program.run_loud(*words, "--buckets", str(most + 1))
+            lines = said.splitlines()
+            expect((ended.status, lines[-1]), (2, f"lazyset: {ended.text.splitlines()[0]}"), f"{most + 1} buckets of format {form}")
+            named = f"lazyset: {file}: a file of format 3 or 4 may have more buckets: renew it with --format 4"
+            expect(lines[:-1], [named] if way_out else [], f"the way out of {words[0]} over format {form}")
+
+
 def try_reads(program: Program, folder: str) -> None:
     """A file whose first read or second one fails has the system's reason alone, also where it is the older one of two."""
     needs_strace()
