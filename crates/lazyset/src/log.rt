@@ -5,7 +5,9 @@ use crate::at_path::has_waiting;
 use crate::backlog::Backlog;
 use crate::gauge::Gauge;
 use crate::identity::run_of;
+use crate::latencies::Latencies;
 use crate::level::Level;
+use crate::rate::Rate;
 use crate::ready::Ready;
 use crate::seldom::Seldom;
 use crate::tally::Tally;
@@ -63,6 +65,8 @@ pub struct Log<'a, R: Eprint> {
     serving: OnceLock<Serving>,
     gauge: Gauge,
     tally: Tally,
+    rate: Rate,
+    latencies: Latencies,
     /// How many connections it serves at once, how many there are, and how many there were.
     places: AtomicUsize,
     guests: AtomicUsize,
@@ -102,6 +106,8 @@ where
             serving: OnceLock::new(),
             gauge: Gauge::new(),
             tally: Tally::new(),
+            rate: Rate::new(),
+            latencies: Latencies::new(),
             places: AtomicUsize::new(0),
             guests: AtomicUsize::new(0),
             sessions: AtomicUsize::new(0),
@@ -184,14 +190,6 @@ where
         let began = self.began?;
         let now = self.rt.monotonic().ok()?;
         Some(now.saturating_sub(began))
-    }
-
-    // The same in whole seconds.
-    fn seconds(&self) -> usize {
-        match self.age() {
-            Some(age) => age.as_secs() as usize,
-            None => 0,
-        }
     }
 
     // Says how long the opening took.

@@ -116,7 +116,9 @@ sections_of argument =
     if is_name (codes "default") argument || is_name (codes "all") argument || is_name (codes "everything") argument then sections.All
     else (if is_name (codes "server") argument then sections.Server
     else (if is_name (codes "clients") argument then sections.Clients
+    else (if is_name (codes "memory") argument then sections.Memory
     else (if is_name (codes "stats") argument then sections.Stats
+    else (if is_name (codes "latencystats") argument then sections.Latencies
     else (if is_name (codes "keyspace") argument then sections.Keyspace
     else (if is_name (codes "lazyset") argument then sections.Lazyset
-    else sections.Missing)))))
+    else sections.Missing)))))))

@@ -6,6 +6,7 @@ use crate::language::Language;
 use crate::listener::Listener;
 use lz_proto::{Reply, Request};
 use lz_resp::Figures;
+use std::time::Duration;
 use std::{fmt, io};
 
 /// What a service stands on.
@@ -142,6 +143,9 @@ pub trait Observer: Drop {
 
     /// A command was replied to so. Where they are known, so many members were durable then.
     fn answered(&self, verb: Verb, reply: Reply, members: Option<usize>);
+
+    /// A reply was given so long after its connection was heard.
+    fn took(&self, time: Duration);
 
     /// What is known of the service now. A client has asked.
     fn figures(&self) -> Figures;

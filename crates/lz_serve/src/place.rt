@@ -7,11 +7,13 @@ ghost use Rattle.lz_serve.specs.Grants.{Promises};
 
 use crate::asking::Granted;
 use crate::client::{Client, Question};
+use crate::clock::Clock;
 use crate::listed::Listed;
 use crate::observer::Observer;
 use crate::stream::Stream;
 use lz_resp::Scan;
 use lz_set::{Named, Pass};
+use std::time::Duration;
 
 /// How many pieces of one client are read in a turn, at most.
 const MOST_READS: usize = 16;
@@ -60,6 +62,8 @@ pub(crate) struct Place<S: Stream> {
     leaves: bool,
     /// In which millisecond something came or went last.
     moved: u64,
+    /// When its connection was heard last.
+    heard: Option<Duration>,
 }
 
 impl<S: Stream> Place<S> {
@@ -75,11 +79,12 @@ impl<S: Stream> Place<S> {
             parts: false,
             leaves: false,
             moved: 0,
+            heard: None,
         }
     }
 
-    /// Takes a client in that is new, in this millisecond.
-    pub(crate) fn admit(&mut self, client: Client<S>, now: u64)
+    /// Takes a client in that is new, at this time.
+    pub(crate) fn admit(&mut self, client: Client<S>, clock: &Clock)
         ensures { self.new.client ≡ Some client }
     {
         self.client = Some(client);
@@ -89,17 +94,19 @@ impl<S: Stream> Place<S> {
         self.lists = false;
         self.parts = false;
         self.leaves = false;
-        self.moved = now;
+        self.moved = clock.now();
+        self.heard = clock.seen();
     }
 
     /// Hands a reply to its client, if that is still the one whose line was answered, and says whether this has one for a
-    /// pass. This pass has seen what those had that answered the client, this reply included.
+    /// pass. This pass has seen what those had that answered the client, this reply included. The observer is told how long ago the connection
+    /// was heard.
     pub(crate) fn reply<N: Named, O: Observer>(
         &mut self,
         granted: Granted<N>,
         pass: &Pass,
         observer: &O,
-        now: u64,
+        clock: &Clock,
     ) -> bool
         requires promised { Promises N.board N.format S.promised S.listed }
         requires own { IsOwnOf self.old.client granted.question }
@@ -116,7 +123,10 @@ impl<S: Stream> Place<S> {
             return false;
         };
         client.reply(granted, pass, observer);
-        self.moved = now;
+        self.moved = clock.now();
+        if let (Some(heard), Some(now)) = (self.heard, clock.seen()) {
+            observer.took(now.saturating_sub(heard));
+        }
         self.may_ask()
     }
 
@@ -159,13 +169,14 @@ impl<S: Stream> Place<S> {
     }
 
     /// Its connection can be read or written. One whose session is over is waited for no longer because of that.
-    pub(crate) fn hear(&mut self, drains: bool, now: u64)
+    pub(crate) fn hear(&mut self, drains: bool, clock: &Clock)
         ensures { self.new.client ≡ self.old.client }
     {
         self.readable = true;
         self.drains = self.drains || drains;
+        self.heard = clock.seen();
         if !self.leaves {
-            self.moved = now;
+            self.moved = clock.now();
         }
     }
 

@@ -21,7 +21,7 @@ use std::io;
 use std::marker::{Brand, Model, PhantomData};
 use std::sync::Wait;
 use std::test::Fail;
-use std::time::Clock;
+use std::time::{Clock, Duration};
 use test_support::{last_pass, made};
 
 /// How many bytes come at once, and how many are taken, at most: less than a line, and than a reply.
@@ -158,6 +158,8 @@ impl Observer for Deaf {
     fn crowded(&self) {}
 
     fn answered(&self, _verb: Verb, _reply: Reply, _members: Option<usize>) {}
+
+    fn took(&self, _time: Duration) {}
 
     fn figures(&self) -> Figures {
         Figures::default()
