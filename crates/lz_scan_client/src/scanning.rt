@@ -1,5 +1,5 @@
-//! The scan of all rooms of a service.
-ghost use Rattle.std.specs.Prelude.{◌≡◌, ◌+◌, [], IfOk, OnOk, Some, map, true};
+//! The scan of a service.
+ghost use Rattle.std.specs.Prelude.{◌≡◌, [], IfOk, None, OnOk, Some, map, true};
 ghost use Rattle.std.specs.Io.KnownBytes.{Appends};
 ghost use Rattle.lz_judge.specs.Places.{IsTable};
 ghost use Rattle.lz_resp.specs.Pages.{request_text};
@@ -10,11 +10,11 @@ use crate::replies::Replies;
 use crate::told::Told;
 use lz_proto::send;
 use lz_resp::page_request;
-use lz_slot::{Key, LAST_ROOM};
+use lz_slot::Key;
 use std::alloc::Global;
 use std::io::{Read, Write};
 
-/// Scans each room of a service to its end, over a connection that it writes to and reads from, and gives the keys that it was told,
+/// Scans all rooms of a service to the end, over a connection that it writes to and reads from, and gives the keys that it was told,
 /// each once. The next page is asked for once the last one was read. It ends, whatever the service tells: a page that doesn't lead on is a
 /// faulty reply, and so are more keys than any set has.
 pub fn scan_rooms<R: Read, W: Write>(
@@ -25,10 +25,8 @@ pub fn scan_rooms<R: Read, W: Write>(
     ensures { IfOk result (λ keys. IsScan (R.remaining reader.old) (W.contents writer.old) (W.contents writer.new) keys.items) }
 {
     let mut progress = Progress::new(alloc);
-    'rooms: for room in 0..LAST_ROOM + 1 {
-        if let Err(fault) = progress.scan_room(reader, writer, room) {
-            return Err(fault);
-        }
+    if let Err(fault) = progress.scan(reader, writer) {
+        return Err(fault);
     }
     let Progress { told, .. } = progress;
     Ok(told.keys)
@@ -54,22 +52,20 @@ impl Progress {
         }
     }
 
-    // Scans a room to its end.
-    fn scan_room<R: Read, W: Write>(
+    // Scans to the end.
+    fn scan<R: Read, W: Write>(
         &mut self,
         reader: &mut R,
         writer: &mut W,
-        room: u8,
     ) -> Result<(), ScanFault>
         requires { IsTable (map Some self.old.told.keys.items) self.old.told.seen }
-        ensures seen { OnOk result (IsTable (map Some self.new.told.keys.items) self.new.told.seen) }
-        ensures goes { OnOk result (GoesTo room (Some 0) (unread self.old.replies (R.remaining reader.old)) (W.contents writer.old) self.old.told.keys.items
-            (room + 1) (Some 0) (unread self.new.replies (R.remaining reader.new)) (W.contents writer.new) self.new.told.keys.items) }
+        ensures { OnOk result (GoesTo (Some 0) (unread self.old.replies (R.remaining reader.old)) (W.contents writer.old) self.old.told.keys.items
+            None (unread self.new.replies (R.remaining reader.new)) (W.contents writer.new) self.new.told.keys.items) }
     {
         let mut cursor = 0;
         // A loop is proved to end, so this one counts its pages.
         'pages: for _ in 0..u64::MAX {
-            let next = match self.next_page(reader, writer, room, cursor) {
+            let next = match self.next_page(reader, writer, cursor) {
                 Ok(next) => next,
                 Err(fault) => return Err(fault),
             };
@@ -86,15 +82,14 @@ impl Progress {
         &mut self,
         reader: &mut R,
         writer: &mut W,
-        room: u8,
         cursor: u64,
     ) -> Result<u64, ScanFault>
         requires { IsTable (map Some self.old.told.keys.items) self.old.told.seen }
         ensures seen { OnOk result (IsTable (map Some self.new.told.keys.items) self.new.told.seen) }
-        ensures goes { IfOk result (λ next. GoesTo room (Some cursor) (unread self.old.replies (R.remaining reader.old)) (W.contents writer.old) self.old.told.keys.items
-            room (cursor_after next) (unread self.new.replies (R.remaining reader.new)) (W.contents writer.new) self.new.told.keys.items) }
+        ensures goes { IfOk result (λ next. GoesTo (Some cursor) (unread self.old.replies (R.remaining reader.old)) (W.contents writer.old) self.old.told.keys.items
+            (cursor_after next) (unread self.new.replies (R.remaining reader.new)) (W.contents writer.new) self.new.told.keys.items) }
     {
-        if let Err(fault) = ask(self.alloc, writer, room, cursor) {
+        if let Err(fault) = ask(self.alloc, writer, cursor) {
             return Err(fault);
         }
         let page = match self.replies.page(reader) {
@@ -104,7 +99,7 @@ impl Progress {
         if !leads_on(cursor, page.next) {
             return Err(ScanFault::Reply);
         }
-        match self.told.add_all(room, page.numbers.as_slice()) {
+        match self.told.add_all(page.numbers.as_slice()) {
             Ok(()) => Ok(page.next),
             Err(fault) => Err(fault),
         }
@@ -119,10 +114,10 @@ fn leads_on(cursor: u64, next: u64) -> bool
 }
 
 // Sends the request for a page.
-fn ask<W: Write>(alloc: Global, writer: &mut W, room: u8, cursor: u64) -> Result<(), ScanFault>
-    ensures { OnOk result (Appends (W.contents writer.old) (W.contents writer.new) (request_text room cursor)) }
+fn ask<W: Write>(alloc: Global, writer: &mut W, cursor: u64) -> Result<(), ScanFault>
+    ensures { OnOk result (Appends (W.contents writer.old) (W.contents writer.new) (request_text cursor)) }
 {
-    let Ok(request) = page_request(alloc, room, cursor) else {
+    let Ok(request) = page_request(alloc, cursor) else {
         return Err(ScanFault::Memory);
     };
     match send(writer, request.as_bytes()) {

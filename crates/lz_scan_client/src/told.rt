@@ -1,7 +1,6 @@
 //! The keys that were told, each once.
 ghost use Rattle.std.specs.Prelude.{◌≡◌, ◌≤◌, ◌⊎◌, ◌++◌, [], ℕ, List, OnOk, Some, length, map};
 ghost use Rattle.lz_slot.specs.Limits.{most_slots};
-ghost use Rattle.lz_slot.specs.Rooms.{rank};
 ghost use Rattle.lz_judge.specs.Places.{IsTable};
 ghost use Rattle.lz_scan_client.specs.Told.{AddsOnce, AreOnce};
 
@@ -28,14 +27,14 @@ impl Told {
         }
     }
 
-    /// Adds the keys of a room with these numbers.
-    pub(crate) fn add_all(&mut self, room: u8, numbers: &[u64]) -> Result<(), ScanFault>
+    /// Adds the keys of these ranks.
+    pub(crate) fn add_all(&mut self, ranks: &[u64]) -> Result<(), ScanFault>
         requires { IsTable (map Some self.old.keys.items) self.old.seen }
         ensures seen { OnOk result (IsTable (map Some self.new.keys.items) self.new.seen) }
-        ensures once { OnOk result ((told : List ℕ) → AreOnce told self.old.keys.items → AreOnce (told ++ map (rank room) numbers.now) self.new.keys.items) }
+        ensures once { OnOk result ((told : List ℕ) → AreOnce told self.old.keys.items → AreOnce (told ++ ranks.now) self.new.keys.items) }
     {
-        for number in numbers {
-            let Some(key) = Key::in_room(room, *number) else {
+        for rank in ranks {
+            let Some(key) = Key::of_rank(*rank) else {
                 return Err(ScanFault::Reply);
             };
             if let Err(fault) = self.add(key) {

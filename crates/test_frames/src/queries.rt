@@ -61,12 +61,15 @@ fn asks_for(item: Option<Item>, scan: &Scan) -> bool {
 }
 
 #[test]
-fn pages_are_of_the_room_that_is_named(rt: HostRuntime) -> Result<(), Fail> {
+fn pages_are_of_the_room_that_is_named_or_of_all(rt: HostRuntime) -> Result<(), Fail> {
     let mut frames = Frames::new(rt.alloc(), Naming::Rooms);
     let mut items = VecDeque::new(rt.alloc());
-    frames.feed_into(b"sscan 3 0\r\nSSCAN 3 512 COUNT 5000\r\n", &mut items)?;
+    frames.feed_into(
+        b"sscan 3 0\r\nSSCAN 3 512 COUNT 5000\r\nlz.scan 512 count 5000\r\n",
+        &mut items,
+    )?;
     let first = Scan {
-        room: 3,
+        room: Some(3),
         from: Slot::new(0),
         most: 10,
     };
@@ -76,13 +79,21 @@ fn pages_are_of_the_room_that_is_named(rt: HostRuntime) -> Result<(), Fail> {
         ..first
     };
     assert!(rt; asks_for(items.pop_front(), &first));
+    let all = Scan {
+        room: None,
+        ..second
+    };
     assert!(rt; asks_for(items.pop_front(), &second));
+    assert!(rt; asks_for(items.pop_front(), &all));
     let (Some(one), Some(other)) = (Key::in_room(3, 17), Key::in_room(2, 4)) else {
         return Err("keys".into());
     };
     let keys = [one, other];
     let text = first.text(rt.alloc(), keys.as_slice(), Some(Slot::new(512)))?;
     assert!(rt; text.as_bytes() == b"*2\r\n$3\r\n512\r\n*1\r\n$2\r\n17\r\n".as_slice());
+    let text = all.text(rt.alloc(), keys.as_slice(), Some(Slot::new(512)))?;
+    let told = b"*2\r\n$3\r\n512\r\n*2\r\n$19\r\n3000000000000000017\r\n$19\r\n2000000000000000004\r\n";
+    assert!(rt; text.as_bytes() == told.as_slice());
     let text = second.text(rt.alloc(), &[], None)?;
     assert!(rt; text.as_bytes() == b"*2\r\n$1\r\n0\r\n*0\r\n".as_slice());
     Ok(())
