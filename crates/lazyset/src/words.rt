@@ -114,10 +114,10 @@ fn words_of_end(request: Request<'_>, line: &str) -> Option<&'static str> {
 fn words_of_reply(request: Request<'_>) -> &'static str {
     match request {
         Request::Copy { slots: None, .. } => {
-            "it doesn't tell its slots, or a page of keys: the service has to speak Redis's protocol (--resp beside PASSES), and be started without --text"
+            "it doesn't tell its slots, or a page of keys: the service has to speak Redis's protocol (--resp beside PASSES), by release 1.17 or a later one"
         }
         _ => {
-            "a reply is no page of keys: the service has to speak Redis's protocol (--resp beside PASSES), and be started without --text"
+            "a reply is no page of keys: the service has to speak Redis's protocol (--resp beside PASSES), by release 1.17 or a later one"
         }
     }
 }

@@ -6,7 +6,7 @@ use Rattle.lz_slot.specs.{Limits.{most_slots}, Numerals.{largest_read, number_in
 use Rattle.lz_proto.specs.{declared.request.Request.{Request, TheVariants.{Add, Remove, Has}}, Lines.{carriage_return, line_feed}}
 use Rattle.lz_resp.specs.{Limits.{few_listed, most_listed, most_value}, Frames.{bulk, line_end}, Keys.{Subset, key_of, of_name, room_of, unnamed}}
 use Rattle.lz_resp.specs.{Names.{command_of, is_name, name_of, sections_of, subcommand_of, subname_of, subtakes, takes}, declared.command.Command.{Command}}
-use Rattle.lz_resp.specs.declared.command.Command.TheVariants.{Sadd, Srem, Sismember, Smismember, Sscan, Exists, Del, Unlink, Setnx, Set, Select, Ping, Echo}
+use Rattle.lz_resp.specs.declared.command.Command.TheVariants.{Sadd, Srem, Sismember, Smismember, Sscan, LzScan, Exists, Del, Unlink, Setnx, Set, Select, Ping, Echo}
 use Rattle.lz_resp.specs.declared.command.Command.TheVariants.{Quit, Reset, Hello, Client, Catalog, Config, Dbsize, Info as AskInfo, Multi, Exec, Discard, Shutdown}
 use Rattle.lz_resp.specs.declared.subcommand.Subcommand.{Subcommand, TheVariants.{Getname, Setname, Setinfo, NoEvict, NoTouch, Count, Docs, Info, Get}}
 use Rattle.lz_resp.specs.declared.{form.Form.{Form, TheVariants.{Added, Removed, Found, Each, Stored}}, naming.Selected.{Selected}}

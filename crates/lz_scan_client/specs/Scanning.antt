@@ -1,5 +1,5 @@
 -- What a scan of all rooms asks and is told, page by page. Keys are told by their ranks. A text is a list of bytes.
-use Rattle.std.specs.{Prelude.{◌≡◌, ◌⊎◌, ◌<◌, ℕ, zero, suc, List, [], ◌++◌, Option, None, Some}, Io.KnownBytes.{Appends, Consumes, prepend_known}}
+use Rattle.std.specs.{Prelude.{◌≡◌, ◌⊎◌, ◌<◌, ℕ, zero, suc, List, [], ◌++◌, length, Option, None, Some}, Io.KnownBytes.{Appends, Consumes, prepend_known}}
 use Rattle.lz_resp.specs.Pages.{request_text, told_text}
 use Rattle.lz_scan_client.specs.{Told.{AreOnce}, declared.replies.Replies.{Replies}}
 
@@ -37,6 +37,10 @@ GoesTo cursor left written keys next next_left next_written next_keys =
 -- All was scanned to the end: these are the keys.
 abbrev pub IsScan : Option (List ℕ) → Option (List ℕ) → Option (List ℕ) → List ℕ → Type 0
 IsScan input before after keys = (left : Option (List ℕ)) × IsAt None input left before after keys
+
+-- So many keys were told, each counted once, and perhaps more are to come.
+abbrev pub HasTold : Option (List ℕ) → Option (List ℕ) → Option (List ℕ) → ℕ → Type 0
+HasTold input before after many = (cursor : Option ℕ) × (left : Option (List ℕ)) × (keys : List ℕ) × IsAt cursor input left before after keys × (length keys ≡ many)
 
 -- what of the input wasn't read as pages: what was kept, and what the reader has left
 abbrev pub unread : Replies → Option (List ℕ) → Option (List ℕ)

@@ -1,9 +1,10 @@
 //! The scan of a service.
-ghost use Rattle.std.specs.Prelude.{◌≡◌, [], IfOk, None, OnOk, Some, map, true};
+ghost use Rattle.std.specs.Prelude.{◌≡◌, ◌≤◌, ◌<◌, ℕ, [], IfOk, None, Ok, OnOk, Option, Some, false, length, map, true};
 ghost use Rattle.std.specs.Io.KnownBytes.{Appends};
 ghost use Rattle.lz_judge.specs.Places.{IsTable};
 ghost use Rattle.lz_resp.specs.Pages.{request_text};
-ghost use Rattle.lz_scan_client.specs.Scanning.{GoesTo, IsScan, LeadsOn, cursor_after, unread};
+ghost use Rattle.lz_scan_client.specs.Scanning.{GoesTo, LeadsOn, cursor_after, unread};
+ghost use Rattle.lz_scan_client.specs.Scans.{IsToldBy};
 
 use crate::fault::ScanFault;
 use crate::replies::Replies;
@@ -14,22 +15,34 @@ use lz_slot::Key;
 use std::alloc::Global;
 use std::io::{Read, Write};
 
-/// Scans all rooms of a service to the end, over a connection that it writes to and reads from, and gives the keys that it was told,
-/// each once. The next page is asked for once the last one was read. It ends, whatever the service tells: a page that doesn't lead on is a
-/// faulty reply, and so are more keys than any set has.
+/// What a scan was told.
+#[derive(Drop)]
+pub enum ToldKeys {
+    /// All keys, each once.
+    All(Vec<Key>),
+    /// More than it takes: so many, and perhaps others.
+    More(u64),
+}
+
+/// Scans all rooms of a service, over a connection that it writes to and reads from, to the end or until it was told more than `most` keys.
+/// The next page is asked for once the last one was read. It ends, whatever the service tells: a page that doesn't lead on is a faulty reply.
 pub fn scan_rooms<R: Read, W: Write>(
     alloc: Global,
     reader: &mut R,
     writer: &mut W,
-) -> Result<Vec<Key>, ScanFault>
-    ensures { IfOk result (λ keys. IsScan (R.remaining reader.old) (W.contents writer.old) (W.contents writer.new) keys.items) }
+    most: u64,
+) -> Result<ToldKeys, ScanFault>
+    ensures all { IfOk result (λ told. IsToldBy (R.remaining reader.old) (W.contents writer.old) (W.contents writer.new) most told) }
 {
     let mut progress = Progress::new(alloc);
-    if let Err(fault) = progress.scan(reader, writer) {
-        return Err(fault);
+    match progress.scan(reader, writer, most) {
+        Ok(true) => {
+            let Progress { told, .. } = progress;
+            Ok(ToldKeys::All(told.keys))
+        }
+        Ok(false) => Ok(ToldKeys::More(progress.told.keys.len() as u64)),
+        Err(fault) => Err(fault),
     }
-    let Progress { told, .. } = progress;
-    Ok(told.keys)
 }
 
 // How far a scan has come.
@@ -52,15 +65,20 @@ impl Progress {
         }
     }
 
-    // Scans to the end.
+    // Scans to the end, or until more keys were told, and says whether it came to the end.
     fn scan<R: Read, W: Write>(
         &mut self,
         reader: &mut R,
         writer: &mut W,
-    ) -> Result<(), ScanFault>
+        most: u64,
+    ) -> Result<bool, ScanFault>
         requires { IsTable (map Some self.old.told.keys.items) self.old.told.seen }
-        ensures { OnOk result (GoesTo (Some 0) (unread self.old.replies (R.remaining reader.old)) (W.contents writer.old) self.old.told.keys.items
-            None (unread self.new.replies (R.remaining reader.new)) (W.contents writer.new) self.new.told.keys.items) }
+        ensures ended { result ≡ Ok true → GoesTo (Some 0) (unread self.old.replies (R.remaining reader.old)) (W.contents writer.old) self.old.told.keys.items
+            None (unread self.new.replies (R.remaining reader.new)) (W.contents writer.new) self.new.told.keys.items }
+        ensures few { result ≡ Ok true → length self.new.told.keys.items ≤ most }
+        ensures goes { result ≡ Ok false → (cursor : Option ℕ) × GoesTo (Some 0) (unread self.old.replies (R.remaining reader.old)) (W.contents writer.old) self.old.told.keys.items
+            cursor (unread self.new.replies (R.remaining reader.new)) (W.contents writer.new) self.new.told.keys.items }
+        ensures many { result ≡ Ok false → most < length self.new.told.keys.items }
     {
         let mut cursor = 0;
         // A loop is proved to end, so this one counts its pages.
@@ -69,8 +87,11 @@ impl Progress {
                 Ok(next) => next,
                 Err(fault) => return Err(fault),
             };
+            if self.told.keys.len() as u64 > most {
+                return Ok(false);
+            }
             if next == 0 {
-                return Ok(());
+                return Ok(true);
             }
             cursor = next;
         }

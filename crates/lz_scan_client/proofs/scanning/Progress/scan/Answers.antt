@@ -1,9 +1,9 @@
 use Rattle.lz_scan_client.proofs.scanning.Progress.scan.Goals as goal
 use Rattle.std.proofs.Common.{ℕ, Option, subst}
-use Rattle.lz_scan_client.{specs.Scanning.{IsAt, unread}, proofs.Reached.{cursor_ends}}
+use Rattle.lz_scan_client.{specs.Scanning.{IsAt, cursor_after, unread}, proofs.Reached.{cursor_ends}}
 
-pub returns-then-next-eq0 : goal.returns-then-next-eq0
-returns-then-next-eq0 g c input before at =
+pub returns-then-next-eq0-clause-ended : goal.returns-then-next-eq0-clause-ended
+returns-then-next-eq0-clause-ended g c is input before at =
     let left = unread c.next_page.new.self.replies (g.R.Read.remaining c.next_page.new.reader) in
     let written = g.W.Write.contents c.next_page.new.writer in
     let keys = c.next_page.new.self.told.keys.items in
