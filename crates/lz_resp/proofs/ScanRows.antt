@@ -1,6 +1,6 @@
 -- Worked scans.
-use Rattle.std.{proofs.Common.{◌≡◌, ◌≢◌, [], ◌∷◌, Some, None, refl, codes}, specs.Fmt.{digits}}
-use Rattle.lz_resp.specs.{Commands.{bad_cursor, bad_syntax, item_of, no_database, no_number, no_room, no_texts}, Scans.{page_text}}
+use Rattle.std.{proofs.Common.{◌≡◌, ◌≢◌, [], ◌∷◌, Some, None, refl, codes, arith}, specs.Fmt.{digits}}
+use Rattle.lz_resp.specs.{Commands.{bad_cursor, bad_syntax, item_of, no_database, no_number, no_room, no_texts}, Scans.{page_text, told_of}}
 use Rattle.lz_resp.specs.declared.{item.Item.TheVariants.{Lists, Says}, naming.Selected.TheVariants.{Room, Nameless}}
 
 -- the room is the one that is named, and not the one that is selected
@@ -45,6 +45,6 @@ not_refused e = cc
 
 -- a key of another room, a cursor that goes on where all slots were looked at, and a key of all rooms by its number in its own
 not_told : (page_text (Some 0) (3000000000000000017 ∷ []) None ≢ codes "*2\r\n$1\r\n0\r\n*1\r\n$2\r\n17\r\n") × (page_text (Some 0) [] None ≢ codes "*2\r\n$2\r\n10\r\n*0\r\n")
-    × (page_text None (3000000000000000017 ∷ []) None ≢ codes "*2\r\n$1\r\n0\r\n*1\r\n$2\r\n17\r\n")
+    × (told_of None 3000000000000000017 ≢ 17)
 unfolding digits
-not_told = (λ e. cc, λ e. cc, λ e. cc)
+not_told = (λ e. cc, λ e. cc, λ e. omega (arith, e))

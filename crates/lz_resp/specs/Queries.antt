@@ -48,11 +48,15 @@ version_text f = codes "lazyset_version:" ++ decimal f.major ++ codes "." ++ dec
 unfoldable pub lazyset_text : Figures → List ℕ
 lazyset_text f = codes "# Lazyset\r\n" ++ version_text f ++ flat_map (λ r. row r.0 r.1) (lazyset_rows f)
 
--- an empty line stands between two sections
+-- an empty line stands between two sections: of those on its state, and of those on its load and its set
+abbrev pub state_text : Figures → List ℕ
+state_text f = server_text f ++ line_end ++ clients_text f ++ line_end ++ memory_text f
+
+abbrev pub load_text : Figures → List ℕ
+load_text f = stats_text f ++ line_end ++ latency_text f ++ line_end ++ keyspace_text f ++ line_end ++ lazyset_text f
+
 abbrev pub all_text : Figures → List ℕ
-all_text f =
-    server_text f ++ line_end ++ clients_text f ++ line_end ++ memory_text f ++ line_end ++ stats_text f ++ line_end ++ latency_text f ++ line_end
-    ++ keyspace_text f ++ line_end ++ lazyset_text f
+all_text f = state_text f ++ line_end ++ load_text f
 
 abbrev pub info_text : Sections → Figures → List ℕ
 info_text All f = all_text f

@@ -1,7 +1,7 @@
 //! What a service tells of itself.
 ghost use Rattle.std.specs.Prelude.{◌≡◌, ◌++◌, ◌-◌, IfOk, OnOk};
 ghost use Rattle.std.specs.List.{flat_map};
-ghost use Rattle.lz_resp.specs.Queries.{all_text, clients_text, info_text, keyspace_text, latency_text, lazyset_text, memory_text, row, run_text, server_text, stats_text, version_text};
+ghost use Rattle.lz_resp.specs.Queries.{all_text, clients_text, info_text, keyspace_text, latency_text, lazyset_text, load_text, memory_text, row, run_text, server_text, state_text, stats_text, version_text};
 
 use crate::figures::Figures;
 use crate::query::Sections;
@@ -38,12 +38,24 @@ pub(crate) fn info(
 fn push_all(text: &mut Vec<u8>, figures: &Figures) -> Result<(), AllocError>
     ensures { OnOk result (text.new.items ≡ text.old.items ++ all_text figures.now) }
 {
+    push_state(text, figures)?;
+    text.extend_from_slice(b"\r\n")?;
+    push_load(text, figures)
+}
+
+fn push_state(text: &mut Vec<u8>, figures: &Figures) -> Result<(), AllocError>
+    ensures { OnOk result (text.new.items ≡ text.old.items ++ state_text figures.now) }
+{
     push_server(text, figures)?;
     text.extend_from_slice(b"\r\n")?;
     push_clients(text, figures)?;
     text.extend_from_slice(b"\r\n")?;
-    push_memory(text, figures)?;
-    text.extend_from_slice(b"\r\n")?;
+    push_memory(text, figures)
+}
+
+fn push_load(text: &mut Vec<u8>, figures: &Figures) -> Result<(), AllocError>
+    ensures { OnOk result (text.new.items ≡ text.old.items ++ load_text figures.now) }
+{
     push_stats(text, figures)?;
     text.extend_from_slice(b"\r\n")?;
     push_latency(text, figures)?;
@@ -83,14 +95,14 @@ fn push_memory(text: &mut Vec<u8>, figures: &Figures) -> Result<(), AllocError>
     push_row(text, "maxmemory", figures.most_bytes)
 }
 
-#[tactic(auto, unfolding(crate::specs::Queries::stats_text))]
 fn push_stats(text: &mut Vec<u8>, figures: &Figures) -> Result<(), AllocError>
     ensures { OnOk result (text.new.items ≡ text.old.items ++ stats_text figures.now) }
 {
     text.extend_from_slice(b"# Stats\r\n")?;
     push_row(text, "total_connections_received", figures.sessions)?;
     push_row(text, "total_commands_processed", figures.answered)?;
-    push_row(text, "instantaneous_ops_per_sec", figures.rate)
+    push_row(text, "instantaneous_ops_per_sec", figures.rate)?;
+    Ok(())
 }
 
 #[tactic(auto, unfolding(crate::specs::Queries::latency_text))]
