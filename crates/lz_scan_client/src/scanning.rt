@@ -32,7 +32,7 @@ pub fn scan_rooms<R: Read, W: Write>(
     writer: &mut W,
     most: u64,
 ) -> Result<ToldKeys, ScanFault>
-    ensures all { IfOk result (λ told. IsToldBy (R.remaining reader.old) (W.contents writer.old) (W.contents writer.new) most told) }
+    ensures { IfOk result (λ told. IsToldBy (R.remaining reader.old) (W.contents writer.old) (W.contents writer.new) most told) }
 {
     let mut progress = Progress::new(alloc);
     match progress.scan(reader, writer, most) {
