@@ -26,9 +26,11 @@ pub mod InTurn
 pub mod ClientRows
 pub mod TextsTold
 pub mod TurnRows
+pub mod RefusalRows
 pub mod OwnLines
 pub mod OwnLinesRows
 pub mod ExchangesMore
+pub mod Cuts
 pub mod Standings
 pub mod LineSessions
 pub mod TalksOnStreams

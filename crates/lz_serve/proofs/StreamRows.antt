@@ -2,11 +2,12 @@
 use Rattle.lz_serve.specs.declared.stream.Received.TheVariants as received
 use Rattle.lz_serve.specs.declared.stream.Taken.TheVariants as taken
 use Rattle.lz_serve.specs.declared.reader.Reader.TheVariants as reader
-use Rattle.std.proofs.Common.{◌≡◌, ℕ, true, false, List, [], ◌∷◌, ◌++◌, Option, Some, None, is_none, refl, sym, ◌∙◌}
+use Rattle.std.proofs.Common.{◌≡◌, ℕ, true, false, List, [], ◌∷◌, ◌++◌, Option, Some, None, is_none, refl, sym, ap, ◌∙◌}
+use Rattle.std.specs.List.{flat_map}
 use mathlib.Core.Bool.{true≢false}
 use Rattle.lz_proto.{specs.{declared.{item.Item.{Item}, end.End.{End}}, Lines.{nothing}, Pieces.{Reads}, Sessions.{Answered}}, proofs.Texts.{only, some_items}}
 use Rattle.lz_serve.specs.{Grants.{Grant}, Listings.{Listing}, declared.{language.Language.TheVariants.{Lines}, reader.Reader.{Reader}}}
-use Rattle.lz_serve.specs.{LineSessions.{IsGranted, LinesCame}, Streams.{IsFresh, MayTake, Receives, Takes, Traffic}}
+use Rattle.lz_serve.specs.{LineSessions.{IsGranted, LinesCame, refused_line}, Streams.{IsFresh, MayTake, Receives, Takes, Traffic}}
 use Rattle.lz_serve.proofs.LineSessions.{lines_are_sessions}
 
 abbrev traffic : List ℕ → List ℕ → Traffic
@@ -30,6 +31,10 @@ empty_front : (xs ys : List Item) → xs ++ ys ≡ [] → xs ≡ []
 empty_front [] ys is = refl
 empty_front (x ∷ xs) ys is = absurd (cc)
 
+empty_back : (xs ys : List Item) → xs ++ ys ≡ [] → ys ≡ []
+empty_back [] ys is = is
+empty_back (x ∷ xs) ys is = absurd (cc)
+
 -- no item comes of no text
 no_items : (items : List Item) (kept : Option (List ℕ)) → Reads [] items kept → items ≡ []
 no_items items None reads = only [] [] nothing items (reads [])
@@ -50,6 +55,8 @@ unread items None goes came = absurd (true≢false goes)
 told_unasked : (P : List Grant → Type 0) (L : Listing → Type 0) (text : List ℕ) → MayTake P L (Some (traffic [] [])) (1 ∷ text) → ⊥
 told_unasked P L text (connection, t, (grants, may, at, spoken, goes), rest, begins) =
     let s = lines_are_sessions L connection grants [] [] t spoken at in
-    let none : s.done ≡ [] = empty_front s.done s.left (unread (s.done ++ s.left) t.reader goes s.came) in
-    let unsent : t.unsent ≡ [] = silent connection grants s.done t.unsent t.ended none s.answered in
+    let none : s.done ++ (s.refused ++ s.left) ≡ [] = unread (s.done ++ (s.refused ++ s.left)) t.reader goes s.came in
+    let said : s.said ≡ [] = silent connection grants s.done s.said s.ended (empty_front s.done (s.refused ++ s.left) none) s.answered in
+    let refused : s.refused ≡ [] = empty_front s.refused s.left (empty_back s.done (s.refused ++ s.left) none) in
+    let unsent : t.unsent ≡ [] = s.told ∙ ap (λ (w : List ℕ). w ++ flat_map refused_line s.refused) said ∙ ap (λ (l : List Item). flat_map refused_line l) refused in
     absurd (cc)

@@ -8,7 +8,7 @@ use Rattle.std.proofs.{Common.{is_none, refl, sym, ap, ◌∙◌, subst, arith},
 use Rattle.lz_proto.specs.declared.{request.Request.{Request}, reply.Reply.{Reply}, end.End.TheVariants.{Done}}
 use Rattle.lz_serve.specs.{declared.{language.Language.{Language}, line.Line.{Line}, reader.Reader.{Reader}, turn.Turn.{Turn}}, Grants.{Grant}}
 use Rattle.lz_serve.specs.{Listings.{Listing}, Lines.{AreBefore, AreEarned, IsBefore, awaited}}
-use Rattle.lz_serve.specs.Conversations.{Fed, Finished, IsAt, Noted, Paged, Talk, Told, nothing_yet}
+use Rattle.lz_serve.specs.Conversations.{Fed, Finished, IsAt, Noted, Paged, Talk, Told, nothing_yet, stopped}
 use Rattle.lz_serve.specs.Streams.{IsFresh, IsTalkOf, MayTake, Receives, Takes, Traffic}
 use Rattle.lz_serve.proofs.LinesUnderWay.{before_same, earned_after, earned_same, granted_of}
 use Rattle.lz_list.{specs.Traces.{Begins, Trace}, proofs.Traces.WalkEnd.{begins_before}}
@@ -57,6 +57,12 @@ module _ (P : List Grant → Type 0) (L : Listing → Type 0) (connection : ℕ)
         ap (λ (t : Talk). t.spoken) step.4 ∙ was.3,
         ap (λ (t : Talk). is_none t.reader) step.4,
       )
+
+  -- where its service stops
+  pub refusing : (s : Option Traffic) (old new : Talk) → new ≡ stopped old → IsTalkOf P L connection s old → IsTalkOf P L connection s new
+  refusing None old new step was = tt
+  refusing (Some s) old new step was =
+      moved s old new was.0 was was.1 (stands.refusing L connection was.0 s.received s.taken old was.2 new step) (ap (λ (t : Talk). t.spoken) step) (ap (λ (t : Talk). t.reader) step)
 
   -- where so many bytes were taken of what was to be sent
   pub sent : (before after : Option Traffic) (n : ℕ) (old new : Talk) → Takes before after (taken.Count n) old.unsent → new ≡ record old { unsent = drop n old.unsent } → IsTalkOf P L connection before old → IsTalkOf P L connection after new

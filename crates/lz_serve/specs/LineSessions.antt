@@ -1,9 +1,10 @@
 -- A conversation of lines is a session.
 use Rattle.lz_serve.specs.declared.reader.Reader.TheVariants as reader
-use Rattle.std.specs.Prelude.{◌≡◌, ℕ, suc, List, [], ◌∷◌, ◌++◌, length, Option, Some, None}
-use Rattle.lz_proto.specs.{declared.{request.Request.{Request}, item.Item.{Item}, reply.Reply.{Reply}}, Lines.{Items}, Pieces.{Reads}, Sessions.{Answered}}
-use Rattle.lz_serve.specs.{declared.{language.Language.TheVariants.{Lines}, reader.Reader.{Reader}}, Conversations.{IsAt, Talk}, Grants.{Grant, IsOfLine}}
-use Rattle.lz_serve.specs.Listings.{Listing}
+use Rattle.std.specs.{Prelude.{◌≡◌, ℕ, suc, false, List, [], ◌∷◌, ◌++◌, length, Option, Some, None}, List.{flat_map}}
+use Rattle.lz_proto.specs.declared.{request.Request.{Request, TheVariants.{Quit}}, item.Item.{Item, TheVariants.{Asks, Faulty}}, reply.Reply.{Reply}, end.End.{End}}
+use Rattle.lz_proto.specs.{Lines.{Items}, Pieces.{Reads}, Sessions.{Answered, bad_text}}
+use Rattle.lz_serve.specs.{declared.{language.Language.TheVariants.{Lines}, reader.Reader.{Reader}, turn.Wording.TheVariants.{Line}}, Conversations.{IsAt, Talk}}
+use Rattle.lz_serve.specs.{Exchanges.{refusal}, Grants.{Grant, IsOfLine}, Listings.{Listing}}
 
 -- One reply more was granted: this one, to this request, which is the line after as many as were granted replies before, on this connection.
 abbrev pub IsGranted : ℕ → List Grant → Request → Reply → List Grant → Type 0
@@ -15,14 +16,27 @@ LinesCame text items (Some (reader.Lines kept)) = Reads text items kept
 LinesCame text items (Some (reader.Frames place)) = ⊥
 LinesCame text items None = Items text items
 
--- Of the items of the text the first ones were answered, each request by the reply that was granted next, and what was sent and is to be
--- sent is the text of that session. As many are left as there are turns.
+-- what is told of a line that is refused: a request, `quit`, or a fault, which is told as ever
+abbrev pub refused_line : Item → List ℕ
+refused_line (Asks Quit) = []
+refused_line (Asks request) = refusal Line
+refused_line (Faulty bad) = bad_text bad
+
+-- Of the items of the text the first ones were answered, each request by the reply that was granted next. Where the service stops the next
+-- ones were refused: no request of theirs was granted a reply. What was sent and is to be sent is the text of that session, and what is told of those. As
+-- many are left as there are turns.
 pub record IsSession (connection : ℕ) (grants : List Grant) (text sent : List ℕ) (t : Talk) : Type 0 where
   pub done : List Item
+  pub refused : List Item
   pub left : List Item
-  pub came : LinesCame text (done ++ left) t.reader
+  pub came : LinesCame text (done ++ (refused ++ left)) t.reader
   pub many : length left ≡ length t.turns
-  pub answered : Answered (IsGranted connection) [] done grants (sent ++ t.unsent) t.ended
+  pub said : List ℕ
+  pub ended : End
+  pub answered : Answered (IsGranted connection) [] done grants said ended
+  pub told : sent ++ t.unsent ≡ said ++ flat_map refused_line refused
+  pub ends : refused ≡ [] → ended ≡ t.ended
+  pub goes : t.stops ≡ false → refused ≡ []
 
 -- A conversation of lines stands within a session, whatever is so of pages.
 abbrev pub LinesAreSessions : (Listing → Type 0) → Type 0

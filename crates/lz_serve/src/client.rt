@@ -10,6 +10,7 @@ ghost use Rattle.lz_serve.specs.Streams.{IsFresh};
 
 mod page;
 mod question;
+mod stop;
 
 use crate::asking::Granted;
 use crate::conversation::{Conversation, pass_over};

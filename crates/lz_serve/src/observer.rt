@@ -153,6 +153,6 @@ pub trait Observer: Drop {
     /// again. Told once.
     fn halted(&self);
 
-    /// Whether the service is to end: then no further command is begun, and those under way are answered.
+    /// Whether the service is to end: then no further line or frame is begun, and those that were are answered.
     fn stops(&self) -> bool;
 }

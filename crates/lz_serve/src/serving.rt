@@ -6,6 +6,8 @@ ghost use Rattle.lz_serve.specs.Grants.{Promises};
 ghost use Rattle.lz_serve.specs.Halts.{IsCalmAfter};
 ghost use Rattle.lz_serve.specs.Services.{Serves, parts_of};
 
+mod stopping;
+
 use crate::crowd::Crowd;
 use crate::desk::Desk;
 use crate::free_pass::{FreePass, hand_back};
@@ -24,6 +26,7 @@ use std::marker::Brand;
 use std::sync::Wait;
 use std::sync::atomic::{AtomicBool, Ordering};
 use std::time::{Clock, Duration};
+use stopping::refuse_rest;
 
 /// For how many milliseconds, at its end, a loop goes on sending replies that are slowly taken, and how long each turn is then at most.
 const FAREWELL_MS: u64 = 1_000;
@@ -31,9 +34,9 @@ const FAREWELL_MS: u64 = 1_000;
 const FAREWELL_TURN_MS: u64 = 100;
 
 /// Serves connections, so many at once, by these passes in one thread, until a client was told that the service halted, here or by another loop, which
-/// sets `told`, the observer says that it is to end, or so many connections were served. Then the calls under way are played to their
-/// answers, and what is unsent is sent. Where the service halted each request that waits is answered too. The loop whose client was told
-/// so first tells the observer. Where no memory is left for its clients it serves none. It hands the poller back, from which no more
+/// sets `told`, the observer says that it is to end, or so many connections were served. Where it is to end what wasn't begun is refused. Then the calls
+/// under way are played to their answers, and what is unsent is sent. Where the service halted each request that waits is answered too. The loop whose
+/// client was told so first tells the observer. Where no memory is left for its clients it serves none. It hands the poller back, from which no more
 /// connections have come than so.
 #[tactic(auto, using(crate::proofs::JoinedPasses::calm_after))]
 pub fn serve_loop<D, G, N, R, O, P>(
@@ -216,6 +219,16 @@ where
         }
         desk.play_turn(rt, set, observer, &mut buffer);
     }
+    refuse_rest(
+        rt,
+        poller,
+        set,
+        desk,
+        &mut ready,
+        observer,
+        told,
+        &mut buffer,
+    );
     desk.finish(rt, set, observer, &mut buffer);
     if desk.halted() && !told.swap(true, Ordering::SeqCst) {
         observer.halted();

@@ -3,7 +3,7 @@ use Rattle.lz_serve.specs.declared.reader.Reader.TheVariants as reader
 use Rattle.std.proofs.Common.{◌≡◌, ◌+◌, ℕ, Bool, true, false, List, [], ◌++◌, length, take, drop, Option, Some, None, is_none, refl, sym, ap, subst, ◌∙◌, arith}
 use Rattle.std.proofs.{Common.{append_assoc}, Math.Seq.{take-add}, lemmas.List.{drop_all, take-append-drop, take_all, take_at, Elements.{All-nil}}}
 use Rattle.lz_slot.specs.declared.format.Format.{Format}
-use Rattle.lz_proto.{specs.{declared.{item.Item.{Item}, end.End.TheVariants.{Done}}, Lines.{Items}, Sessions.{Answered}}, proofs.Texts.{some_items}}
+use Rattle.lz_proto.{specs.{declared.{item.Item.{Item}, end.End.TheVariants.{Done}}, Lines.{Items}}, proofs.Texts.{some_items}}
 use Rattle.lz_board.specs.Seats.{BoardId}
 use Rattle.lz_serve.specs.{declared.{language.Language.TheVariants.{Lines}, reader.Reader.{Reader}}, LineSessions.{IsGranted, LinesCame}}
 use Rattle.lz_serve.{specs.{Grants.{AreGranted, IsGrant}, Listings.{IsListing}, Streams.{MayTake, Traffic}}, proofs.LineSessions.{lines_are_sessions}}
@@ -18,6 +18,7 @@ begun b F text =
       whole = λ e. absurd (cc);
       told = record {
         items = [];
+        refused = [];
         more = some.0;
         its = some.1;
         grants = [];
@@ -25,7 +26,9 @@ begun b F text =
         rest = [];
         ended = Done;
         connection = 0;
+        said = [];
         answered = record { replies = []; served = refl; text = refl; ends = refl };
+        told = refl;
       };
     }
 
@@ -75,7 +78,8 @@ told_on b F old text sent piece new read count ended is tape may longer =
     by_talk : MayTake (AreGranted b F) (IsListing b) (Some (traffic (take read text) ended sent)) piece → IsTape b F text read ended new
     by_talk (connection, t, (grants, granted, at, spoken, goes), rest, is_rest) =
         let s = lines_are_sessions (IsListing b) connection grants (take read text) sent t spoken at in
-        let first = first_items ended text read s.done s.left t.reader tape.whole goes s.came in
+        let both = append_assoc s.done s.refused s.left in
+        let first = first_items ended text read (s.done ++ s.refused) s.left t.reader tape.whole goes (subst (λ (l : List Item). LinesCame (take read text) l t.reader) (sym both) s.came) in
         let split : sent ++ t.unsent ≡ new ++ (drop count piece ++ rest) =
         ap (λ (x : List ℕ). sent ++ x) is_rest ∙ sent_on sent piece rest count ∙ ap (λ (x : List ℕ). x ++ (drop count piece ++ rest)) (sym longer) in
         record {
@@ -83,13 +87,16 @@ told_on b F old text sent piece new read count ended is tape may longer =
           whole = tape.whole;
           told = record {
             items = s.done;
+            refused = s.refused;
             more = first.0;
-            its = first.1;
+            its = subst (λ (l : List Item). Items text l) (append_assoc s.done s.refused first.0) first.1;
             grants = grants;
             granted = granted;
             rest = drop count piece ++ rest;
-            ended = t.ended;
+            ended = s.ended;
             connection = connection;
-            answered = subst (λ (x : List ℕ). Answered (IsGranted connection) [] s.done grants x t.ended) split s.answered;
+            said = s.said;
+            answered = s.answered;
+            told = sym split ∙ s.told;
           };
         }

@@ -1,22 +1,25 @@
 -- What may have been sent to a client whose text is known.
-use Rattle.std.specs.Prelude.{◌≡◌, ◌≤◌, ℕ, Bool, true, List, [], ◌++◌, length}
+use Rattle.std.specs.{Prelude.{◌≡◌, ◌≤◌, ℕ, Bool, true, List, [], ◌++◌, length}, List.{flat_map}}
 use Rattle.lz_slot.specs.declared.format.Format.{Format}
 use Rattle.lz_proto.specs.{declared.{item.Item.{Item}, end.End.{End}}, Lines.{Items}, Sessions.{Answered}}
 use Rattle.lz_board.specs.Seats.{BoardId}
-use Rattle.lz_serve.specs.{LineSessions.{IsGranted}, Grants.{AreGranted, Grant}}
+use Rattle.lz_serve.specs.{LineSessions.{IsGranted, refused_line}, Grants.{AreGranted, Grant}}
 
 -- It is a beginning of what the client is told of the first items of its text: each request was
--- granted its reply, as the line of its number on one connection, by a pass of this board, those for one key in turn.
+-- granted its reply, as the line of its number on one connection, by a pass of this board, those for one key in turn. Or further ones were refused.
 pub record IsTold (b : BoardId) (F : Format) (text sent : List ℕ) : Type 0 where
   pub items : List Item
+  pub refused : List Item
   pub more : List Item
-  pub its : Items text (items ++ more)
+  pub its : Items text (items ++ (refused ++ more))
   pub grants : List Grant
   pub granted : AreGranted b F grants
   pub rest : List ℕ
   pub ended : End
   pub connection : ℕ
-  pub answered : Answered (IsGranted connection) [] items grants (sent ++ rest) ended
+  pub said : List ℕ
+  pub answered : Answered (IsGranted connection) [] items grants said ended
+  pub told : sent ++ rest ≡ said ++ flat_map refused_line refused
 
 -- So much of the client's text has come, all of it where it has ended, and this was sent.
 pub record IsTape (b : BoardId) (F : Format) (text : List ℕ) (read : ℕ) (ended : Bool) (sent : List ℕ) : Type 0 where
