@@ -12,10 +12,11 @@ _lazyset() {
 _lazyset_words() {
     local word=$1 options formats="1 2 3 4"
     case "${COMP_WORDS[1]}" in
-    make) options="--format --keys --help" ;;
-    renew | grow | copy) options="--format --help" formats="2 3 4" ;;
+    make) options="--format --keys --text --help" ;;
+    renew | grow) options="--format --help" formats="2 3 4" ;;
+    copy) options="--format --replace --help" formats="2 3 4" ;;
     run) options="--buckets --no-lock --help" ;;
-    serve) options="--connections --loops --resp --text --numbers --sessions --idle --buckets --socket --control --until-eof --no-lock --help" ;;
+    serve) options="--connections --loops --resp --lines --text --numbers --sessions --idle --buckets --socket --control --until-eof --no-lock --help" ;;
     stop) options="--within --help" ;;
     check) options="--of --keys --help" ;;
     rehearse) options="--buckets --format --help" ;;

@@ -155,16 +155,16 @@ def try_cut_off(program: Program, folder: str) -> None:
 
 @contextmanager
 def endless(pages: Sequence[bytes]) -> Iterator[int]:
-    """A port where one client is told these pages, one for each request, and again from the first one on."""
+    """A port where one client is told these pages, one for each request, and again from the first one on. A frame of no words asks for nothing."""
     with socket.create_server(("127.0.0.1", 0)) as listener:
 
         def answer() -> None:
             client, _ = listener.accept()
-            with client, suppress(OSError):
-                for page in itertools.cycle(pages):
-                    if not client.recv(1 << 16):
-                        return
-                    client.sendall(page)
+            with client, client.makefile("rb") as asked, suppress(OSError):
+                told_next = itertools.cycle(pages)
+                for line in asked:
+                    if line != b"*0\r\n":
+                        client.sendall(next(told_next))
 
         thread = threading.Thread(target=answer)
         thread.start()
@@ -184,7 +184,7 @@ def try_endless(program: Program, folder: str) -> None:
 def try_words(program: Program, folder: str) -> None:
     """Standard error says in words why nothing was made."""
     new = os.path.join(folder, "new")
-    kind = "a reply is no page of keys: the service has to be started with --resp, and without --text"
+    kind = "a reply is no page of keys: the service has to speak Redis's protocol (--resp beside PASSES), and be started without --text"
     for reply, ended, why in ((b"+OK\r\n", NO_REPLY, kind), (b"", NO_READ, "the connection failed, ended or was silent for a minute")):
         with answering(reply) as port:
             line = ended.text.rstrip("\n")
@@ -202,8 +202,9 @@ def try_refused(program: Program, folder: str) -> None:
     for options in (["--connections", "4"], [*by_frames(4), "--text"]):
         with Service(program, file, 4, *options) as service:
             expect(copy(program, service.port, new, 10), NO_REPLY, f"a copy of a service with {options}")
-            for slots in ("0", "65537"):
-                expect(copy(program, service.port, new, int(slots)), Ended("refused 2\n", 3), f"a copy with {slots} slots")
+            for slots in (0, 16_777_217):
+                expect(copy(program, service.port, new, slots), Ended("refused 2\n", 3), f"a copy with {slots} slots")
+            expect(copy(program, service.port, new, 65_537, "--format", "2"), Ended("refused 2\n", 3), "a copy into a format that has fewer slots")
     expect(sorted(os.listdir(folder)), ["f"], "what is left")
 
 

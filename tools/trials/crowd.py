@@ -28,10 +28,11 @@ def needs_descriptors(count: int) -> None:
 
 
 class Talk:
-    """What is sent on one connection, and what has come, up to so many lines, or to its end."""
+    """What is sent on one connection, and what has come, up to so many lines, or to its end, which may be a reset."""
 
-    def __init__(self, connection: socket.socket, text: bytes, lines: Optional[int]) -> None:
+    def __init__(self, connection: socket.socket, text: bytes, lines: Optional[int], may_be_reset: bool = False) -> None:
         self.connection = connection
+        self._may_be_reset = may_be_reset
         self.received = bytearray()
         self._rest = memoryview(text)
         self._lines = lines
@@ -47,9 +48,17 @@ class Talk:
         if events & selectors.EVENT_WRITE:
             self._rest = self._rest[self.connection.send(self._rest) :]
         if events & selectors.EVENT_READ:
-            piece = self.connection.recv(65536)
+            piece = self._piece()
             self.received += piece
             self._is_ended = not piece
+
+    def _piece(self) -> bytes:
+        try:
+            return self.connection.recv(65536)
+        except ConnectionResetError:
+            if self._may_be_reset:
+                return b""
+            raise
 
 
 class Crowd:
@@ -94,10 +103,10 @@ class Crowd:
         """Sends a text on each, and gives what came: so many lines, or as many as the text has."""
         return self._talk([Talk(it, text, lines or text.count(b"\n")) for it, text in zip(self.connections, texts)])
 
-    def last(self, texts: Sequence[bytes] = ()) -> List[bytes]:
+    def last(self, texts: Sequence[bytes] = (), may_be_reset: bool = False) -> List[bytes]:
         """Sends a text on each, if any, and gives what comes until the service ends the connection."""
         sent = texts or [b""] * len(self)
-        return self._talk([Talk(it, text, None) for it, text in zip(self.connections, sent)])
+        return self._talk([Talk(it, text, None, may_be_reset) for it, text in zip(self.connections, sent)])
 
     def quit_one(self) -> None:
         """Ends one session, and forgets its connection."""

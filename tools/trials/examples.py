@@ -20,6 +20,9 @@ INDENT = "    "
 END = "end-of-example"
 PATIENCE = 20.0
 
+# The port of a service that names none.
+USUAL_PORT = "7000"
+
 # How long a port is waited for that the page before has served on.
 MOST_WAIT = 5.0
 
@@ -40,8 +43,8 @@ NOT_RUN: Dict[str, Dict[str, str]] = {
         "docker run --rm -v keys:/set lazyset make keys 1000": DOCKER,
         "docker run --init -d --name keys -v keys:/set lazyset serve keys 7000 8 --buckets 1000 --control /run/lazyset/control": DOCKER,
         "docker run --rm --network container:keys CLIENT": DOCKER,
-        "redis-cli SMEMBERS seen | lazyset make set 100000 --keys": REDIS,
-        "redis-cli SMEMBERS tags | PYTHONPATH=clients/python python3 keys_of_members.py tags | lazyset make texts 100000 --keys": REDIS,
+        "redis-cli SMEMBERS seen | lazyset make set 100000 --format 4 --keys": REDIS,
+        "redis-cli SMEMBERS tags | lazyset make texts 100000 --format 4 --keys --text tags": REDIS,
     },
     "OPERATIONS.md": {
         "make install": ROOT,
@@ -136,7 +139,7 @@ def rows_of(text: str) -> List[Tuple[int, str, str]]:
 
 def try_row(shell: "Shell", line: int, make: str, serve: str) -> None:
     """A row's file is made, and its service listens; the file is removed again."""
-    slots, port = (re.findall(pattern, words)[0] for pattern, words in ((r"make \S+ (\d+)", make), (r"serve \S+ (\d+)", serve)))
+    slots, port = re.findall(r"make \S+ (\d+)", make)[0], ports_of(serve)[0]
     for command, wanted in ((make, [f"made {slots}"]), (f"{serve} &", [f"listening {port}"]), (f"kill $! && wait $!; rm {make.split()[2]}", [])):
         printed = shell.run(command, len(wanted))
         if printed != wanted:
@@ -223,9 +226,15 @@ def is_left_out(example: Example) -> bool:
     return any(tool in example.command and shutil.which(tool) is None for tool in OPTIONAL)
 
 
+def ports_of(command: str) -> List[str]:
+    """The ports on which a command serves."""
+    found = re.findall(r"lazyset serve \S+(?: (\d+|-))?(.*)", command)
+    return [port or USUAL_PORT for port, words in found if port != "-" and "--socket" not in words]
+
+
 def taken_ports(examples: Sequence[Example]) -> List[str]:
     """The ports that the examples serve on and that another program has, and doesn't leave."""
-    asked = {port for example in examples for port in re.findall(r"serve \S+ (\d+)", example.command)}
+    asked = {port for example in examples for port in ports_of(example.command)}
     return [port for port in sorted(asked) if _is_taken(int(port))]
 
 

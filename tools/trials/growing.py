@@ -12,12 +12,16 @@ import subprocess
 from typing import Dict, List
 
 from trials.faults import needs_strace
-from trials.files import put
+from trials.files import TWO_SLOTS, bytes_in, changed, put
+from trials.plain import FORMATS, MOST_SLOTS
 from trials.program import PATIENCE, Ended, Program
 from trials.report import Wrong, expect
 
 # The calls of the system by which a growth changes files, folders and what of them is durable.
 CALLS = ("openat", "ftruncate", "fchown", "chown", "fchmod", "chmod", "flock", "pwrite64", "fdatasync", "fsync", "rename", "unlink")
+
+# What a growth that was cut off leaves: a file that isn't made yet.
+LEFT = changed(TWO_SLOTS, 0, 0)
 
 OLD_SLOTS, NEW_SLOTS = 3, 5
 KEYS = "17\n3:17\n5\n"
@@ -56,8 +60,8 @@ def count_calls(program: Program, folder: str) -> Dict[str, int]:
     """How often a growth to its end makes each of the calls."""
     file, log = os.path.join(folder, "counted"), os.path.join(folder, "log")
     copy = made(program, file)
-    # What a growth that was cut off left, which is taken away first.
-    put(f"{file}.grow", b"left")
+    # What a growth that was cut off left is taken away first.
+    put(f"{file}.grow", LEFT)
     before = ["strace", "-f", "-qq", "-o", log, "-e", f"trace={','.join(CALLS)}"]
     expect(program.run(*words(file), before=before), GROWN, "a growth")
     expect(expect_whole(program, file, copy, "a grown file"), NEW_SLOTS, "its slots")
@@ -70,7 +74,7 @@ def kill_at(program: Program, folder: str, call: str, number: int) -> int:
     """Kills a growth before its call of that number, and gives how many slots the file has then."""
     file = os.path.join(folder, f"{call}-{number}")
     copy = made(program, file)
-    put(f"{file}.grow", b"left")
+    put(f"{file}.grow", LEFT)
     what = f"a growth that was killed before {call} {number}"
     inject = f"{call}:signal=KILL:when={number}"
     before = ["strace", "-f", "-qq", "-o", os.devnull, "-e", f"trace={call}", "-e", f"inject={inject}"]
@@ -143,3 +147,53 @@ def try_names(program: Program, folder: str) -> None:
         fcntl.flock(held, fcntl.LOCK_SH)
         ended, said = program.run_loud(*words(file))
         expect((ended, "another process has it open" in said), (Ended("nofile\n", 3), True), "a growth of a locked file")
+
+
+def try_beside(program: Program, folder: str) -> None:
+    """A growth takes away what another one has left beside the file, and nothing else."""
+    file, other = os.path.join(folder, "f"), os.path.join(folder, "other")
+    copy, beside = made(program, file), os.path.join(folder, "f.grow")
+    put(other, b"mine\n")
+    for text in (b"mine\n", bytes(48), changed(TWO_SLOTS, 7, 0x39), b"x" * 1000):
+        put(beside, text)
+        said = f"lazyset: {beside}: its {len(text)} bytes are no set's: give another name, or move it away\n"
+        expect(program.run_loud(*words(file)), (Ended("nofile\n", 3), said), f"a growth beside {text[:16]!r}")
+        expect((bytes_in(beside), expect_whole(program, file, copy, "the file")), (text, OLD_SLOTS), "what is left")
+    os.remove(beside)
+    os.symlink("other", beside)
+    expect(program.run_loud(*words(file)), (Ended("nofile\n", 3), f"lazyset: {beside}: it isn't a regular file\n"), "a growth beside a link")
+    expect((os.path.islink(beside), bytes_in(other)), (True, b"mine\n"), "the link, and what it leads to")
+    os.remove(beside)
+    for text in (b"", b"\0", LEFT, TWO_SLOTS, LEFT[:20]):
+        put(beside, text)
+        expect(program.run(*words(file)), GROWN, f"a growth beside {text[:20]!r}")
+        expect((os.path.exists(beside), expect_whole(program, file, copy, "the grown file")), (False, NEW_SLOTS), "what is left")
+
+
+def form_of(program: Program, file: str) -> int:
+    """The format of a file."""
+    return int(program.run("info", file).text.split()[1])
+
+
+def try_formats(program: Program, folder: str) -> None:
+    """A grown file has the format of the old one, where that has all rooms and so many slots; else one that has, which is said."""
+    file, many = os.path.join(folder, "f"), MOST_SLOTS[2] + 1
+    for form in FORMATS:
+        for slots, options, grown in (
+            *((many - 1, (), max(form, 2)), (many, (), form if form > 2 else 4), (many - 1, ("--format", "3"), 3), (many, ("--format", "3"), 3)),
+            *((9, ("--format", "2"), 2), (9, (), max(form, 2))),
+        ):
+            put(file, None)
+            program.make(file, 3, form)
+            ended, said = program.run_loud("grow", file, str(slots), *options)
+            changes = not options and grown != form
+            told = f"lazyset: {file}: the new file is of format {grown}, in place of {form}\n" if changes else ""
+            what = f"a file of format {form}, grown to {slots} slots {' '.join(options)}"
+            expect((ended, said), (Ended("grown 0\n", 0), told), what)
+            expect((form_of(program, file), slots_of(program, file)), (grown, slots), f"the format and the slots of {what}")
+        for slots in (0, MOST_SLOTS[4] + 1):
+            expect(program.run("grow", file, str(slots)), Ended("refused new 2\n", 3), f"a file of format {form}, grown to {slots} slots")
+    expect(program.run("grow", file, str(many), "--format", "2"), Ended("refused new 2\n", 3), "a growth into a format that has fewer slots")
+    # Where the old file is at fault, that is told, also for many slots.
+    put(file, changed(TWO_SLOTS, 7, 0x39))
+    expect(program.run("grow", file, str(many)), Ended("refused old 2\n", 3), "a growth of a file with a spoiled head")

@@ -82,13 +82,13 @@ class Program:
 
 
 class Service:
-    """The program serving a file, as a process of its own."""
+    """The program serving a file, as a process of its own. Without passes, or without a port too, it chooses them."""
 
     def __init__(
         self,
         program: Program,
         file: str,
-        passes: int,
+        passes: Optional[int],
         *options: str,
         before: Sequence[str] = (),
         log: Union[int, IO[str]] = subprocess.DEVNULL,
@@ -96,7 +96,7 @@ class Service:
         port: str = "0",
     ) -> None:
         self.process = subprocess.Popen(
-            [*before, program.path, "serve", file, port, str(passes), *options],
+            [*before, program.path, "serve", file, *filter(None, (port, "" if passes is None else str(passes))), *options],
             stdout=subprocess.PIPE,
             stderr=log,
             text=True,

@@ -129,7 +129,8 @@ def try_frames_at_halt(program: Program, folder: str) -> None:
             with Crowd(service.port, HALTS) as crowd:
                 frames = [array(b"SADD", b"0", *(b"%d" % (10 * client + key) for key in range(2 + client % 7))) for client in range(HALTS)]
                 crowd.send([2 * frame for frame in frames])
-                told = crowd.last()
+                # A service that ends leaves what came after it unread, so the system may end a connection by a reset, after the reply.
+                told = crowd.last(may_be_reset=True)
             expect(told, [HALTED] * HALTS, f"what clients are told whose device failed, with {passes} passes")
             expect(service.wait(), 1, "the status of a service whose device failed")
 

@@ -160,10 +160,7 @@ fn look_by_threads<R: Threads + Wait + Clock + Sync, N: Named + Send + Sync>(
             }
             let found = join_all(rt, threads);
             stopped.store(true, Ordering::SeqCst);
-            let changes = match changing {
-                Some(thread) => thread.join(rt),
-                None => 0,
-            };
+            let changes = changing.map_or(0, |thread| thread.join(rt));
             Ok(Seen {
                 found: found?,
                 changes,

@@ -1,32 +1,28 @@
 //! One function for each command: it opens what the command works on.
-ghost use Rattle.std.specs.Prelude.{◌≡◌, ◌≤◌, IsTrue};
-ghost use Rattle.lz_slot.specs.Limits.{last_room, most_buckets, most_buckets_of, most_passes, most_rehearsed};
-ghost use Rattle.lz_slot.specs.Rooms.{last_room_of};
-ghost use Rattle.lz_vault.specs.Makes.{WritesNothing};
+ghost use Rattle.std.specs.Prelude.{◌≤◌};
+ghost use Rattle.lz_slot.specs.Limits.{most_buckets, most_buckets_of, most_rehearsed};
 ghost use Rattle.lazyset_arguments.specs.Requests.{IsWithin};
 
 use crate::control::ask_to_stop;
-use crate::copying::copy;
-use crate::counted::Counted;
+use crate::copying::{Wish, copy};
 use crate::fault::Fault;
-use crate::files::{StandIns, header_on, open, open_alone, open_source, read_front, say_cause};
+use crate::files::{StandIns, open_for, open_source, read_front, say_cause};
 use crate::growing::grow;
 use crate::handed::handed;
 use crate::heard::Heard;
 use crate::held::is_held;
-use crate::making::Making;
-use crate::over_disk::{make_keys_over, make_over, renew_over, run_over};
-use crate::service::{At, Until, serve};
+use crate::new_files::{make, make_keys, renew};
+use crate::over_disk::run_over;
+use crate::service::{At, Until};
 use crate::source::Source;
+use crate::starting::serve_file;
 use crate::texts::wanted_by;
 use crate::words::words_of;
-use lazyset_arguments::{Request, read, too_many_buckets};
+use lazyset_arguments::{Request, read};
 use lazyset_set_commands::{
-    MOST_JUDGED, ServeOptions, Shown, Status, Wanted, check_of_on, judge_on, rehearse_on,
-    survey_on, torn_slots,
+    MOST_JUDGED, Shown, Status, check_of_on, judge_on, rehearse_on, survey_on, torn_slots,
 };
-use lz_disk::{Disk, FileDisk, Lock};
-use lz_slot::{Format, Header};
+use lz_slot::Format;
 use std::fs::File;
 use std::io::Write;
 use std::net::{Net, TcpListener, TcpStream};
@@ -91,7 +87,8 @@ where
             file,
             slots,
             format,
-        } => make_keys(rt, writer, stands, file, slots, format),
+            texts_of,
+        } => make_keys(rt, writer, stands, file, slots, format, texts_of),
         Request::Renew {
             old,
             new,
@@ -108,7 +105,16 @@ where
             file,
             slots,
             format,
-        } => copy(rt, writer, address, file, slots, format),
+            replaces,
+        } => {
+            let wish = Wish {
+                file,
+                slots,
+                format,
+                replaces,
+            };
+            copy(rt, writer, address, wish)
+        }
         // The others work on a file that is there, or on none.
         _ => dispatch_other(rt, request, writer),
     }
@@ -130,7 +136,7 @@ where
         Request::Serve {
             file,
             options,
-            is_spread,
+            chosen,
             socket,
             control,
             until_eof,
@@ -146,7 +152,7 @@ where
             };
             let wanted = wanted_by(options.loops, as_numbers, adopts);
             serve_file(
-                rt, writer, file, options, is_spread, until, at, no_lock, wanted,
+                rt, writer, file, options, chosen, until, at, no_lock, wanted,
             )
         }
         Request::Stop { path, within } => ask_to_stop(rt, path, within),
@@ -162,133 +168,6 @@ where
         // They make files, and were dispatched before.
         _ => Ok(Status::CommandLine),
     }
-}
-
-fn make<R, W>(
-    rt: &R,
-    writer: &mut W,
-    file: &str,
-    slots: u64,
-    format: Format,
-) -> Result<Status, Fault>
-where
-    R: Files<File = File> + Eprint + Clock + AllocGlobal,
-    W: Write + Drop,
-{
-    let (making, disk) = Making::begin(rt, file, None)?;
-    let (status, disk) = make_over(rt, writer, file, disk, slots, format);
-    Ok(making.end(rt, &disk, status))
-}
-
-fn make_keys<R, W>(
-    rt: &R,
-    writer: &mut W,
-    stands: &StandIns,
-    file: &str,
-    slots: u64,
-    format: Format,
-) -> Result<Status, Fault>
-where
-    R: Files<File = File> + Input + Eprint + Clock + AllocGlobal,
-    W: Write + Drop,
-{
-    if stands.has_no_input() {
-        return Err(Fault::NoRead);
-    }
-    let (making, disk) = Making::begin(rt, file, None)?;
-    let mut reader = Counted::new(rt.reader());
-    let (status, disk) = make_keys_over(rt, &mut reader, writer, file, disk, slots, format);
-    if status == Status::Done {
-        let keys = reader.lines();
-        let _ = eprintln!(rt; "lazyset: make {file}: {keys} keys");
-    }
-    Ok(making.end(rt, &disk, status))
-}
-
-fn renew<R, W>(
-    rt: &R,
-    writer: &mut W,
-    old: &str,
-    new: &str,
-    slots: u64,
-    format: Format,
-) -> Result<Status, Fault>
-where
-    R: Files<File = File> + Eprint + Clock + AllocGlobal,
-    W: Write + Drop,
-    requires { last_room_of format ≡ last_room }
-{
-    let old_disk = open(rt, old, Lock::Shared)?;
-    let (making, disk) = Making::begin(rt, new, Some(&old_disk))?;
-    let (status, old_disk, disk) = renew_over(rt, writer, old, old_disk, new, disk, slots, format);
-    say_cause(rt, old, old_disk.cause());
-    Ok(making.end(rt, &disk, status))
-}
-
-// The file as a disk. More buckets than its format allows are refused as the command line refuses a number that is out of range. In
-// format 4 no write waits for a sync of another, so those of slots side by side are gathered: a kill of the process loses what no
-// sync has covered, as a crash does.
-fn open_for<R>(rt: &R, file: &str, buckets: usize, no_lock: bool) -> Result<FileDisk, Fault>
-where
-    R: Files<File = File> + Eprint + Clock + AllocGlobal,
-{
-    let mut disk = open_alone(rt, file, no_lock)?;
-    if let Some(Header { format, .. }) = header_on(&mut disk) {
-        if buckets > format.most_buckets() {
-            let _ = eprintln!(rt;
-                "lazyset: {file}: a file of format 3 or 4 may have more buckets: renew it with --format 3"
-            );
-            let refusal = too_many_buckets(rt.alloc(), buckets as u64, format);
-            return Err(Fault::of_refusal(refusal));
-        }
-        if format == Format::Four {
-            disk.gather(rt.alloc());
-        }
-    }
-    disk.watch();
-    Ok(disk)
-}
-
-// As many buckets as the file has slots, or as its format allows. One where its head can't be read: its open refuses it.
-#[tactic(auto, using(crate::proofs::Buckets::buckets_of_format))]
-fn buckets_for<D: Disk>(disk: &mut D) -> usize
-    ensures range { (1 ≤ result) × (result ≤ most_buckets) }
-    ensures nothing { IsTrue (D.device disk.old).honest → WritesNothing (D.device disk.old) (D.device disk.new) }
-{
-    let Some(header) = header_on(disk) else {
-        return 1;
-    };
-    let most = header.format.most_buckets();
-    let slots = usize::try_from(header.slots).unwrap_or(most);
-    slots.clamp(1, most)
-}
-
-fn serve_file<R, W>(
-    rt: &R,
-    writer: &mut W,
-    file: &str,
-    options: ServeOptions,
-    is_spread: bool,
-    until: Until<'_>,
-    at: At<'_>,
-    no_lock: bool,
-    wanted: Wanted,
-) -> Result<Status, Fault>
-where
-    R: Env + Files<File = File> + Eprint + AllocGlobal,
-    R: Net<Listener = TcpListener, Stream = TcpStream> + Threads + Wait + Clock + Sync,
-    W: Write + Drop,
-    requires passes { (1 ≤ options.passes) × (options.passes ≤ most_passes) }
-    requires buckets { (1 ≤ options.buckets) × (options.buckets ≤ most_buckets) }
-{
-    let mut disk = open_for(rt, file, options.buckets, no_lock)?;
-    let buckets = if is_spread {
-        buckets_for(&mut disk)
-    } else {
-        options.buckets
-    };
-    let options = ServeOptions { buckets, ..options };
-    serve(rt, writer, file, disk, options, until, at, wanted)
 }
 
 fn run_file<R, W>(

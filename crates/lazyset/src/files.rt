@@ -6,8 +6,9 @@ use crate::fault::Fault;
 use crate::share::{Share, is_terminal};
 use crate::shown_disk::ShownDisk;
 use crate::source::Source;
+use lazyset_arguments::too_many_buckets;
 use lz_disk::{Cause, Disk, FileDisk, Lock, LockFault};
-use lz_slot::{Header, read_header};
+use lz_slot::{Format, Header, read_header};
 use std::fs::{File, OpenOptions};
 use std::io::{ErrorKind, Read};
 use std::os::fd::{AsRawFd, RawFd};
@@ -97,6 +98,30 @@ where
         given => see_locked(rt, path, given)?,
     }
     see_in_place(rt, path, &disk)?;
+    Ok(disk)
+}
+
+/// The file as a disk. More buckets than its format allows are refused as the command line refuses a number that is out of range. In
+/// format 4 no write waits for a sync of another, so those of slots side by side are gathered: a kill of the process loses what no
+/// sync has covered, as a crash does.
+pub fn open_for<R>(rt: &R, file: &str, buckets: usize, no_lock: bool) -> Result<FileDisk, Fault>
+where
+    R: Files<File = File> + Eprint + Clock + AllocGlobal,
+{
+    let mut disk = open_alone(rt, file, no_lock)?;
+    if let Some(Header { format, .. }) = header_on(&mut disk) {
+        if buckets > format.most_buckets() {
+            let _ = eprintln!(rt;
+                "lazyset: {file}: a file of format 3 or 4 may have more buckets: renew it with --format 3"
+            );
+            let refusal = too_many_buckets(rt.alloc(), buckets as u64, format);
+            return Err(Fault::of_refusal(refusal));
+        }
+        if format == Format::Four {
+            disk.gather(rt.alloc());
+        }
+    }
+    disk.watch();
     Ok(disk)
 }
 

@@ -4,63 +4,18 @@ ghost use Rattle.lz_slot.specs.Limits.{last_room};
 ghost use Rattle.lz_slot.specs.Rooms.{last_room_of};
 ghost use Rattle.lz_vault.specs.Makes.{WritesNothing};
 
+use crate::beside::{Name, create_beside, facts_of};
 use crate::fault::Fault;
-use crate::files::{header_on, no_file, open, say_cause, take_lock};
+use crate::files::{header_on, no_file, open, say_cause};
+use crate::formats::{format_for, kept_format};
 use crate::over_disk::grow_over;
-use lazyset_set_commands::{Shelf, Standing, Status};
-use lz_disk::{DeviceFault, Disk, FileDisk, Lock};
-use lz_slot::{Format, Header, LAST_ROOM};
-use std::fs::{File, Metadata, OpenOptions};
-use std::io;
-use std::io::{ErrorKind, Write};
-use std::os::unix::fs::{MetadataExt, OpenOptionsExt};
-use std::path::Path;
+use lazyset_set_commands::{Status, format_number};
+use lz_disk::{Disk, Lock};
+use lz_slot::Format;
+use std::fs::File;
+use std::io::Write;
 use std::rt::Files;
 use std::time::Clock;
-
-// Until it has the mode of the old file, nobody else may look into the new one.
-const PRIVATE: u32 = 0o600;
-
-/// A file's name, which the file beside it can take.
-#[derive(Drop)]
-struct Name<'a, R: Files<File = File>> {
-    rt: &'a R,
-    path: &'a str,
-    beside: &'a str,
-    stands: Standing,
-    /// Why it wasn't given to the file beside.
-    cause: Option<io::Error>,
-}
-
-impl<R: Files<File = File>> Name<'_, R> {
-    // One call of the system gives the name to the other file, and the sync of its folder makes that last.
-    fn rename(&self) -> io::Result<()> {
-        self.rt.rename(self.beside, self.path)?;
-        let folder = match Path::new(self.path).parent() {
-            Some(folder) => folder.as_str(),
-            None => ".",
-        };
-        File::open(self.rt, folder)?.sync_all()
-    }
-}
-
-impl<R: Files<File = File>> Shelf for Name<'_, R> {
-    ghost stands = { λ name. name.stands };
-
-    fn put<O: Disk, N: Disk>(&mut self, _old: &O, _new: &N) -> Result<(), DeviceFault> {
-        self.stands = Standing::Either;
-        match self.rename() {
-            Ok(()) => {
-                self.stands = Standing::New;
-                Ok(())
-            }
-            Err(error) => {
-                self.cause = Some(error);
-                Err(DeviceFault)
-            }
-        }
-    }
-}
 
 /// Moves the keys of a file into a new one beside it, under locks of both, and gives that its name. Where a link was named, the file
 /// itself is replaced. What another growth that was cut off left beside it is taken away first.
@@ -85,18 +40,12 @@ where
     let mut old = open(rt, path, Lock::Exclusive)?;
     let format = match format {
         Some(format) => format,
-        None => roomy_format(&mut old),
+        None => roomy_format(rt, file, &mut old, slots),
     };
     let beside = format!(in rt.alloc(); "{path}.grow")?;
     let mut new = create_beside(rt, beside.as_str(), &facts)?;
     new.gather(rt.alloc());
-    let mut name = Name {
-        rt,
-        path,
-        beside: beside.as_str(),
-        stands: Standing::Old,
-        cause: None,
-    };
+    let mut name = Name::new(rt, path, beside.as_str());
     let (status, old, new) = grow_over(
         rt,
         writer,
@@ -110,70 +59,24 @@ where
     );
     say_cause(rt, file, old.cause());
     say_cause(rt, beside.as_str(), new.cause());
-    after_growing(rt, &name);
+    name.end();
     Ok(status)
 }
 
-// The format of a file, or the next one that has all rooms.
-fn roomy_format<D: Disk>(disk: &mut D) -> Format
+// The format of a file, where it has all rooms and so many slots; else one that has, of which it is said that it is another.
+fn roomy_format<R: Eprint, D: Disk>(rt: &R, path: &str, disk: &mut D, slots: u64) -> Format
     ensures rooms { last_room_of result ≡ last_room }
     ensures nothing { IsTrue (D.device disk.old).honest → WritesNothing (D.device disk.old) (D.device disk.new) }
 {
-    match header_on(disk) {
-        Some(Header { format, .. }) if format.last_room() == LAST_ROOM => format,
-        _ => Format::Two,
-    }
-}
-
-// Says why the new file wasn't given the name, and takes it away then.
-fn after_growing<R: Files<File = File> + Eprint>(rt: &R, name: &Name<'_, R>) {
-    if let Some(error) = &name.cause {
-        let path = name.path;
-        let _ = eprintln!(rt; "lazyset: {path}: {error}");
-    }
-    if name.stands != Standing::New {
-        let _ = rt.remove_file(name.beside);
-    }
-}
-
-// What the system says of the file, where it is a regular one.
-fn facts_of<R: Files<File = File> + Eprint>(rt: &R, path: &str) -> Result<Metadata, Fault> {
-    match rt.metadata(path) {
-        Ok(facts) if facts.is_file() => Ok(facts),
-        Ok(_) => Err(no_file(rt, path, "it isn't a regular file")),
-        Err(error) => Err(no_file(rt, path, error)),
-    }
-}
-
-// Makes an empty file at this path, with the mode of another and its owner, where that can be given.
-fn create_beside<R>(rt: &R, path: &str, facts: &Metadata) -> Result<FileDisk, Fault>
-where
-    R: Files<File = File> + Eprint,
-{
-    match rt.remove_file(path) {
-        Err(error) if error.kind() != ErrorKind::NotFound => return Err(no_file(rt, path, error)),
-        _ => {}
-    }
-    if let Err(error) = create_alike(rt, path, facts) {
-        return Err(no_file(rt, path, error));
-    }
-    let disk = match FileDisk::open(rt, path, true) {
-        Ok(disk) => disk,
-        Err(_) => return Err(no_file(rt, path, "its folder couldn't be synced")),
+    let Some(header) = header_on(disk) else {
+        return format_for(slots);
     };
-    take_lock(rt, path, &disk, Lock::Exclusive)?;
-    Ok(disk)
-}
-
-fn create_alike<R>(rt: &R, path: &str, facts: &Metadata) -> io::Result<()>
-where
-    R: Files<File = File> + Eprint,
-{
-    let mut how = OpenOptions::new();
-    how.write(true).create_new(true).mode(PRIVATE);
-    drop(how.open(rt, path)?);
-    if let Err(error) = rt.chown(path, Some(facts.uid()), Some(facts.gid())) {
-        let _ = eprintln!(rt; "lazyset: {path}: the owner of the old file isn't kept: {error}");
+    let format = kept_format(header.format, slots);
+    if format != header.format {
+        let (old, new) = (format_number(header.format), format_number(format));
+        let _ = eprintln!(rt;
+            "lazyset: {path}: the new file is of format {new}, in place of {old}"
+        );
     }
-    rt.set_permissions(path, facts.permissions())
+    format
 }

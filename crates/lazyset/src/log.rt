@@ -10,6 +10,7 @@ use crate::ready::Ready;
 use crate::seldom::Seldom;
 use crate::tally::Tally;
 use crate::watched::Watched;
+use crate::way_out::WayOut;
 use lazyset_set_commands::Status;
 use lz_disk::Cause;
 use lz_resp::Naming;
@@ -37,6 +38,8 @@ pub trait Stoppable: Observer {
 pub struct Surroundings {
     /// Each line has its level before it.
     pub has_levels: bool,
+    /// What is said where it can't listen.
+    pub way_out: WayOut,
     /// Who wants to know that the service is ready.
     pub ready: Ready,
     pub backlog: Backlog,
@@ -242,7 +245,7 @@ where
     fn marks(&self) -> usize {
         let loops = self.serving.get().and_then(|serving| serving.loops);
         match loops.map(|loops| loops.language) {
-            Some(Language::Frames(Naming::Texts)) => 1,
+            Some(Language::Frames(Naming::Texts) | Language::Either(Naming::Texts)) => 1,
             _ => 0,
         }
     }

@@ -3,13 +3,17 @@
 
 mod at_path;
 mod backlog;
+mod before;
+mod beside;
 mod commands;
 mod control;
 mod copying;
 mod counted;
+mod descriptors;
 mod ending;
 mod fault;
 mod files;
+mod formats;
 mod gauge;
 mod growing;
 mod handed;
@@ -19,6 +23,7 @@ mod identity;
 mod level;
 mod log;
 mod making;
+mod new_files;
 mod over_disk;
 mod ready;
 mod seldom;
@@ -26,9 +31,11 @@ mod service;
 mod share;
 mod shown_disk;
 mod source;
+mod starting;
 mod tally;
 mod texts;
 mod watched;
+mod way_out;
 mod words;
 
 use crate::commands::run;

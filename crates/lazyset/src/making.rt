@@ -1,9 +1,9 @@
 //! A file that a command makes: what stood there, and what is left where it isn't made.
+use crate::before::Before;
 use crate::fault::Fault;
 use crate::files::{create, is_absent, is_same, say_cause, take_away_empty, take_lock};
 use lazyset_set_commands::Status;
-use lz_disk::{Disk, FileDisk, Lock};
-use lz_slot::{OPEN_GATE, read_head};
+use lz_disk::{FileDisk, Lock};
 use std::fs::File;
 use std::rt::Files;
 
@@ -13,38 +13,6 @@ pub struct Making<'a> {
     path: &'a str,
     was_absent: bool,
     before: Before,
-}
-
-/// What stood at the path of a file that is made.
-#[derive(Clone, Copy)]
-enum Before {
-    /// No bytes.
-    Nothing,
-    /// So many bytes, which are those of a set but for the first one: its making was cut off, or its head was spoiled.
-    Unmade(u64),
-    /// So many others.
-    Others(u64),
-}
-
-impl Before {
-    // Where it can't be read nothing is known of it, and the making will fail as well.
-    fn on(disk: &mut FileDisk) -> Before {
-        let mut head = [0; 16];
-        let Ok(size) = disk.size() else {
-            return Before::Nothing;
-        };
-        if size == 0 {
-            return Before::Nothing;
-        }
-        if size < 16 || disk.read(0, &mut head).is_err() {
-            return Before::Others(size);
-        }
-        head[0] = OPEN_GATE;
-        match read_head(&head) {
-            Ok(_) => Before::Unmade(size),
-            Err(_) => Before::Others(size),
-        }
-    }
 }
 
 impl<'a> Making<'a> {
@@ -75,6 +43,16 @@ impl<'a> Making<'a> {
         Ok((making, disk))
     }
 
+    /// The same for a command that takes no other file's bytes away.
+    pub fn begin_free<R>(rt: &R, path: &'a str) -> Result<(Making<'a>, FileDisk), Fault>
+    where
+        R: Files<File = File> + Eprint + AllocGlobal,
+    {
+        let (making, disk) = Making::begin(rt, path, None)?;
+        making.before.see_free(rt, path)?;
+        Ok((making, disk))
+    }
+
     /// It has ended so. Says why it failed, or what was written over. One that wasn't done leaves no file where there was none, unless
     /// something was written into it.
     pub fn end<R>(self, rt: &R, disk: &FileDisk, status: Status) -> Status
@@ -94,7 +72,7 @@ impl<'a> Making<'a> {
         let path = self.path;
         let _ = match self.before {
             Before::Nothing => Ok(()),
-            Before::Unmade(size) => {
+            Before::Set(size) => {
                 eprintln!(rt;
                     "lazyset: {path}: {size} bytes were written over, a set's but for the first one"
                 )

@@ -12,13 +12,14 @@ ghost use Rattle.lz_vault.specs.Opens.{MayOpen};
 ghost use Rattle.lazyset_file_commands.specs.Copies.{LeavesCopy};
 ghost use Rattle.lazyset_file_commands.specs.Growths.{IsLeftOrHolds, MayBeLeft};
 ghost use Rattle.lazyset_file_commands.specs.Listings.{LeavesListed};
+ghost use Rattle.lazyset_file_commands.specs.Lists.{HasPlaceFor, named_by};
 ghost use Rattle.lazyset_file_commands.specs.Refusals.{FailedOpen};
 ghost use Rattle.lazyset_set_commands.specs.PlainReplies.{PassMayAnswer};
 ghost use Rattle.lazyset_set_commands.specs.Runs.{SessionOfSet};
 
 use crate::files::{bytes_of, shown};
 use lazyset_set_commands::{
-    Shelf, Standing, Status, copy_on, grow_on, make_keys_on, make_on, renew_on, run_on,
+    Lines, Shelf, Standing, Status, copy_on, grow_on, make_keys_on, make_on, renew_on, run_on,
 };
 use lz_disk::Disk;
 use lz_slot::Format;
@@ -49,7 +50,7 @@ where
     (status, disk.end())
 }
 
-/// Makes a file of the keys that the reader lists on the disk of this path, and hands the disk back.
+/// Makes a file of the keys that the reader's lines name on the disk of this path, and hands the disk back.
 pub fn make_keys_over<R, I, W, D>(
     rt: &R,
     reader: &mut I,
@@ -58,16 +59,18 @@ pub fn make_keys_over<R, I, W, D>(
     disk: D,
     slots: u64,
     format: Format,
+    lines: Lines<'_>,
 ) -> (Status, D)
 where
     R: Files<File = File> + Eprint + Clock + AllocGlobal,
     I: Read,
     W: Write + Drop,
     D: Disk,
-    ensures { IsTrue (D.device disk).honest → LeavesListed format slots (I.remaining reader.old) (D.device disk) (D.device result.1) }
+    requires { HasPlaceFor format lines }
+    ensures { IsTrue (D.device disk).honest → LeavesListed format (named_by format lines.entry) slots (I.remaining reader.old) (D.device disk) (D.device result.1) }
 {
     let mut disk = shown(rt, path, disk, bytes_of(slots));
-    let status = make_keys_on(rt.alloc(), reader, writer, &mut disk, slots, format);
+    let status = make_keys_on(rt.alloc(), reader, writer, &mut disk, slots, format, lines);
     (status, disk.end())
 }
 

@@ -14,10 +14,12 @@ use crate::level::is_journal;
 use crate::log::{Log, Stoppable, Surroundings};
 use crate::ready::Ready;
 use crate::watched::Watched;
+use crate::way_out::WayOut;
+use lazyset_arguments::Chosen;
 use lazyset_set_commands::{Listener, Place, ServeOptions, Status, Wanted, serve_kept_on};
 use lz_disk::{Disk, FileDisk};
 use std::fs::File;
-use std::io::Write;
+use std::io::{ErrorKind, Write};
 use std::net::{Net, TcpListener, TcpStream};
 use std::os::unix::net::UnixStream;
 use std::rt::{Env, Files};
@@ -61,6 +63,15 @@ impl<'a> At<'a> {
         }
     }
 
+    // What mends it where it can't listen there, and more than that was chosen. A listener that was handed over isn't chosen.
+    fn way_out(&self, port: u16, is_chosen: bool) -> WayOut {
+        match self {
+            At::Port(None) if is_chosen => WayOut::Port(port),
+            At::Path(_) if is_chosen => WayOut::Path,
+            _ => WayOut::Unsaid,
+        }
+    }
+
     // The same with its listener, where that isn't the command's to make.
     fn place<R: Files<File = File> + Net>(self, rt: &R) -> Place<'a> {
         match self {
@@ -95,6 +106,7 @@ pub fn serve<R, W>(
     file: &str,
     disk: FileDisk,
     options: ServeOptions,
+    chosen: Chosen,
     until: Until<'_>,
     at: At<'_>,
     wanted: Wanted,
@@ -106,12 +118,12 @@ where
     requires passes { (1 ≤ options.passes) × (options.passes ≤ most_passes) }
     requires buckets { (1 ≤ options.buckets) × (options.buckets ≤ most_buckets) }
 {
-    let control = match control_of(rt, file, until) {
+    let control = match control_of(rt, file, until, chosen.control) {
         Ok(control) => control,
         Err(status) => return Ok(status),
     };
     let watched = File::open(rt, file).ok().and_then(Watched::new);
-    let around = surroundings_of(rt, &at);
+    let around = surroundings_of(rt, &at, at.way_out(options.port, chosen.passes));
     let place = at.place(rt);
     let socket = socket_of(rt, &place);
     let log = Log::new(rt, file, watched, around);
@@ -140,7 +152,12 @@ where
 }
 
 // The socket on which the service is asked to stop, where it has one. It doesn't serve without.
-fn control_of<R>(rt: &R, file: &str, until: Until<'_>) -> Result<Option<Control>, Status>
+fn control_of<R>(
+    rt: &R,
+    file: &str,
+    until: Until<'_>,
+    is_chosen: bool,
+) -> Result<Option<Control>, Status>
 where
     R: Files<File = File> + Net + Eprint,
 {
@@ -150,17 +167,33 @@ where
     match Control::listen(rt, path) {
         Ok(control) => Ok(Some(control)),
         Err(error) => {
-            let _ = eprintln!(rt; "lazyset: serve {file}: --control {path}: {error}");
+            say_no_control(rt, file, path, is_chosen, &error);
             Err(Status::Failed)
         }
     }
 }
 
-fn surroundings_of<R>(rt: &R, at: &At<'_>) -> Surroundings
+// Says why that socket can't be had, and where its path was chosen the word that mends it.
+fn say_no_control<R: Eprint>(rt: &R, file: &str, path: &str, is_chosen: bool, error: &io::Error) {
+    let _ = if !is_chosen {
+        eprintln!(rt; "lazyset: serve {file}: --control {path}: {error}")
+    } else if error.kind() == ErrorKind::InvalidInput {
+        eprintln!(rt;
+            "lazyset: serve {file}: {path} is too long for a socket: name a shorter path by --control"
+        )
+    } else {
+        eprintln!(rt;
+            "lazyset: serve {file}: no socket at {path}: {error}: name another path by --control"
+        )
+    };
+}
+
+fn surroundings_of<R>(rt: &R, at: &At<'_>, way_out: WayOut) -> Surroundings
 where
     R: Env + Files<File = File> + AllocGlobal,
 {
     Surroundings {
+        way_out,
         has_levels: is_journal(rt),
         ready: Ready::new(rt),
         backlog: Backlog::new(rt, at.is_of_six()),

@@ -3,12 +3,16 @@ use lazyset_set_commands::Wanted;
 use lz_resp::Naming;
 use lz_serve::{Language, Loops};
 
-/// What a service takes the keys of its file for. One of lines serves whatever they are.
+/// What a service takes the keys of its file for. One of lines alone serves whatever they are.
 pub fn wanted_by(loops: Option<Loops>, as_numbers: bool, adopts: bool) -> Wanted {
-    match loops.map(|loops| loops.language) {
-        Some(Language::Frames(Naming::Texts)) if adopts => Wanted::OlderTexts,
-        Some(Language::Frames(Naming::Texts)) => Wanted::Texts,
-        Some(Language::Frames(Naming::Rooms)) if !as_numbers => Wanted::Numbers,
-        _ => Wanted::Anything,
+    let naming = match loops.map(|loops| loops.language) {
+        Some(Language::Frames(naming) | Language::Either(naming)) => naming,
+        Some(Language::Lines) | None => return Wanted::Anything,
+    };
+    match naming {
+        Naming::Texts if adopts => Wanted::OlderTexts,
+        Naming::Texts => Wanted::Texts,
+        Naming::Rooms if as_numbers => Wanted::Anything,
+        Naming::Rooms => Wanted::Numbers,
     }
 }

@@ -16,6 +16,7 @@ pub fn words_of(request: Request<'_>, line: &str) -> Option<&'static str> {
         return words_of_opening(number);
     }
     match (made_format(request), number_of_fault(line)) {
+        (Some(_), Some(b'1')) => Some(words_of_set(request)),
         (Some(format), Some(number)) => words_of_making(number, format),
         (None, Some(number)) => words_of_opening(number),
         (_, None) => words_of_end(request, line),
@@ -27,9 +28,11 @@ fn made_format(request: Request<'_>) -> Option<Format> {
     match request {
         Request::Make { format, .. }
         | Request::MakeKeys { format, .. }
-        | Request::Renew { format, .. }
-        | Request::Copy { format, .. } => Some(format),
-        Request::Grow { format, .. } => Some(format.unwrap_or(Format::Two)),
+        | Request::Renew { format, .. } => Some(format),
+        // Where none is named, the one that has the most slots is taken at last.
+        Request::Grow { format, .. } | Request::Copy { format, .. } => {
+            Some(format.unwrap_or(Format::Four))
+        }
         _ => None,
     }
 }
@@ -44,9 +47,16 @@ fn number_after(beginning: &str, line: &str) -> Option<u8> {
     line.strip_prefix(beginning)?.as_bytes().first().copied()
 }
 
+// Why no file is made over a set.
+fn words_of_set(request: Request<'_>) -> &'static str {
+    match request {
+        Request::Copy { .. } => "it is a set already: --replace puts the copy in its place",
+        _ => "it is a set already",
+    }
+}
+
 fn words_of_making(number: u8, format: Format) -> Option<&'static str> {
     match number {
-        b'1' => Some("it is a set already"),
         b'2' => Some(words_of_slots(format)),
         b'3' => Some("the device failed"),
         b'4' => Some("it is longer than the new file would be"),
@@ -85,9 +95,7 @@ fn words_of_end(request: Request<'_>, line: &str) -> Option<&'static str> {
         "halted" => Some("the device failed: open the file again"),
         "nomemory" => Some("out of memory"),
         "noread" => words_of_read(request),
-        "noreply" => Some(
-            "a reply is no page of keys: the service has to be started with --resp, and without --text",
-        ),
+        "noreply" => Some(words_of_reply(request)),
         "othertext" => Some(
             "its keys are texts: serve it with --text, or with --numbers to take them for numbers",
         ),
@@ -99,6 +107,18 @@ fn words_of_end(request: Request<'_>, line: &str) -> Option<&'static str> {
         _ if line.starts_with("line ") => Some(words_of_line(request)),
         _ if line.starts_with("twice ") => Some("this line's key stands in a line above"),
         _ => None,
+    }
+}
+
+// Why a service isn't copied.
+fn words_of_reply(request: Request<'_>) -> &'static str {
+    match request {
+        Request::Copy { slots: None, .. } => {
+            "it doesn't tell its slots, or a page of keys: the service has to speak Redis's protocol (--resp beside PASSES), and be started without --text"
+        }
+        _ => {
+            "a reply is no page of keys: the service has to speak Redis's protocol (--resp beside PASSES), and be started without --text"
+        }
     }
 }
 
@@ -126,6 +146,10 @@ fn words_of_read(request: Request<'_>) -> Option<&'static str> {
 // Why a line of the input is refused.
 fn words_of_line(request: Request<'_>) -> &'static str {
     match request {
+        Request::MakeKeys {
+            texts_of: Some(_),
+            ..
+        } => "a text has at most 512 bytes, and each line has its end",
         Request::MakeKeys { .. } => "this line holds no key that the format has",
         _ => "this line doesn't read, or may not stand there",
     }

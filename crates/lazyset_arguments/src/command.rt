@@ -1,5 +1,7 @@
 //! The command line that the program understands, made of the table.
-use crate::words::{Beside, Form, NO_PORT, SHEETS, SOCKET_ID, STATUSES, Sheet, Word};
+use crate::given::{Given, Listens};
+use crate::sheets::{SHEETS, STATUSES, Sheet};
+use crate::words::{Beside, Form, NO_PORT, Word};
 use clap::{Arg, ArgAction, Command, value_parser};
 use std::alloc::{AllocError, Global};
 
@@ -11,35 +13,8 @@ pub const MAJOR: usize = 1;
 
 pub const MINOR: usize = 17;
 
-/// Where a service listens.
-#[derive(Clone, Copy)]
-pub enum Listens {
-    AtPort,
-    AtPath,
-}
-
-impl Listens {
-    /// Where a service of these words listens: at a path where one of them, before a `--`, is the option for it.
-    pub fn of(words: &[String]) -> Listens {
-        for word in words {
-            let Some(name) = word.as_str().strip_prefix("--") else {
-                continue;
-            };
-            if name.is_empty() {
-                break;
-            }
-            if let Some(rest) = name.strip_prefix(SOCKET_ID)
-                && (rest.is_empty() || rest.starts_with('='))
-            {
-                return Listens::AtPath;
-            }
-        }
-        Listens::AtPort
-    }
-}
-
-/// The command line that the program understands, of a service that listens there.
-pub fn command_line<'a>(alloc: Global, listens: Listens) -> Result<Command<'a>, AllocError> {
+/// The command line that the program understands where this is given.
+pub fn command_line<'a>(alloc: Global, given: Given) -> Result<Command<'a>, AllocError> {
     let mut command = Command::new(alloc, "lazyset")
         .version(VERSION)
         .about(
@@ -48,37 +23,37 @@ pub fn command_line<'a>(alloc: Global, listens: Listens) -> Result<Command<'a>, 
         .after_help(STATUSES)
         .subcommand_required(true);
     for sheet in SHEETS {
-        command = command.subcommand(command_of(alloc, sheet, listens)?)?;
+        command = command.subcommand(command_of(alloc, sheet, given)?)?;
     }
     Ok(command)
 }
 
-fn command_of<'a>(
-    alloc: Global,
-    sheet: Sheet,
-    listens: Listens,
-) -> Result<Command<'a>, AllocError> {
+fn command_of<'a>(alloc: Global, sheet: Sheet, given: Given) -> Result<Command<'a>, AllocError> {
     let command = Command::new(alloc, sheet.name)
         .about(sheet.about)
         .after_help(sheet.notes);
-    with_words(alloc, command, sheet.words, listens)
+    with_words(alloc, command, sheet.words, given)
 }
 
 fn with_words<'a>(
     alloc: Global,
     command: Command<'a>,
     words: &[Word],
-    listens: Listens,
+    given: Given,
 ) -> Result<Command<'a>, AllocError> {
     let mut command = command;
     for word in words {
-        command = command.arg(arg_of(alloc, *word, listens)?)?;
+        command = command.arg(arg_of(alloc, *word, given)?)?;
     }
     Ok(command)
 }
 
-fn arg_of<'a>(alloc: Global, word: Word, listens: Listens) -> Result<Arg<'a>, AllocError> {
-    let arg = parsed(Arg::new(alloc, word.id).help(word.help), word.form, listens);
+fn arg_of<'a>(alloc: Global, word: Word, given: Given) -> Result<Arg<'a>, AllocError> {
+    let arg = parsed(
+        Arg::new(alloc, word.id).help(word.help),
+        word.form,
+        given.listens,
+    );
     let arg = match (word.form, word.value_name) {
         (Form::Flag, _) => arg.long(word.id),
         (Form::Choice(_), Some(name)) => arg
@@ -86,6 +61,8 @@ fn arg_of<'a>(alloc: Global, word: Word, listens: Listens) -> Result<Arg<'a>, Al
             .value_name(name)
             .num_args(0..=1)
             .require_equals(true),
+        (Form::Port(..) | Form::Passes, None) => arg.required(given.has_passes),
+        (Form::LastNumber, _) => arg,
         (_, None) => arg.required(true),
         (_, Some(name)) => arg.long(word.id).value_name(name),
     };
@@ -93,7 +70,10 @@ fn arg_of<'a>(alloc: Global, word: Word, listens: Listens) -> Result<Arg<'a>, Al
         Beside::Anything => arg,
         Beside::Needs(id) => arg.requires_arg(id)?,
         Beside::Excludes(id) => arg.conflicts_with(id)?,
-        Beside::Parts(needed, other) => arg.requires_arg(needed)?.conflicts_with(other)?,
+        Beside::Serving(Some(needed), others) if given.has_passes => {
+            arg.requires_arg(needed)?.conflicts_with_all(others)?
+        }
+        Beside::Serving(_, others) => arg.conflicts_with_all(others)?,
     };
     Ok(match word.default {
         None => arg,
@@ -106,7 +86,7 @@ fn parsed<'a>(arg: Arg<'a>, form: Form, listens: Listens) -> Arg<'a> {
         Form::Flag => arg.action(ArgAction::SetTrue),
         Form::Text => arg,
         Form::Choice(choices) => arg.value_parser(choices),
-        Form::Number => arg.value_parser(value_parser!(u64)),
+        Form::Number | Form::LastNumber | Form::Passes => arg.value_parser(value_parser!(u64)),
         Form::Within(least, most) => within(arg, least, most),
         Form::Port(least, most) => match listens {
             Listens::AtPort => within(arg, least, most),

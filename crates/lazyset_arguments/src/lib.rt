@@ -2,11 +2,16 @@
 #![tactic(auto)]
 
 mod command;
+mod given;
+mod misfit;
 mod refusal;
 mod request;
+mod service;
+mod sheets;
 mod values;
 mod words;
 
 pub use command::{MAJOR, MINOR};
 pub use refusal::{Refusal, too_many_buckets};
 pub use request::{Request, read};
+pub use service::Chosen;

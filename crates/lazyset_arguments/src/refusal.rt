@@ -1,6 +1,7 @@
 //! Why a command line asks for nothing that can be done.
 use clap::Error;
 use clap::error::ErrorKind;
+use lz_resp::MOST_ARGUMENT;
 use lz_slot::Format;
 use std::alloc::{AllocError, Global};
 
@@ -41,6 +42,20 @@ pub fn bad_passes(alloc: Global, passes: u64, most: usize) -> Refusal {
 /// Each loop needs a pass.
 pub fn too_many_loops(alloc: Global) -> Refusal {
     not_understood(format!(in alloc; "error: '--loops <L>' is more than '<PASSES>'\n"))
+}
+
+/// A file of format 1 has no room for the mark of texts.
+pub fn no_mark(alloc: Global) -> Refusal {
+    not_understood(format!(in alloc;
+        "error: invalid value '1' for '--format <F>': a file of texts is of format 2, 3 or 4\n\nFor more information, try '--help'.\n"
+    ))
+}
+
+/// No service of texts takes such a name.
+pub fn long_name(alloc: Global) -> Refusal {
+    not_understood(format!(in alloc;
+        "error: invalid value for '--text <NAME>': a name has at most {MOST_ARGUMENT} bytes\n\nFor more information, try '--help'.\n"
+    ))
 }
 
 // Where the command line itself knows the most, it says the same.

@@ -1,16 +1,21 @@
 //! What a command line asks for.
-ghost use Rattle.std.specs.Prelude.{◌≡◌, ◌≤◌, IfOk, IfSome};
-ghost use Rattle.lz_slot.specs.Limits.{most_buckets};
-ghost use Rattle.lazyset_arguments.specs.Requests.{ArePasses, AreWithin, IsWithin};
+ghost use Rattle.std.specs.Prelude.{◌≡◌, ◌≤◌, IfOk, IfSome, length};
+ghost use Rattle.lz_resp.specs.Limits.{most_argument};
+ghost use Rattle.lz_slot.specs.Limits.{last_room};
+ghost use Rattle.lz_slot.specs.Rooms.{last_room_of};
+ghost use Rattle.lazyset_arguments.specs.Requests.{IsWithin};
 
-use crate::command::{Listens, command_line};
-use crate::refusal::{Refusal, bad_passes, refusal_of, too_many_buckets, too_many_loops};
-use crate::values::{format_of, format_with_rooms, number, number_within, text};
-use crate::words::{ADOPT, SOCKET_ID, TEXT_ID};
+use crate::command::command_line;
+use crate::given::Given;
+use crate::misfit::misfit;
+use crate::refusal::{Refusal, refusal_of};
+use crate::service::{Chosen, serve};
+use crate::values::{format_of, format_with_rooms, named_format, number, number_within, text};
+use crate::words::TEXT_ID;
 use clap::ArgMatches;
-use lz_resp::Naming;
-use lz_serve::{Language, Loops, MOST_CONNECTIONS, MOST_THREADS, ServeOptions};
-use lz_slot::{Format, MOST_BUCKETS, MOST_PASSES, MOST_REHEARSED};
+use lz_resp::MOST_ARGUMENT;
+use lz_serve::ServeOptions;
+use lz_slot::{Format, LAST_ROOM, MOST_BUCKETS, MOST_REHEARSED};
 use std::alloc::{AllocError, Global};
 use std::fmt;
 
@@ -27,6 +32,8 @@ pub enum Request<'a> {
         file: &'a str,
         slots: u64,
         format: Format,
+        /// Its lines are texts, members of the set of this name, and no keys.
+        texts_of: Option<&'a str>,
     },
     Renew {
         old: &'a str,
@@ -38,15 +45,19 @@ pub enum Request<'a> {
     Grow {
         file: &'a str,
         slots: u64,
-        /// Where none is named, that of the file, or the next one that has all rooms.
+        /// Where none is named, that of the file, or one with all rooms and so many slots.
         format: Option<Format>,
     },
     /// A making of a file that holds the keys of a running service.
     Copy {
         address: &'a str,
         file: &'a str,
-        slots: u64,
-        format: Format,
+        /// Where none are named, those of the service.
+        slots: Option<u64>,
+        /// Where none is named, one with all rooms and so many slots; that of the service where no slots are named.
+        format: Option<Format>,
+        /// It takes the place of a set.
+        replaces: bool,
     },
     Run {
         file: &'a str,
@@ -57,8 +68,8 @@ pub enum Request<'a> {
     Serve {
         file: &'a str,
         options: ServeOptions,
-        /// It has as many buckets as the file has slots, or as many as its format allows, in place of those of its options.
-        is_spread: bool,
+        /// What it takes as it finds it, in place of those of its options.
+        chosen: Chosen,
         /// The path of the socket on which it listens, in place of a port.
         socket: Option<&'a str>,
         /// The path of the socket on which it is asked to stop.
@@ -121,7 +132,7 @@ impl fmt::Display for Request<'_> {
 pub fn read<'a>(alloc: Global, words: &'a [String]) -> Result<Request<'a>, Refusal>
     ensures { IfOk result IsWithin }
 {
-    let Ok(command) = command_line(alloc, Listens::of(words)) else {
+    let Ok(command) = command_line(alloc, Given::of(words)) else {
         return Err(Refusal::Memory(AllocError));
     };
     match command.try_get_matches_from(words) {
@@ -130,41 +141,6 @@ pub fn read<'a>(alloc: Global, words: &'a [String]) -> Result<Request<'a>, Refus
             None => Err(misfit(alloc, &matches)),
         },
         Err(error) => Err(refusal_of(alloc, error)),
-    }
-}
-
-// The faults that the table of words doesn't show: a format has its own most buckets, loops may have more passes than there are
-// threads, and each loop needs a pass.
-fn misfit(alloc: Global, matches: &ArgMatches<'_>) -> Refusal {
-    if let Some((buckets, format)) = rehearsed(matches) {
-        return too_many_buckets(alloc, buckets, format);
-    }
-    match beyond(matches) {
-        Some((passes, most)) => bad_passes(alloc, passes, most),
-        None => too_many_loops(alloc),
-    }
-}
-
-// The buckets and the format of a rehearsal.
-fn rehearsed(matches: &ArgMatches<'_>) -> Option<(u64, Format)> {
-    match matches.subcommand()? {
-        ("rehearse", words) => Some((number(words, "buckets")?, format_of(words)?)),
-        _ => None,
-    }
-}
-
-// The passes of a service that can't have them, and how many it may have.
-fn beyond(matches: &ArgMatches<'_>) -> Option<(u64, usize)> {
-    let ("serve", words) = matches.subcommand()? else {
-        return None;
-    };
-    let most = match words.get_str("connections") {
-        Some(_) => MOST_PASSES,
-        None => MOST_THREADS,
-    };
-    match number_within(words, "PASSES", most) {
-        Some(_) => None,
-        None => Some((number(words, "PASSES")?, most)),
     }
 }
 
@@ -193,10 +169,15 @@ fn make<'a>(words: &ArgMatches<'a>) -> Option<Request<'a>>
     let slots = number(words, "SLOTS")?;
     let format = format_of(words)?;
     Some(if words.get_flag("keys") {
+        let texts_of = match text(words, TEXT_ID) {
+            Some(name) => Some(name_of_texts(name, format)?),
+            None => None,
+        };
         Request::MakeKeys {
             file,
             slots,
             format,
+            texts_of,
         }
     } else {
         Request::Make {
@@ -205,6 +186,17 @@ fn make<'a>(words: &ArgMatches<'a>) -> Option<Request<'a>>
             format,
         }
     })
+}
+
+// The name of a set of texts, where a file of this format can hold their mark.
+fn name_of_texts(name: &str, format: Format) -> Option<&str>
+    ensures rooms { IfSome result (λ name. last_room_of format ≡ last_room) }
+    ensures bytes { IfSome result (λ name. length name.now ≤ most_argument) }
+{
+    if format.last_room() != LAST_ROOM || name.len() > MOST_ARGUMENT {
+        return None;
+    }
+    Some(name)
 }
 
 fn renew<'a>(words: &ArgMatches<'a>) -> Option<Request<'a>>
@@ -221,10 +213,7 @@ fn renew<'a>(words: &ArgMatches<'a>) -> Option<Request<'a>>
 fn grow<'a>(words: &ArgMatches<'a>) -> Option<Request<'a>>
     ensures { IfSome result IsWithin }
 {
-    let format = match number(words, "format") {
-        Some(_) => Some(format_with_rooms(words)?),
-        None => None,
-    };
+    let format = named_format(words)?;
     Some(Request::Grow {
         file: text(words, "FILE")?,
         slots: number(words, "SLOTS")?,
@@ -235,12 +224,13 @@ fn grow<'a>(words: &ArgMatches<'a>) -> Option<Request<'a>>
 fn copy<'a>(words: &ArgMatches<'a>) -> Option<Request<'a>>
     ensures { IfSome result IsWithin }
 {
-    let format = format_with_rooms(words)?;
+    let format = named_format(words)?;
     Some(Request::Copy {
         address: text(words, "ADDRESS")?,
         file: text(words, "NEW")?,
-        slots: number(words, "SLOTS")?,
+        slots: number(words, "SLOTS"),
         format,
+        replaces: words.get_flag("replace"),
     })
 }
 
@@ -255,82 +245,12 @@ fn run<'a>(words: &ArgMatches<'a>) -> Option<Request<'a>>
     })
 }
 
-fn serve<'a>(words: &ArgMatches<'a>) -> Option<Request<'a>>
-    ensures { IfSome result IsWithin }
-{
-    let options = serve_options(words)?;
-    Some(Request::Serve {
-        file: text(words, "FILE")?,
-        options,
-        is_spread: options.loops.is_some() && words.get_str("buckets").is_none(),
-        socket: text(words, SOCKET_ID),
-        control: text(words, "control"),
-        until_eof: words.get_flag("until-eof"),
-        no_lock: words.get_flag("no-lock"),
-        as_numbers: words.get_flag("numbers"),
-        adopts: words.get_str(TEXT_ID) == Some(ADOPT),
-    })
-}
-
 fn stop<'a>(words: &ArgMatches<'a>) -> Option<Request<'a>>
     ensures { IfSome result IsWithin }
 {
     Some(Request::Stop {
         path: text(words, "PATH")?,
         within: number(words, "within")?,
-    })
-}
-
-// How the command line asks to serve.
-fn serve_options(matches: &ArgMatches<'_>) -> Option<ServeOptions>
-    ensures passes { IfSome result ArePasses }
-    ensures buckets { IfSome result (λ options. (1 ≤ options.buckets) × (options.buckets ≤ most_buckets)) }
-    ensures loops { IfSome result (λ options. IfSome options.loops (AreWithin options.passes)) }
-{
-    let port = match matches.get_str(SOCKET_ID) {
-        Some(_) => 0,
-        None => u16::try_from(number(matches, "PORT")?).ok()?,
-    };
-    let buckets = match matches.get_str("buckets") {
-        Some(_) => number_within(matches, "buckets", MOST_BUCKETS)?,
-        None => 1,
-    };
-    let (passes, loops) = match matches.get_str("connections") {
-        Some(_) => {
-            let passes = number_within(matches, "PASSES", MOST_PASSES)?;
-            (passes, Some(loops_of(matches, passes)?))
-        }
-        None => (number_within(matches, "PASSES", MOST_THREADS)?, None),
-    };
-    Some(ServeOptions {
-        port,
-        passes,
-        loops,
-        sessions: number(matches, "sessions")?,
-        buckets,
-        idle: number(matches, "idle")?,
-    })
-}
-
-// The loops that the command line asks for, each of which needs a thread, a pass and a connection.
-fn loops_of(matches: &ArgMatches<'_>, passes: usize) -> Option<Loops>
-    requires { 1 ≤ passes }
-    ensures { IfSome result (AreWithin passes) }
-{
-    let connections = number_within(matches, "connections", MOST_CONNECTIONS)?;
-    let count = match matches.get_str("loops") {
-        Some(_) => number_within(matches, "loops", passes.min(MOST_THREADS))?,
-        None => 1,
-    };
-    let language = match (matches.get_flag("resp"), matches.contains_id(TEXT_ID)) {
-        (true, true) => Language::Frames(Naming::Texts),
-        (true, false) => Language::Frames(Naming::Rooms),
-        (false, _) => Language::Lines,
-    };
-    Some(Loops {
-        count: count.min(connections),
-        connections,
-        language,
     })
 }
 

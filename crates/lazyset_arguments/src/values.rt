@@ -28,6 +28,16 @@ pub(crate) fn format_with_rooms(matches: &ArgMatches<'_>) -> Option<Format>
     Some(format)
 }
 
+// The format that the command line names, which has all rooms; or that it names none.
+pub(crate) fn named_format(matches: &ArgMatches<'_>) -> Option<Option<Format>>
+    ensures { IfSome result (λ named. IfSome named (λ format. last_room_of format ≡ last_room)) }
+{
+    match number(matches, "format") {
+        Some(_) => Some(Some(format_with_rooms(matches)?)),
+        None => Some(None),
+    }
+}
+
 // A text of the command line.
 pub(crate) fn text<'a>(matches: &ArgMatches<'a>, name: &str) -> Option<&'a str> {
     matches.get_str(name)

@@ -1,18 +1,20 @@
 -- A list of keys that is read in pieces.
-use Rattle.std.proofs.Common.{◌≡◌, ◌≢◌, inl, inr, ℕ, ◌+◌, ◌-◌, ◌<◌, ◌≤◌, List, [], ◌∷◌, ◌++◌, length, take, drop, false, Option, Some, None, refl, sym, ap}
-use Rattle.std.proofs.{Common.{subst, ◌∙◌, arith, append_assoc, length-append, decimal}, lemmas.Bool.{cond_both, Decides.{nat_tests}}}
-use Rattle.std.proofs.lemmas.{Fmt.{length-decimal-le}, List.{append-nil, drop-drop, length-take, take_rest, Folds.{list_any-append}}}
-use Rattle.std.specs.{Prelude.{IfErr, IfOk, IfSome, map, Result, Ok, Err, nat_eq, ◌||◌}, Io.KnownBytes.{Consumes, IsAtEnd}}
+use Rattle.std.proofs.Common.{◌≡◌, ◌≢◌, inl, inr, ℕ, ◌+◌, ◌-◌, ◌<◌, ◌≤◌, List, [], ◌∷◌, ◌++◌, length, take, drop, false, true, Option, Some, None, refl, sym}
+use Rattle.std.proofs.{Common.{ap, subst, ◌∙◌, arith, append_assoc, length-append, decimal}, lemmas.Bool.{cond_both, Decides.{nat_tests}}}
+use Rattle.std.{proofs.lemmas.{Fmt.{length-decimal-le}, List.{append-nil, drop-drop, length-take, take_rest, Folds.{list_any-append}}}, specs.List.{IsDistinct}}
+use Rattle.std.specs.{Prelude.{IfErr, IfOk, IfSome, OnOk, map, Result, Ok, Err, nat_eq, ◌||◌}, Io.KnownBytes.{Consumes, IsAtEnd}}
 use Rattle.memchr.specs.Find.{IsFirstByte, is_byte}
-use Rattle.lz_slot.{specs.{Rooms.{number_of, room_of}, Texts.{Spells}, declared.format.Format.{Format}}, proofs.Files.ExactBytes.{key_of_format}}
-use Rattle.lz_slot.proofs.Texts.Cuts.{cut_at, first_cut, lacks_more, stands}
+use Rattle.lz_slot.specs.{Rooms.{number_of, room_of}, Texts.{Spells}, declared.format.Format.{Format}, Sets.{members}}
+use Rattle.lz_slot.proofs.{Files.ExactBytes.{key_of_format}, Texts.Cuts.{cut_at, first_cut, lacks_more, stands}}
 use Rattle.lz_judge.specs.Places.{IsTable}
 use Rattle.lz_proto.specs.Lines.{has_line_feed, line_feed, without_return}
 use Rattle.lz_vault.specs.Makes.{MayBeMembers}
-use Rattle.lazyset_file_commands.specs.Lists.{AddsKey, HasFirstLine, HasNoKey, IsLineFaultOf, IsListFaultOf, Lists, nothing, SpellsKey}
-use Rattle.lazyset_file_commands.specs.{ListParts.{BeginsList, EndsWith, FailsAtEnd, FailsIn, GoesOn, HasRead, IsOpenList, Leaves}, declared.list.KeyList.{KeyList}}
-use Rattle.lazyset_file_commands.{specs.declared.list.ListFault.{ListFault, TheVariants.{Line, Twice}}, proofs.Listed.{one_more}}
-use Rattle.lz_scan_client.proofs.OneEach.{none_twice}
+use Rattle.lazyset_file_commands.specs.Lists.{Adds, AddsKey, AreKeysOf, HasFirstLine, HasNoKey, HasPlaceFor, IsLineFaultOf, IsListFaultOf, Lists, Named, keys}
+use Rattle.lazyset_file_commands.specs.{Lists.{texts, NamesKey, nothing, named_by}, Marks.{texts_mark}}
+use Rattle.lazyset_file_commands.specs.ListParts.{EndsWith, FailsAtEnd, FailsIn, GoesOn, HasRead, IsLike, IsOpenList, IsUnread, Leaves, named_in}
+use Rattle.lazyset_file_commands.specs.declared.{list.{KeyList.{KeyList}, ListFault.{ListFault, TheVariants.{Line, Twice, Read, Memory}}}, lines.Lines.{Lines}}
+use Rattle.lazyset_file_commands.{specs.declared.lines.Lines.TheVariants.{Keys, Texts}, proofs.Listed.{one_more}}
+use Rattle.lz_scan_client.{specs.Told.{AreOnce}, proofs.OneEach.{none_told, none_twice, told_more}}
 
 -- a line that goes on has no line feed where neither part has one
 pub clear_both : (line part : List ℕ) → has_line_feed line ≡ false → has_line_feed part ≡ false → has_line_feed (line ++ part) ≡ false
@@ -38,18 +40,22 @@ spelled_short text k fits (inr (none, is)) = grind (arith, nat_tests, decimal, l
 one_less : (line : List ℕ) → length line ≤ length (without_return line) + 1
 one_less line = grind (arith, nat_tests, cond_both, length-take)
 
-line_short : (format : Format) (line : List ℕ) (k : ℕ) → SpellsKey format line k → length line ≤ 22
-line_short format line k spells = let short = spelled_short (without_return line) k (key_of_format format k spells.0) spells.1 in omega (arith, short, one_less line)
+pub line_short : (format : Format) (line : List ℕ) (k : ℕ) → NamesKey (keys format) line k → length line ≤ 22
+line_short format line k names = let short = spelled_short (without_return line) k (key_of_format format k names.0) names.1 in omega (arith, short, one_less line)
+
+pub keys_short : (format : Format) (lines : Lines) → lines ≡ Keys → (line : List ℕ) (k : ℕ) → 22 < length line → NamesKey (named_by format lines) line k → ⊥
+keys_short format lines is line k long names =
+    let short = line_short format line k (subst (λ (l : Lines). NamesKey (named_by format l) line k) is names) in omega (arith, long, short)
 
 -- no text is empty in which something stands
 some_text : (line after : List ℕ) → 0 < length line → line ++ after ≢ []
 some_text [] after some is = omega (arith, some)
 some_text (b ∷ line) after some is = cc
 
-long_line : (format : Format) (line after : List ℕ) → has_line_feed line ≡ false → 22 < length line → HasNoKey format (line ++ after)
-long_line format line after clear long = (
+long_line : (named : Named) (line after : List ℕ) (most : ℕ) → ((l : List ℕ) (k : ℕ) → most < length l → ¬ NamesKey named l k) → has_line_feed line ≡ false → most < length line → HasNoKey named (line ++ after)
+long_line named line after most never clear long = (
   some_text line after (omega (arith, long)),
-  λ first k (clear_first, (others, is)) spells. omega (arith, long, longer line after first others is clear, line_short format first k spells),
+  λ first k (clear_first, (others, is)) names. never first k (omega (arith, long, longer line after first others is clear)) names,
 )
 
 only_line : (line rest other : List ℕ) → has_line_feed line ≡ false → HasFirstLine (line ++ line_feed ∷ rest) other → line ≡ other
@@ -60,103 +66,209 @@ line_there [] rest is = cc
 line_there (b ∷ line) rest is = cc
 
 -- the next line is at fault
-line_fails : (format : Format) (text line rest ks : List ℕ) (fault : ListFault) → Leaves format text (line ++ line_feed ∷ rest) ks → has_line_feed line ≡ false
-    → IsLineFaultOf format line ks fault → IsListFaultOf format text fault
-line_fails format text line rest ks (Line number) h clear (place, none) = record {
+line_fails : (named : Named) (text line rest ks : List ℕ) (number : ℕ) (fault : ListFault) → Leaves named text (line ++ line_feed ∷ rest) ks number → has_line_feed line ≡ false
+    → IsLineFaultOf named number line ks fault → IsListFaultOf named text fault
+line_fails named text line rest ks number (Line place) h clear (is, none) = record {
   above = h.above;
   rest = line ++ line_feed ∷ rest;
   whole = h.whole;
   ks = ks;
   lists = h.lists;
-  place = place;
-  fault = (line_there line rest, λ other k is spells. none k (subst (λ (l : List ℕ). SpellsKey format l k) (sym (only_line line rest other clear is)) spells));
+  place = is ∙ h.place;
+  fault = (line_there line rest, λ other k first names. none k (subst (λ (l : List ℕ). NamesKey named l k) (sym (only_line line rest other clear first)) names));
 }
-line_fails format text line rest ks (Twice number) h clear (place, again) = grind (arith, nat_tests, first_cut)
-line_fails format text line rest ks fault h clear why = grind (arith, nat_tests)
+line_fails (keys format) text line rest ks number (Twice place) h clear (is, (k, names, has)) = record {
+  above = h.above;
+  rest = line ++ line_feed ∷ rest;
+  whole = h.whole;
+  ks = ks;
+  lists = h.lists;
+  place = is ∙ h.place;
+  fault = (line, k, (clear, (rest, refl)), names, has);
+}
+line_fails (texts name) text line rest ks number (Twice place) h clear why = absurd why
+line_fails named text line rest ks number Read h clear why = tt
+line_fails named text line rest ks number Memory h clear why = tt
+
+-- lists that are alike name the same
+same_named : (old new : KeyList) → IsLike old new → named_in new ≡ named_in old
+same_named old new (format, lines) = λ i. named_by (format i) (lines i)
+
+-- a key that was found
+pub is_again : (format : Format) (lines : Lines) (number : ℕ) (line ks : List ℕ) (k : ℕ) → lines ≡ Keys → NamesKey (named_by format lines) line k → members ks k ≡ true
+    → IsLineFaultOf (named_by format lines) number line ks (Twice number)
+is_again format lines number line ks k is names has =
+    subst (λ (l : Lines). IsLineFaultOf (named_by format l) number line ks (Twice number)) (sym is) (refl, (k, subst (λ (l : Lines). NamesKey (named_by format l) line k) is names, has))
+
+abbrev pub AreTexts : Lines → Type 0
+AreTexts Keys = ⊥
+AreTexts (Texts name) = Unit {0}
+
+stays : (format : Format) (lines : Lines) (k : ℕ) (ks : List ℕ) → AreTexts lines → members ks k ≡ true → Adds (named_by format lines) k ks ks
+stays format Keys k ks none has = absurd none
+stays format (Texts name) k ks are has = inl (has, refl)
+
+pub was_there : (format : Format) (lines : Lines) (line ks : List ℕ) (k : ℕ) → AreTexts lines → NamesKey (named_by format lines) line k → members ks k ≡ true → AddsKey (named_by format lines) line ks ks
+was_there format lines line ks k are names has = record { key = k; names = names; adds = stays format lines k ks are has }
+
+-- one that wasn't, and was added
+is_added : (format : Format) (lines : Lines) (k : ℕ) (old new : List ℕ) → members old k ≡ false → new ≡ old ++ k ∷ [] → Adds (named_by format lines) k old new
+is_added format Keys k old new apart added = (apart, added)
+is_added format (Texts name) k old new apart added = inr (apart, added)
+
+pub was_added : (format : Format) (lines : Lines) (line old new : List ℕ) (k : ℕ) (r : Result (Unit {0}) ListFault) → NamesKey (named_by format lines) line k → members old k ≡ false
+    → OnOk r (new ≡ old ++ k ∷ []) → OnOk r (AddsKey (named_by format lines) line old new)
+was_added format lines line old new k (Ok done) names apart added = record { key = k; names = names; adds = is_added format lines k old new apart added }
+was_added format lines line old new k (Err fault) names apart added = tt
 
 -- a line that goes on by the end of it
 joined : (line part after : List ℕ) → line ++ ((part ++ line_feed ∷ []) ++ after) ≡ (line ++ part) ++ line_feed ∷ after
 joined line part after = ap (λ (x : List ℕ). line ++ x) (append_assoc part (line_feed ∷ []) after) ∙ sym (append_assoc line part (line_feed ∷ after))
 
+place_as : (one other : Format) (its others : Lines) → other ≡ one → others ≡ its → HasPlaceFor one its → HasPlaceFor other others
+place_as one other its others same alike place = subst (λ (l : Lines). HasPlaceFor other l) (sym alike) (subst (λ (f : Format). HasPlaceFor f its) (sym same) place)
+
+pub named_as : (format : Format) (lines : Lines) (list : KeyList) → (list.format ≡ format) × (list.lines ≡ lines) → named_in list ≡ named_by format lines
+named_as format lines list (one, other) = λ i. named_by (one i) (other i)
+
 -- a whole line was read
-pub line_read : (old : KeyList) (part line : List ℕ) (new : KeyList) → IsOpenList old → has_line_feed part ≡ false → line ≡ old.line.items ++ part → AddsKey old.format line old.keys.items new.keys.items
-    → new.format ≡ old.format → new.line.items ≡ [] → GoesOn old (part ++ line_feed ∷ []) new
-line_read old part line new kept clear is adds same empty = record {
-  same = same;
+pub line_read : (old : KeyList) (part line : List ℕ) (new : KeyList) → IsOpenList old → has_line_feed part ≡ false → line ≡ old.line.items ++ part → AddsKey (named_in old) line old.keys.items new.keys.items
+    → IsLike old new → new.line.items ≡ [] → new.number ≡ old.number + 1 → GoesOn old (part ++ line_feed ∷ []) new
+line_read old part line new kept clear is adds like empty next = record {
+  same = like;
   read = λ text after h.
-      let whole : Leaves old.format text (line ++ line_feed ∷ after) old.keys.items = subst (λ (r : List ℕ). Leaves old.format text r old.keys.items) (joined old.line.items part after ∙ ap (λ (l : List ℕ). l ++ line_feed ∷ after) (sym is)) h in
-      let next = one_more old.format whole.above line old.keys.items new.keys.items whole.lists (ap has_line_feed is ∙ clear_both old.line.items part kept.clear clear) adds in
+      let whole : Leaves (named_in old) text (line ++ line_feed ∷ after) old.keys.items old.number =
+      subst (λ (r : List ℕ). Leaves (named_in old) text r old.keys.items old.number) (joined old.line.items part after ∙ ap (λ (l : List ℕ). l ++ line_feed ∷ after) (sym is)) h in
       let left : new.line.items ++ after ≡ after = ap (λ (l : List ℕ). l ++ after) empty in
-      subst (λ (F : Format). Leaves F text (new.line.items ++ after) new.keys.items) (sym same) (record {
+      subst (λ (N : Named). Leaves N text (new.line.items ++ after) new.keys.items new.number) (sym (same_named old new like)) (record {
         above = whole.above ++ (line ++ line_feed ∷ []);
         whole = whole.whole ∙ sym (append_assoc whole.above (line ++ line_feed ∷ []) (new.line.items ++ after) ∙ ap (λ (x : List ℕ). whole.above ++ x) (append_assoc line (line_feed ∷ []) (new.line.items ++ after) ∙ ap (λ (x : List ℕ). line ++ line_feed ∷ x) left));
-        lists = next;
+        lists = one_more (named_in old) whole.above line old.keys.items new.keys.items whole.lists (ap has_line_feed is ∙ clear_both old.line.items part kept.clear clear) adds;
+        place = omega (arith, next, whole.place, length-append whole.lists.told (adds.key ∷ []));
       });
 }
 
 -- what a list is then
-pub line_kept : (old : KeyList) (part line : List ℕ) (new : KeyList) → IsOpenList old → has_line_feed part ≡ false → line ≡ old.line.items ++ part → AddsKey old.format line old.keys.items new.keys.items
-    → new.format ≡ old.format → new.line.items ≡ [] → IsTable (map Some new.keys.items) new.seen → IsOpenList new
-line_kept old part line new kept clear is adds same empty seen = record {
+pub line_kept : (old : KeyList) (part line : List ℕ) (new : KeyList) → IsOpenList old → has_line_feed part ≡ false → line ≡ old.line.items ++ part → AddsKey (named_in old) line old.keys.items new.keys.items
+    → IsLike old new → new.line.items ≡ [] → IsTable (map Some new.keys.items) new.seen → IsOpenList new
+line_kept old part line new kept clear is adds like empty seen = record {
+  place = place_as old.format new.format old.lines new.lines like.0 like.1 kept.place;
   seen = seen;
   clear = ap has_line_feed empty;
   above = kept.above ++ (line ++ line_feed ∷ []);
-  lists = subst (λ (F : Format). Lists F (kept.above ++ (line ++ line_feed ∷ [])) new.keys.items) (sym same)
-      (one_more old.format kept.above line old.keys.items new.keys.items kept.lists (ap has_line_feed is ∙ clear_both old.line.items part kept.clear clear) adds);
+  lists = subst (λ (N : Named). Lists N (kept.above ++ (line ++ line_feed ∷ [])) new.keys.items) (sym (same_named old new like))
+      (one_more (named_in old) kept.above line old.keys.items new.keys.items kept.lists (ap has_line_feed is ∙ clear_both old.line.items part kept.clear clear) adds);
 }
 
-pub line_at_fault : (old : KeyList) (part line : List ℕ) (fault : ListFault) → IsOpenList old → has_line_feed part ≡ false → line ≡ old.line.items ++ part → IsLineFaultOf old.format line old.keys.items fault
-    → FailsIn old (part ++ line_feed ∷ []) fault
+pub line_at_fault : (old : KeyList) (part line : List ℕ) (fault : ListFault) → IsOpenList old → has_line_feed part ≡ false → line ≡ old.line.items ++ part
+    → IsLineFaultOf (named_in old) old.number line old.keys.items fault → FailsIn old (part ++ line_feed ∷ []) fault
 line_at_fault old part line fault kept clear is why text after h =
-    line_fails old.format text line after old.keys.items fault
-    (subst (λ (r : List ℕ). Leaves old.format text r old.keys.items) (joined old.line.items part after ∙ ap (λ (l : List ℕ). l ++ line_feed ∷ after) (sym is)) h)
+    line_fails (named_in old) text line after old.keys.items old.number fault
+    (subst (λ (r : List ℕ). Leaves (named_in old) text r old.keys.items old.number) (joined old.line.items part after ∙ ap (λ (l : List ℕ). l ++ line_feed ∷ after) (sym is)) h)
     (ap has_line_feed is ∙ clear_both old.line.items part kept.clear clear) why
 
-pub part_too_long : (old : KeyList) (part line : List ℕ) (number : ℕ) → IsOpenList old → has_line_feed part ≡ false → line ≡ old.line.items ++ part → 22 < length line → number ≡ length old.keys.items + 1
-    → FailsIn old part (Line number)
-part_too_long old part line number kept clear is long place text after h = record {
+pub part_too_long : (old : KeyList) (part line : List ℕ) (most : ℕ) → IsOpenList old → has_line_feed part ≡ false → line ≡ old.line.items ++ part → most < length line
+    → ((l : List ℕ) (k : ℕ) → most < length l → ¬ NamesKey (named_in old) l k) → FailsIn old part (Line old.number)
+part_too_long old part line most kept clear is long never text after h = record {
   above = h.above;
   rest = line ++ after;
   whole = h.whole ∙ ap (λ (x : List ℕ). h.above ++ x) (sym (append_assoc old.line.items part after) ∙ ap (λ (l : List ℕ). l ++ after) (sym is));
   ks = old.keys.items;
   lists = h.lists;
-  place = place;
-  fault = long_line old.format line after (ap has_line_feed is ∙ clear_both old.line.items part kept.clear clear) long;
+  place = h.place;
+  fault = long_line (named_in old) line after most never (ap has_line_feed is ∙ clear_both old.line.items part kept.clear clear) long;
 }
 
 -- the list ends
 pub list_ends : (list : KeyList) → length list.line.items ≡ 0 → EndsWith list list.keys.items
 list_ends list empty text h =
     let none : list.line.items ++ [] ≡ [] = append-nil list.line.items ∙ no_items list.line.items empty in
-    subst (λ (x : List ℕ). Lists list.format x list.keys.items) (sym (h.whole ∙ ap (λ (x : List ℕ). h.above ++ x) none ∙ append-nil h.above)) h.lists
+    subst (λ (x : List ℕ). Lists (named_in list) x list.keys.items) (sym (h.whole ∙ ap (λ (x : List ℕ). h.above ++ x) none ∙ append-nil h.above)) h.lists
   where
     no_items : (xs : List ℕ) → length xs ≡ 0 → xs ≡ []
     no_items [] is = refl
     no_items (x ∷ xs) is = absurd (omega arith)
 
-pub list_fails : (list : KeyList) (number : ℕ) → has_line_feed list.line.items ≡ false → length list.line.items ≢ 0 → number ≡ length list.keys.items + 1 → FailsAtEnd list (Line number)
-list_fails list number clear some place text h = grind (arith, nat_tests, stands, append-nil)
-
--- no text was read yet
-pub begins : (format : Format) (list : KeyList) → list.format ≡ format → list.keys.items ≡ [] → list.line.items ≡ [] → BeginsList format list
-begins format list same none empty = record {
-  same = same;
-  unread = λ text. subst (λ (ks : List ℕ). Leaves list.format text (list.line.items ++ text) ks) (sym none)
-      (subst (λ (l : List ℕ). Leaves list.format text (l ++ text) []) (sym empty) (record { above = []; whole = refl; lists = record { spelled = nothing; once = none_twice } }));
+pub list_fails : (list : KeyList) → has_line_feed list.line.items ≡ false → length list.line.items ≢ 0 → FailsAtEnd list (Line list.number)
+list_fails list clear some text h = record {
+  above = h.above;
+  rest = list.line.items ++ [];
+  whole = h.whole;
+  ks = list.keys.items;
+  lists = h.lists;
+  place = h.place;
+  fault = (
+    some_text list.line.items [] (omega (arith, some)),
+    λ first k (clear_first, (others, is)) names. absurd (let feed : true ≡ false = sym (stands 10 first others) ∙ ap has_line_feed (sym is) ∙ ap has_line_feed (append-nil list.line.items) ∙ clear in cc),
+  );
 }
 
-pub opens : (list : KeyList) → IsTable [] list.seen → list.keys.items ≡ [] → list.line.items ≡ [] → IsOpenList list
-opens list seen none empty = record {
-  seen = subst (λ (ks : List ℕ). IsTable (map Some ks) list.seen) (sym none) seen;
+-- the keys of no lines
+abbrev pub first_keys : Lines → List ℕ
+first_keys Keys = []
+first_keys (Texts name) = texts_mark ∷ []
+
+mark_alone : AreOnce (texts_mark ∷ []) (texts_mark ∷ [])
+mark_alone = told_more [] [] (texts_mark ∷ []) texts_mark none_told (inr (refl, omega arith, refl))
+
+pub all_first : (format : Format) (lines : Lines) (ks : List ℕ) → ks ≡ first_keys lines → AreKeysOf (named_by format lines) [] ks
+all_first format Keys ks is = (sym is, subst (IsDistinct nat_eq) (sym is) none_twice)
+all_first format (Texts name) ks is = (subst (AreOnce (texts_mark ∷ [])) (sym is) mark_alone, ([], is))
+
+abbrev pub no_lines : (format : Format) (lines : Lines) (ks : List ℕ) → ks ≡ first_keys lines → Lists (named_by format lines) [] ks
+no_lines format lines ks is = record { told = []; spelled = nothing; all = all_first format lines ks is }
+
+-- a list of which nothing was read yet
+pub opens : (list : KeyList) → HasPlaceFor list.format list.lines → IsTable (map Some list.keys.items) list.seen → list.line.items ≡ [] → list.keys.items ≡ first_keys list.lines → IsOpenList list
+opens list place seen empty first = record {
+  place = place;
+  seen = seen;
   clear = ap has_line_feed empty;
   above = [];
-  lists = subst (λ (ks : List ℕ). Lists list.format [] ks) (sym none) (record { spelled = nothing; once = none_twice });
+  lists = no_lines list.format list.lines list.keys.items first;
 }
+
+pub unread : (list : KeyList) → list.line.items ≡ [] → list.number ≡ 1 → list.keys.items ≡ first_keys list.lines → IsUnread list
+unread list empty one first text = record {
+  above = [];
+  whole = sym (ap (λ (l : List ℕ). l ++ text) empty);
+  lists = no_lines list.format list.lines list.keys.items first;
+  place = one;
+}
+
+pub opens_keys : (list : KeyList) → HasPlaceFor list.format list.lines → IsTable [] list.seen → list.keys.items ≡ [] → list.line.items ≡ [] → list.lines ≡ Keys → IsOpenList list
+opens_keys list place seen none empty is =
+    opens list place (subst (λ (ks : List ℕ). IsTable (map Some ks) list.seen) (sym none) seen) empty (none ∙ ap first_keys (sym is))
+
+pub unread_keys : (list : KeyList) → list.keys.items ≡ [] → list.line.items ≡ [] → list.number ≡ 1 → list.lines ≡ Keys → IsUnread list
+unread_keys list none empty one is = unread list empty one (none ∙ ap first_keys (sym is))
+
+mark_first : (lines : Lines) → AreTexts lines → first_keys lines ≡ texts_mark ∷ []
+mark_first Keys none = absurd none
+mark_first (Texts name) are = refl
+
+module _ (list : KeyList) (format : Format) (lines : Lines) (like : (list.format ≡ format) × (list.lines ≡ lines)) (are : AreTexts lines) (before : List ℕ) (none : before ≡ []) where
+  with_mark : list.keys.items ≡ before ++ texts_mark ∷ [] → list.keys.items ≡ first_keys list.lines
+  with_mark added = added ∙ ap (λ (ks : List ℕ). ks ++ texts_mark ∷ []) none ∙ sym (mark_first lines are) ∙ ap first_keys (sym like.1)
+
+  pub opens_texts : HasPlaceFor format lines → IsTable (map Some list.keys.items) list.seen → list.keys.items ≡ before ++ texts_mark ∷ [] → list.line.items ≡ [] → IsOpenList list
+  opens_texts place seen added empty = opens list (place_as format list.format lines list.lines like.0 like.1 place) seen empty (with_mark added)
+
+  pub unread_texts : list.keys.items ≡ before ++ texts_mark ∷ [] → list.line.items ≡ [] → list.number ≡ 1 → IsUnread list
+  unread_texts added empty one = unread list empty one (with_mark added)
+
+-- for lack of memory no text is at fault
+pub no_memory : (named : Named) (input : Option (List ℕ)) (fault : ListFault) → fault ≡ Memory → IfSome input (λ text. IsListFaultOf named text fault)
+no_memory named input fault is = subst (λ (f : ListFault). IfSome input (λ text. IsListFaultOf named text f)) (sym is) (any input)
+  where
+    any : (given : Option (List ℕ)) → IfSome given (λ text. IsListFaultOf named text Memory)
+    any None = tt
+    any (Some text) = tt
 
 -- A list within a piece, of which this is left.
 pub record Within (first : KeyList) (piece : List ℕ) (list : KeyList) (rest : List ℕ) : Type 0 where
   pub kept : IsOpenList list
-  pub same : list.format ≡ first.format
+  pub same : IsLike first list
   pub read : (text after : List ℕ) → HasRead text first (piece ++ after) → HasRead text list (rest ++ after)
 
 module _ (first : KeyList) (piece : List ℕ) where
@@ -167,7 +279,7 @@ module _ (first : KeyList) (piece : List ℕ) where
     pub within_next : (new : KeyList) (ended left : List ℕ) → IsOpenList new → GoesOn list (take e rest ++ line_feed ∷ []) new → ended ≡ drop e rest → left ≡ take (length ended - 1) (drop 1 ended) → Within first piece new left
     within_next new ended left kept goes back is = record {
       kept = kept;
-      same = goes.same ∙ h.same;
+      same = (goes.same.0 ∙ h.same.0, goes.same.1 ∙ h.same.1);
       read = λ text after begun.
           subst (λ (r : List ℕ). HasRead text new (r ++ after)) (sym (is ∙ take_rest ended 1 ∙ ap (drop 1) back ∙ drop-drop 1 e rest))
           (goes.read text (drop (e + 1) rest ++ after) (subst (λ (r : List ℕ). HasRead text list r) (next after) (h.read text after begun)));
@@ -175,13 +287,13 @@ module _ (first : KeyList) (piece : List ℕ) where
 
     pub within_fails : (fault : ListFault) → FailsIn list (take e rest ++ line_feed ∷ []) fault → FailsIn first piece fault
     within_fails fault fails text after begun =
-        subst (λ (F : Format). IsListFaultOf F text fault) h.same
+        subst (λ (N : Named). IsListFaultOf N text fault) (same_named first list h.same)
         (fails text (drop (e + 1) rest ++ after) (subst (λ (r : List ℕ). HasRead text list r) (next after) (h.read text after begun)))
 
   module _ (list : KeyList) (rest : List ℕ) (h : Within first piece list rest) where
     pub last_fails : (r : Result (Unit {0}) ListFault) → IfErr r (FailsIn list rest) → IfErr r (FailsIn first piece)
     last_fails (Ok done) fails = tt
-    last_fails (Err fault) fails = λ text after begun. subst (λ (F : Format). IsListFaultOf F text fault) h.same (fails text after (h.read text after begun))
+    last_fails (Err fault) fails = λ text after begun. subst (λ (N : Named). IsListFaultOf N text fault) (same_named first list h.same) (fails text after (h.read text after begun))
 
 -- What a reader has left is what comes after the list in its input.
 abbrev pub IsLeftOf : KeyList → Option (List ℕ) → List ℕ → Type 0
@@ -193,25 +305,25 @@ left_first list input unread = grind (arith, nat_tests)
 pub left_more : (old new : KeyList) (piece : List ℕ) (input left more : Option (List ℕ)) → Consumes left more piece → GoesOn old piece new → IfSome input (IsLeftOf old left) → IfSome input (IsLeftOf new more)
 left_more old new piece input left more given goes h = grind (arith, nat_tests)
 
-pub left_fails : (format : Format) (list : KeyList) (piece : List ℕ) (fault : ListFault) (input left more : Option (List ℕ)) → list.format ≡ format → Consumes left more piece → FailsIn list piece fault → IfSome input (IsLeftOf list left)
-    → IfSome input (λ text. IsListFaultOf format text fault)
-left_fails format list piece fault None left more same given fails h = tt
-left_fails format list piece fault (Some text) None more same given fails (after, is, read) = absurd (cc)
-left_fails format list piece fault (Some text) (Some xs) None same given fails (after, is, read) = absurd given
-left_fails format list piece fault (Some text) (Some xs) (Some ys) same given fails (after, is, read) =
-    let all : after ≡ piece ++ ys = cc in subst (λ (F : Format). IsListFaultOf F text fault) same (fails text ys (subst (λ (r : List ℕ). HasRead text list r) all read))
+pub left_fails : (named : Named) (list : KeyList) (piece : List ℕ) (fault : ListFault) (input left more : Option (List ℕ)) → named_in list ≡ named → Consumes left more piece → FailsIn list piece fault → IfSome input (IsLeftOf list left)
+    → IfSome input (λ text. IsListFaultOf named text fault)
+left_fails named list piece fault None left more same given fails h = tt
+left_fails named list piece fault (Some text) None more same given fails (after, is, read) = absurd (cc)
+left_fails named list piece fault (Some text) (Some xs) None same given fails (after, is, read) = absurd given
+left_fails named list piece fault (Some text) (Some xs) (Some ys) same given fails (after, is, read) =
+    let all : after ≡ piece ++ ys = cc in subst (λ (N : Named). IsListFaultOf N text fault) same (fails text ys (subst (λ (r : List ℕ). HasRead text list r) all read))
 
 pub left_none : (list : KeyList) (input left more : Option (List ℕ)) → Consumes left more [] → IsAtEnd more → IfSome input (IsLeftOf list left) → IfSome input (λ text. HasRead text list [])
 left_none list input left more given ended h = grind (arith, nat_tests)
 
 -- what the end of a list tells of the input
-module _ (format : Format) (list : KeyList) (same : list.format ≡ format) where
+module _ (named : Named) (list : KeyList) (same : named_in list ≡ named) where
   pub input_lists : {A : Type 0} (items : A → List ℕ) (input : Option (List ℕ)) (r : Result A ListFault) → IfSome input (λ text. HasRead text list []) → IfOk r (λ a. EndsWith list (items a))
-      → IfOk r (λ a. IfSome input (λ text. Lists format text (items a)))
+      → IfOk r (λ a. IfSome input (λ text. Lists named text (items a)))
   input_lists items input r read ends = grind (arith, nat_tests)
 
   pub input_fails : {A : Type 0} (input : Option (List ℕ)) (r : Result A ListFault) → IfSome input (λ text. HasRead text list []) → IfErr r (FailsAtEnd list)
-      → IfErr r (λ fault. IfSome input (λ text. IsListFaultOf format text fault))
+      → IfErr r (λ fault. IfSome input (λ text. IsListFaultOf named text fault))
   input_fails input r read fails = grind (arith, nat_tests)
 
 pub same_members : (G format : Format) → G ≡ format → {A : Type 0} (items : A → List ℕ) (r : Result A ListFault) → IfOk r (λ a. MayBeMembers G (length (items a)) (items a))

@@ -1,50 +1,72 @@
 -- A list of keys that is read a line at a time.
-use Rattle.std.proofs.Common.{◌≡◌, ℕ, zero, suc, ◌<◌, ◌≤◌, List, [], ◌∷◌, ◌++◌, length, get_or, false, Ok, Err, sym, subst, ⊎_elim, arith, append_assoc}
-use Rattle.std.{proofs.lemmas.{Bool.{cases_lt, Decides.{nat_tests}}, Map.Keys.{IsDistinct-push, apart_from_distinct}}, specs.Prelude.{nat_eq}}
+use Rattle.std.proofs.Common.{◌≡◌, ℕ, zero, suc, ◌<◌, ◌≤◌, List, [], ◌∷◌, ◌++◌, length, get_or, false, Ok, Err, inl, inr, refl, sym, ap, subst, ◌∙◌, ⊎_elim}
+use Rattle.std.{proofs.{Common.{arith, append_assoc}, lemmas.{Bool.{cases_lt}, Map.Keys.{IsDistinct-push, apart_from_distinct}}}, specs.Prelude.{nat_eq}}
 use Rattle.std.specs.{Cmp.{nat_eq_equiv}, List.{IsDistinct}}
-use Rattle.lz_slot.specs.{Rooms.{largest_of}, Texts.{key_read}, declared.{format.Format.{Format}, spelling.KeyFault.{KeyFault}}}
-use Rattle.lz_slot.proofs.{Files.ExactBytes.{key_of_format}, Texts.Spellings.{read_spelled, spelled_read}}
-use Rattle.lz_scan_client.proofs.OneEach.{unlike}
+use Rattle.lz_slot.specs.{Limits.{largest_key, last_room}, Rooms.{largest_of, last_room_of}, Texts.{key_read}, declared.format.Format.{Format}}
+use Rattle.lz_slot.{specs.declared.{format.Format.TheVariants.{One, Two, Three, Four}, spelling.KeyFault.{KeyFault}}, proofs.Files.ExactBytes.{key_of_format}}
+use Rattle.lz_slot.proofs.Texts.Spellings.{read_spelled, spelled_read}
+use Rattle.lz_resp.specs.Keys.{text_number}
+use Rattle.lz_scan_client.{specs.Told.{AddsOnce, AreOnce}, proofs.OneEach.{told_more, unlike}}
 use Rattle.lz_proto.specs.Lines.{has_line_feed, line_feed, without_return}
 use Rattle.lz_vault.specs.Makes.{MayBeMembers}
-use Rattle.lazyset_file_commands.specs.Lists.{AddsKey, Lists, Spelled, nothing, more, SpellsKey}
+use Rattle.lazyset_file_commands.specs.Lists.{Adds, AddsKey, AreKeysOf, HasPlaceFor, Lists, Named, keys, texts, NamesKey, Spelled, nothing, more, named_by}
+use Rattle.lazyset_file_commands.specs.{Marks.{texts_mark}, declared.lines.Lines.{Lines, TheVariants.{Keys, Texts}}}
 
 -- a line spells the key that is read of it
-pub spelled_by : (format : Format) (line : List ℕ) (k : ℕ) → key_read (without_return line) ≡ Ok k → k ≤ largest_of format → SpellsKey format line k
+pub spelled_by : (format : Format) (line : List ℕ) (k : ℕ) → key_read (without_return line) ≡ Ok k → k ≤ largest_of format → NamesKey (keys format) line k
 spelled_by format line k is fits = (fits, (read_spelled (without_return line) k is).1)
 
-pub read_of : (format : Format) (line : List ℕ) (k : ℕ) → SpellsKey format line k → key_read (without_return line) ≡ Ok k
+pub read_of : (format : Format) (line : List ℕ) (k : ℕ) → NamesKey (keys format) line k → key_read (without_return line) ≡ Ok k
 read_of format line k spells = spelled_read (without_return line) k (key_of_format format k spells.0) spells.1
 
-pub spelled_not : (format : Format) (line : List ℕ) (fault : KeyFault) → key_read (without_return line) ≡ Err fault → (k : ℕ) → ¬ SpellsKey format line k
+pub spelled_not : (format : Format) (line : List ℕ) (fault : KeyFault) → key_read (without_return line) ≡ Err fault → (k : ℕ) → ¬ NamesKey (keys format) line k
 spelled_not format line fault is k spells = let read = read_of format line k spells in absurd cc
 
-pub spelled_other : (format : Format) (line : List ℕ) (j : ℕ) → key_read (without_return line) ≡ Ok j → (j ≤ largest_of format → ⊥) → (k : ℕ) → ¬ SpellsKey format line k
+pub spelled_other : (format : Format) (line : List ℕ) (j : ℕ) → key_read (without_return line) ≡ Ok j → (j ≤ largest_of format → ⊥) → (k : ℕ) → ¬ NamesKey (keys format) line k
 spelled_other format line j is high k spells =
     let read = read_of format line k spells in
     let same : k ≡ j = cc in
     high (subst (λ (n : ℕ). n ≤ largest_of format) same spells.0)
 
 -- one line more
-spelled_more : (format : Format) (text ks line : List ℕ) (k : ℕ) → Spelled format text ks → has_line_feed line ≡ false → SpellsKey format line k
-    → Spelled format (text ++ (line ++ line_feed ∷ [])) (ks ++ k ∷ [])
-spelled_more format _ _ line k nothing clear spells = more line [] k [] clear spells nothing
-spelled_more format _ _ line k (more first rest j js clear_first spells_first spelled) clear spells =
-    subst (λ (x : List ℕ). Spelled format x (j ∷ js ++ k ∷ [])) (sym (append_assoc first (line_feed ∷ rest) (line ++ line_feed ∷ [])))
-    (more first (rest ++ (line ++ line_feed ∷ [])) j (js ++ k ∷ []) clear_first spells_first (spelled_more format rest js line k spelled clear spells))
+pub spelled_more : (named : Named) (text ks line : List ℕ) (k : ℕ) → Spelled named text ks → has_line_feed line ≡ false → NamesKey named line k
+    → Spelled named (text ++ (line ++ line_feed ∷ [])) (ks ++ k ∷ [])
+spelled_more named _ _ line k nothing clear names = more line [] k [] clear names nothing
+spelled_more named _ _ line k (more first rest j js clear_first names_first spelled) clear names =
+    subst (λ (x : List ℕ). Spelled named x (j ∷ js ++ k ∷ [])) (sym (append_assoc first (line_feed ∷ rest) (line ++ line_feed ∷ [])))
+    (more first (rest ++ (line ++ line_feed ∷ [])) j (js ++ k ∷ []) clear_first names_first (spelled_more named rest js line k spelled clear names))
+
+-- the key of a text is one of room 0
+text_fits : (name line : List ℕ) (k : ℕ) → k ≡ text_number name line → k ≤ largest_key
+text_fits name line k is = omega (arith, is)
+
+adds_once : (name line : List ℕ) (k : ℕ) (old new : List ℕ) → k ≡ text_number name line → Adds (texts name) k old new → AddsOnce k old new
+adds_once name line k old new is (inl (here, same)) = inl (here, same)
+adds_once name line k old new is (inr (apart, added)) = inr (apart, text_fits name line k is, added)
+
+still_first : (name : List ℕ) (k : ℕ) (old new rest : List ℕ) → old ≡ texts_mark ∷ rest → Adds (texts name) k old new → (more : List ℕ) × (new ≡ texts_mark ∷ more)
+still_first name k old new rest first (inl (here, same)) = (rest, same ∙ first)
+still_first name k old new rest first (inr (apart, added)) = (rest ++ k ∷ [], added ∙ ap (λ (ks : List ℕ). ks ++ k ∷ []) first)
+
+pub all_more : (named : Named) (told line old new : List ℕ) (k : ℕ) → AreKeysOf named told old → NamesKey named line k → Adds named k old new → AreKeysOf named (told ++ k ∷ []) new
+all_more (keys format) told line old new k (same, once) names (apart, added) =
+    (ap (λ (ks : List ℕ). ks ++ k ∷ []) same ∙ sym added, subst (IsDistinct nat_eq) (sym added) (IsDistinct-push nat_eq_equiv old k once (unlike old k apart)))
+all_more (texts name) told line old new k (are, (rest, first)) names adds =
+    (told_more (texts_mark ∷ told) old new k are (adds_once name line k old new names.1 adds), still_first name k old new rest first adds)
 
 -- a text that is a line more of a list
-pub one_more : (format : Format) (text line : List ℕ) (old new : List ℕ) → Lists format text old → has_line_feed line ≡ false → AddsKey format line old new → Lists format (text ++ (line ++ line_feed ∷ [])) new
-one_more format text line old new lists clear adds = rw adds.added (record {
-  spelled = spelled_more format text old line adds.key lists.spelled clear adds.spells;
-  once = IsDistinct-push nat_eq_equiv old adds.key lists.once (unlike old adds.key adds.apart);
-})
+abbrev pub one_more : (named : Named) (text line : List ℕ) (old new : List ℕ) → Lists named text old → has_line_feed line ≡ false → AddsKey named line old new → Lists named (text ++ (line ++ line_feed ∷ [])) new
+one_more named text line old new lists clear adds = record {
+  told = lists.told ++ adds.key ∷ [];
+  spelled = spelled_more named text lists.told line adds.key lists.spelled clear adds.names;
+  all = all_more named lists.told line old new adds.key lists.all adds.names adds.adds;
+}
 
 -- keys that are listed can be the members of a file
-spelled_fit : (format : Format) (text ks : List ℕ) → Spelled format text ks → (i : ℕ) → i < length ks → get_or ks i 0 ≤ largest_of format
+spelled_fit : (format : Format) (text ks : List ℕ) → Spelled (keys format) text ks → (i : ℕ) → i < length ks → get_or ks i 0 ≤ largest_of format
 spelled_fit format _ _ nothing i lt = absurd (omega arith)
-spelled_fit format _ _ (more line rest k ks clear spells spelled) zero lt = spells.0
-spelled_fit format _ _ (more line rest k ks clear spells spelled) (suc i) lt = spelled_fit format rest ks spelled i (omega arith)
+spelled_fit format _ _ (more line rest k ks clear names spelled) zero lt = names.0
+spelled_fit format _ _ (more line rest k ks clear names spelled) (suc i) lt = spelled_fit format rest ks spelled i (omega arith)
 
 unequal : (a b : ℕ) → nat_eq a b ≡ false → a ≡ b → ⊥
 unequal a b other same = grind arith
@@ -58,5 +80,27 @@ same_place ks i j once low high same = ⊎_elim
     (cases_lt j i))
     (cases_lt i j)
 
-pub are_members : (format : Format) (text ks : List ℕ) → Lists format text ks → MayBeMembers format (length ks) ks
-are_members format text ks lists = grind (arith, nat_tests, spelled_fit, same_place)
+-- a format with all rooms has all keys
+all_keys : (format : Format) → last_room_of format ≡ last_room → largest_of format ≡ largest_key
+all_keys One rooms = absurd (cc)
+all_keys Two rooms = refl
+all_keys Three rooms = refl
+all_keys Four rooms = refl
+
+-- keys that were told, each once, can be the members of a file with room for them
+pub once_members : (format : Format) (slots : ℕ) (told ks : List ℕ) → last_room_of format ≡ last_room → AreOnce told ks → length ks ≤ slots → MayBeMembers format slots ks
+once_members format slots told ks rooms are few = record {
+  few = few;
+  fit = λ i low. subst (λ (most : ℕ). get_or ks i 0 ≤ most) (sym (all_keys format rooms)) (are.fit i 0 low);
+  apart = λ i j low high same. same_place ks i j are.once low high same;
+}
+
+-- what lines of keys spell are all the keys
+pub spelled_keys : (format : Format) (text ks : List ℕ) → Lists (keys format) text ks → Spelled (keys format) text ks
+spelled_keys format text ks lists = subst (Spelled (keys format) text) lists.all.0 lists.spelled
+
+pub are_members : (format : Format) (lines : Lines) (text ks : List ℕ) → HasPlaceFor format lines → Lists (named_by format lines) text ks → MayBeMembers format (length ks) ks
+are_members format Keys text ks place lists =
+    let spelled = spelled_keys format text ks lists in
+    record { few = omega arith; fit = λ i low. spelled_fit format text ks spelled i low; apart = λ i j low high same. same_place ks i j lists.all.1 low high same }
+are_members format (Texts name) text ks place lists = once_members format (length ks) (texts_mark ∷ lists.told) ks place lists.all.0 (omega arith)

@@ -15,9 +15,10 @@ use Rattle.lz_judge.specs.{Surveys.{AreFindings, IsFinding, IsSurveyed, is_good,
 use Rattle.lz_judge.{specs.declared.finding.{Finding.TheVariants.{Key, BadKey, Twice}, Survey.{Survey}}, proofs.Surveys.SlotFinding.{sound_where}}
 use Rattle.lz_judge.proofs.Surveys.SoundFile.{held_head}
 use Rattle.lz_vault.specs.Renewals.{AreHeldBy}
-use Rattle.lazyset_file_commands.specs.{Checks.{end_text, line_of, shown_text}, Lists.{Lists, Spelled, nothing, more, SpellsKey}, Makings.{refused_text}}
-use Rattle.lazyset_file_commands.specs.{ShownLists.{ShownKeysAreListed}, declared.shown.Shown.TheVariants.{Keys}}
-use Rattle.lazyset_file_commands.proofs.{HeldKeys.{IsNodeBelow, are_held, fit, keys, nodes, once, slots}, Listed.{spelled_not}, OneList.{begun, one_list}}
+use Rattle.lazyset_file_commands.specs.{Checks.{end_text, line_of, shown_text}, Lists.{Lists, keys as of_keys, Spelled, nothing, more, NamesKey}}
+use Rattle.lazyset_file_commands.specs.{Makings.{refused_text}, ShownLists.{ShownKeysAreListed}, declared.shown.Shown.TheVariants.{Keys}}
+use Rattle.lazyset_file_commands.proofs.{HeldKeys.{IsNodeBelow, are_held, fit, keys, nodes, once, slots}, Listed.{spelled_keys, spelled_not}}
+use Rattle.lazyset_file_commands.proofs.OneList.{begun, one_list}
 
 -- a key on a line of its own
 abbrev key_line : ℕ → List ℕ
@@ -31,15 +32,15 @@ module _ (format : Format) where
   line_clear : (k : ℕ) → k ≤ largest_of format → has_line_feed (key_text k) ≡ false
   line_clear k fits = key_text_lacks 10 k refl refl (key_of_format format k fits)
 
-  line_spells : (k : ℕ) → k ≤ largest_of format → SpellsKey format (key_text k) k
+  line_spells : (k : ℕ) → k ≤ largest_of format → NamesKey (of_keys format) (key_text k) k
   line_spells k fits = grind (arith, nat_tests, kept, key_text_lacks, key_of_format, written_keys_are_spelled)
 
   -- keys that are written one a line are read again
-  written_lines : (ks : List ℕ) → All (λ k. k ≤ largest_of format) ks → Spelled format (flat_map key_line ks) ks
+  written_lines : (ks : List ℕ) → All (λ k. k ≤ largest_of format) ks → Spelled (of_keys format) (flat_map key_line ks) ks
   written_lines [] fits = nothing
   written_lines (k ∷ ks) fits =
       let first : k ≤ largest_of format = All-head (λ (k : ℕ). k ≤ largest_of format) k ks fits in
-      subst (λ (text : List ℕ). Spelled format text (k ∷ ks)) (sym (append_assoc (key_text k) (line_feed ∷ []) (flat_map key_line ks)))
+      subst (λ (text : List ℕ). Spelled (of_keys format) text (k ∷ ks)) (sym (append_assoc (key_text k) (line_feed ∷ []) (flat_map key_line ks)))
       (more (key_text k) (flat_map key_line ks) k ks (line_clear k first) (line_spells k first) (written_lines ks (All-tail (λ (k : ℕ). k ≤ largest_of format) k ks fits)))
 
 -- how many slots a file has is told by its head
@@ -71,41 +72,42 @@ module _ (t : List ℕ) (F : Format) (rooms : last_room_of (format_of t) ≤ las
 
   -- a file that holds a set
   module _ (N : ℕ) (S : SetOf) (holds : Holds t N S) (found : List Finding) (findings : AreFindings (slot_at t) N found) where
-    pub listed : Lists F (flat_map (line_of Keys) found) (keys t N)
+    pub listed : Lists (of_keys F) (flat_map (line_of Keys) found) (keys t N)
     listed =
         let says = All-weaker (IsNodeBelow t N) (λ node. slot_at t node.1 ≡ read.Member node.0) (λ node (low, is). is) (held t N) (nodes t N) in
         let sound = sound_where (slot_at t) N found findings holds.no_bad_key holds.no_key_twice in
         let text = shown_nodes found (held t N) findings.each sound says (findings.slots ∙ sym (slots t N holds.no_bad_key)) in
         record {
-          spelled = subst (λ (text : List ℕ). Spelled F text (keys t N)) (sym text)
+          told = keys t N;
+          spelled = subst (λ (text : List ℕ). Spelled (of_keys F) text (keys t N)) (sym text)
               (written_lines F (keys t N) (All-weaker (λ k. k ≤ largest_of (format_of t)) (λ k. k ≤ largest_of F) fits (keys t N) (fit t N S holds)));
-          once = once t N S holds;
+          all = (refl, once t N S holds);
         }
 
   -- a last line that spells no key, after lines of keys
-  last_line : (found : List Finding) (line ks : List ℕ) → All (IsFinding (slot_at t)) found → has_line_feed line ≡ false → Spelled F (flat_map (line_of Keys) found ++ (line ++ line_feed ∷ [])) ks
-      → (k : ℕ) × SpellsKey F line k
-  last_line [] line ks each clear spelled = let h = begun F (line ++ line_feed ∷ []) ks line [] spelled refl clear in (h.key, h.spells)
+  last_line : (found : List Finding) (line ks : List ℕ) → All (IsFinding (slot_at t)) found → has_line_feed line ≡ false → Spelled (of_keys F) (flat_map (line_of Keys) found ++ (line ++ line_feed ∷ [])) ks
+      → (k : ℕ) × NamesKey (of_keys F) line k
+  last_line [] line ks each clear spelled = let h = begun (of_keys F) (line ++ line_feed ∷ []) ks line [] spelled refl clear in (h.key, h.names)
   last_line (Key i k ∷ found) line ks each clear spelled =
       let first = All-head (IsFinding (slot_at t)) (Key i k) found each in
       let low : k ≤ largest_of F = fits k (read_fits (format_of t) (slot_bytes t i) k first.holds) in
       let rest = flat_map (line_of Keys) found ++ (line ++ line_feed ∷ []) in
       let joined : flat_map (line_of Keys) (Key i k ∷ found) ++ (line ++ line_feed ∷ []) ≡ key_text k ++ line_feed ∷ rest =
       ap (λ (x : List ℕ). x ++ (line ++ line_feed ∷ [])) (append_assoc (key_text k) (line_feed ∷ []) (flat_map (line_of Keys) found)) ∙ append_assoc (key_text k) (line_feed ∷ flat_map (line_of Keys) found) (line ++ line_feed ∷ []) in
-      let h = begun F _ ks (key_text k) rest spelled joined (line_clear F k low) in
-      last_line found line h.keys (All-tail (IsFinding (slot_at t)) (Key i k) found each) clear h.spelled
+      let h = begun (of_keys F) _ ks (key_text k) rest spelled joined (line_clear F k low) in
+      last_line found line h.others (All-tail (IsFinding (slot_at t)) (Key i k) found each) clear h.spelled
   last_line (BadKey i ∷ found) line ks each clear spelled = last_line found line ks (All-tail (IsFinding (slot_at t)) (BadKey i) found each) clear spelled
   last_line (Twice i first ∷ found) line ks each clear spelled = last_line found line ks (All-tail (IsFinding (slot_at t)) (Twice i first) found each) clear spelled
 
-  damaged_none : (found : List Finding) (ks : List ℕ) → All (IsFinding (slot_at t)) found → Spelled F (flat_map (line_of Keys) found ++ (codes "damaged" ++ 10 ∷ [])) ks → ⊥
+  damaged_none : (found : List Finding) (ks : List ℕ) → All (IsFinding (slot_at t)) found → Spelled (of_keys F) (flat_map (line_of Keys) found ++ (codes "damaged" ++ 10 ∷ [])) ks → ⊥
   damaged_none found ks each spelled =
       let h = last_line found (codes "damaged") ks each refl spelled in spelled_not F (codes "damaged") NoNumber refl h.0 h.1
 
-  refused_none : (line ks : List ℕ) → has_line_feed line ≡ false → key_read (without_return line) ≡ Err NoNumber → Spelled F (line ++ line_feed ∷ []) ks → ⊥
+  refused_none : (line ks : List ℕ) → has_line_feed line ≡ false → key_read (without_return line) ≡ Err NoNumber → Spelled (of_keys F) (line ++ line_feed ∷ []) ks → ⊥
   refused_none line ks clear none spelled =
-      let h = begun F (line ++ line_feed ∷ []) ks line [] spelled refl clear in spelled_not F line NoNumber none h.key h.spells
+      let h = begun (of_keys F) (line ++ line_feed ∷ []) ks line [] spelled refl clear in spelled_not F line NoNumber none h.key h.names
 
-  head_none : (fault : HeaderFault) (ks : List ℕ) → Spelled F (refused_text (header_fault_number fault)) ks → ⊥
+  head_none : (fault : HeaderFault) (ks : List ℕ) → Spelled (of_keys F) (refused_text (header_fault_number fault)) ks → ⊥
   unfolding digits
   head_none head.NotMade ks spelled = refused_none (codes "refused 1") ks refl refl spelled
   head_none head.WrongMagic ks spelled = refused_none (codes "refused 2") ks refl refl spelled
@@ -115,20 +117,20 @@ module _ (t : List ℕ) (F : Format) (rooms : last_room_of (format_of t) ≤ las
   of_slots : (N M : ℕ) (S : SetOf) → M ≡ N → Holds t M S → Holds t N S
   of_slots N M S same holds = subst (λ (n : ℕ). Holds t n S) same holds
 
-  to : (told : Survey) → IsSurveyed t told → (good : Bool) → is_good told ≡ good → (ks : List ℕ) → Lists F (shown_text Keys told) ks → AreHeldBy t ks
-  to (survey.Refused fault) surveyed good is ks lists = absurd (head_none fault ks lists.spelled)
+  to : (told : Survey) → IsSurveyed t told → (good : Bool) → is_good told ≡ good → (ks : List ℕ) → Lists (of_keys F) (shown_text Keys told) ks → AreHeldBy t ks
+  to (survey.Refused fault) surveyed good is ks lists = absurd (head_none fault ks (spelled_keys F _ ks lists))
   to (survey.Found header found) surveyed false is ks lists =
       let text : shown_text Keys (survey.Found header found) ≡ flat_map (line_of Keys) found.items ++ (codes "damaged" ++ 10 ∷ []) = ap (λ (b : Bool). flat_map (line_of Keys) found.items ++ end_text Keys b) is in
-      absurd (damaged_none found.items ks surveyed.told.2.each (subst (λ (x : List ℕ). Spelled F x ks) text lists.spelled))
+      absurd (damaged_none found.items ks surveyed.told.2.each (subst (λ (x : List ℕ). Spelled (of_keys F) x ks) text (spelled_keys F _ ks lists)))
   to (survey.Found header found) surveyed true is ks lists =
       let (M, S, holds) = surveyed.good.0 is in
       let here = of_slots header.slots M S (same_slots t header.slots M S surveyed.told.0 holds) holds in
       let text : shown_text Keys (survey.Found header found) ≡ flat_map (line_of Keys) found.items = ap (λ (b : Bool). flat_map (line_of Keys) found.items ++ end_text Keys b) is ∙ append-nil (flat_map (line_of Keys) found.items) in
       let read = listed header.slots S here found.items surveyed.told.2 in
-      let same : keys t header.slots ≡ ks = one_list F (flat_map (line_of Keys) found.items) (keys t header.slots) ks read.spelled (subst (λ (x : List ℕ). Spelled F x ks) text lists.spelled) in
+      let same : keys t header.slots ≡ ks = one_list (of_keys F) (flat_map (line_of Keys) found.items) (keys t header.slots) ks (spelled_keys F _ _ read) (subst (λ (x : List ℕ). Spelled (of_keys F) x ks) text (spelled_keys F _ ks lists)) in
       subst (AreHeldBy t) same (are_held t header.slots S here)
 
-  from : (told : Survey) → IsSurveyed t told → (ks : List ℕ) → AreHeldBy t ks → Lists F (shown_text Keys told) ks
+  from : (told : Survey) → IsSurveyed t told → (ks : List ℕ) → AreHeldBy t ks → Lists (of_keys F) (shown_text Keys told) ks
   from (survey.Refused fault) surveyed ks (M, holds, is) = absurd (let never : false ≡ true = surveyed.good.1 (M, members ks, holds) in cc)
   from (survey.Found header found) surveyed ks (M, holds, is) =
       let good : is_good (survey.Found header found) ≡ true = surveyed.good.1 (M, members ks, holds) in
@@ -136,7 +138,7 @@ module _ (t : List ℕ) (F : Format) (rooms : last_room_of (format_of t) ≤ las
       let here = of_slots header.slots M (members ks) slots holds in
       let text : shown_text Keys (survey.Found header found) ≡ flat_map (line_of Keys) found.items = ap (λ (b : Bool). flat_map (line_of Keys) found.items ++ end_text Keys b) good ∙ append-nil (flat_map (line_of Keys) found.items) in
       let same : keys t header.slots ≡ ks = ap (keys t) (sym slots) ∙ sym is in
-      subst (λ (x : List ℕ). Lists F x ks) (sym text) (subst (Lists F (flat_map (line_of Keys) found.items)) same (listed header.slots (members ks) here found.items surveyed.told.2))
+      subst (λ (x : List ℕ). Lists (of_keys F) x ks) (sym text) (subst (Lists (of_keys F) (flat_map (line_of Keys) found.items)) same (listed header.slots (members ks) here found.items surveyed.told.2))
 
 pub shown_keys_are_listed : ShownKeysAreListed
 shown_keys_are_listed t told surveyed F rooms ks = (to t F rooms told surveyed (is_good told) refl ks, from t F rooms told surveyed ks)

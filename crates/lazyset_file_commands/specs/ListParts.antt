@@ -1,44 +1,52 @@
 -- A list of keys that is read in pieces.
-use Rattle.std.specs.Prelude.{◌≡◌, ℕ, false, List, [], ◌++◌, Some, map}
-use Rattle.lz_slot.specs.declared.format.Format.{Format}
+use Rattle.std.specs.Prelude.{◌≡◌, ℕ, ◌+◌, false, List, [], ◌++◌, Some, length, map}
 use Rattle.lz_judge.specs.Places.{IsTable}
 use Rattle.lz_proto.specs.Lines.{has_line_feed}
-use Rattle.lazyset_file_commands.specs.{Lists.{IsListFaultOf, Lists}, declared.list.{KeyList.{KeyList}, ListFault.{ListFault}}}
+use Rattle.lazyset_file_commands.specs.{Lists.{HasPlaceFor, IsListFaultOf, Lists, Named, named_by}, declared.list.{KeyList.{KeyList}, ListFault.{ListFault}}}
 
--- Of the text this much is left, and the part before it lists these keys.
-pub record Leaves (format : Format) (text rest ks : List ℕ) : Type 0 where
+-- what the lines of a list name
+abbrev pub named_in : KeyList → Named
+named_in list = named_by list.format list.lines
+
+-- Of the text this much is left, which begins with the line of this number, and the part before it lists these keys.
+pub record Leaves (named : Named) (text rest ks : List ℕ) (number : ℕ) : Type 0 where
   pub above : List ℕ
   pub whole : text ≡ above ++ rest
-  pub lists : Lists format above ks
+  pub lists : Lists named above ks
+  pub place : number ≡ length lists.told + 1
 
 -- of the text, of which this much comes after what the list has read, the lines before its own list its keys
 abbrev pub HasRead : List ℕ → KeyList → List ℕ → Type 0
-HasRead text list after = Leaves list.format text (list.line.items ++ after) list.keys.items
+HasRead text list after = Leaves (named_in list) text (list.line.items ++ after) list.keys.items list.number
 
 -- the keys are those of some lines, and this is their table, and the next line hasn't ended
 pub record IsOpenList (list : KeyList) : Type 0 where
+  pub place : HasPlaceFor list.format list.lines
   pub seen : IsTable (map Some list.keys.items) list.seen
   pub clear : has_line_feed list.line.items ≡ false
   pub above : List ℕ
-  pub lists : Lists list.format above list.keys.items
+  pub lists : Lists (named_in list) above list.keys.items
 
 -- nothing of any text was read
-pub record BeginsList (format : Format) (list : KeyList) : Type 0 where
-  pub same : list.format ≡ format
-  pub unread : (text : List ℕ) → HasRead text list text
+abbrev pub IsUnread : KeyList → Type 0
+IsUnread list = (text : List ℕ) → HasRead text list text
+
+-- a list of the same format and lines
+abbrev pub IsLike : KeyList → KeyList → Type 0
+IsLike old new = (new.format ≡ old.format) × (new.lines ≡ old.lines)
 
 -- the piece was read of each text that goes on with it
 pub record GoesOn (old : KeyList) (piece : List ℕ) (new : KeyList) : Type 0 where
-  pub same : new.format ≡ old.format
+  pub same : IsLike old new
   pub read : (text after : List ℕ) → HasRead text old (piece ++ after) → HasRead text new after
 
 -- each text that goes on with the piece has this fault
 abbrev pub FailsIn : KeyList → List ℕ → ListFault → Type 0
-FailsIn list piece fault = (text after : List ℕ) → HasRead text list (piece ++ after) → IsListFaultOf list.format text fault
+FailsIn list piece fault = (text after : List ℕ) → HasRead text list (piece ++ after) → IsListFaultOf (named_in list) text fault
 
 -- each text that ends here lists these keys, or has this fault
 abbrev pub EndsWith : KeyList → List ℕ → Type 0
-EndsWith list ks = (text : List ℕ) → HasRead text list [] → Lists list.format text ks
+EndsWith list ks = (text : List ℕ) → HasRead text list [] → Lists (named_in list) text ks
 
 abbrev pub FailsAtEnd : KeyList → ListFault → Type 0
-FailsAtEnd list fault = (text : List ℕ) → HasRead text list [] → IsListFaultOf list.format text fault
+FailsAtEnd list fault = (text : List ℕ) → HasRead text list [] → IsListFaultOf (named_in list) text fault

@@ -5,27 +5,28 @@ use Rattle.lz_slot.specs.{Sets.{members}, declared.format.Format.{Format}}
 use Rattle.lz_disk.specs.{Images.{IsImage}, Devices.{Device, LeavesOnly}}
 use Rattle.lz_vault.specs.Makes.{IsBadCount, IsMakeFaultOf, IsRenewed, IsUnmadeOrHolds, MayBeMade, make_fault_number}
 use Rattle.lz_vault.specs.declared.making.MakeFault.TheVariants.{BadCount}
-use Rattle.lazyset_file_commands.specs.{Ends.{make_status}, Lists.{IsListFaultOf, Lists}, Makings.{made_text, refused_text, room_text}}
-use Rattle.lazyset_file_commands.specs.{Tellings.{line_text, memory_text, unread_text}, declared.list.ListFault.{ListFault, TheVariants.{Line, Twice, Read, Memory}}}
-use Rattle.lazyset_file_commands.specs.declared.{listing.ListingFault.{ListingFault, TheVariants.{OfList, TooMany, OfMaking}}, status.Status.{Status}}
+use Rattle.lazyset_file_commands.specs.{Ends.{make_status}, Lists.{IsListFaultOf, Lists, Named}, Makings.{made_text, refused_text, room_text}}
+use Rattle.lazyset_file_commands.specs.{Tellings.{line_text, memory_text, unread_text}, declared.list.ListFault.{ListFault}}
+use Rattle.lazyset_file_commands.specs.declared.{list.ListFault.TheVariants.{Line, Twice, Read, Memory}, listing.ListingFault.{ListingFault}}
+use Rattle.lazyset_file_commands.specs.declared.{listing.ListingFault.TheVariants.{OfList, TooMany, OfMaking}, status.Status.{Status}}
 use Rattle.lazyset_file_commands.specs.declared.status.Status.TheVariants.{Done, Failed, Refused}
 
 -- the disk is at rest with a file of this format and so many slots, of which the first hold the keys that the input lists
-abbrev pub MakesListed : Format → ℕ → Option (List ℕ) → Device → Device → Type 0
-MakesListed format slots input before after =
-    (keys : List ℕ) × IfSome input (λ text. Lists format text keys)
+abbrev pub MakesListed : Format → Named → ℕ → Option (List ℕ) → Device → Device → Type 0
+MakesListed format named slots input before after =
+    (keys : List ℕ) × IfSome input (λ text. Lists named text keys)
     × (IsTrue before.honest → IsRenewed after.medium format slots keys × MayBeMade before.medium.seen slots)
 
 -- the input, where it is known, lists so many keys
-abbrev pub ListsSoMany : Format → Option (List ℕ) → ℕ → Type 0
-ListsSoMany format input m = IfSome input (λ text. (keys : List ℕ) × Lists format text keys × (length keys ≡ m))
+abbrev pub ListsSoMany : Named → Option (List ℕ) → ℕ → Type 0
+ListsSoMany named input m = IfSome input (λ text. (keys : List ℕ) × Lists named text keys × (length keys ≡ m))
 
 -- Why no file was made: the input is no list, or lists more keys than slots, or else no file of this format with so many slots is made.
-abbrev pub IsListingFaultOf : Format → ℕ → Option (List ℕ) → Device → Device → ListingFault → Type 0
-IsListingFaultOf format slots input before after (OfList fault) = IfSome input (λ text. IsListFaultOf format text fault)
-IsListingFaultOf format slots input before after (TooMany m n) = (n ≡ slots) × (slots < m) × ListsSoMany format input m
-IsListingFaultOf format slots input before after (OfMaking fault) =
-    IsMakeFaultOf before after format slots fault × (fault ≢ BadCount → (m : ℕ) × (m ≤ slots) × ListsSoMany format input m)
+abbrev pub IsListingFaultOf : Format → Named → ℕ → Option (List ℕ) → Device → Device → ListingFault → Type 0
+IsListingFaultOf format named slots input before after (OfList fault) = IfSome input (λ text. IsListFaultOf named text fault)
+IsListingFaultOf format named slots input before after (TooMany m n) = (n ≡ slots) × (slots < m) × ListsSoMany named input m
+IsListingFaultOf format named slots input before after (OfMaking fault) =
+    IsMakeFaultOf before after format slots fault × (fault ≢ BadCount → (m : ℕ) × (m ≤ slots) × ListsSoMany named input m)
 
 -- a fault that is told with no call on the device
 abbrev pub IsToldFirst : ListingFault → Type 0
@@ -34,17 +35,17 @@ IsToldFirst (TooMany m n) = Unit {0}
 IsToldFirst (OfMaking fault) = fault ≡ BadCount
 
 -- A making of a file of this format with so many slots from this input answered so.
-pub record IsListing (format : Format) (slots : ℕ) (input : Option (List ℕ)) (before after : Device) (answer : Result (Unit {0}) ListingFault) : Type 0 where
-  pub made : OnOk answer (MakesListed format slots input before after)
-  pub refused : IfErr answer (IsListingFaultOf format slots input before after)
+pub record IsListing (format : Format) (named : Named) (slots : ℕ) (input : Option (List ℕ)) (before after : Device) (answer : Result (Unit {0}) ListingFault) : Type 0 where
+  pub made : OnOk answer (MakesListed format named slots input before after)
+  pub refused : IfErr answer (IsListingFaultOf format named slots input before after)
   pub count : IsErrOf answer (OfMaking BadCount) ↔ IsBadCount format slots
 
 -- At each moment a crash leaves what it might have left before, or else nothing that is made, or a file of this format with so many
 -- slots and all the keys that the input lists.
-abbrev pub LeavesListed : Format → ℕ → Option (List ℕ) → Device → Device → Type 0
-LeavesListed format slots input before after =
+abbrev pub LeavesListed : Format → Named → ℕ → Option (List ℕ) → Device → Device → Type 0
+LeavesListed format named slots input before after =
     LeavesOnly before after (IsImage before.medium)
-    ⊎ ((keys : List ℕ) × IfSome input (λ text. Lists format text keys)
+    ⊎ ((keys : List ℕ) × IfSome input (λ text. Lists named text keys)
     × LeavesOnly before after (λ t. IsImage before.medium t ⊎ IsUnmadeOrHolds format slots (members keys) t))
 
 -- the line of an input that is no list of keys, and how the command ends then, where that could be told

@@ -1,63 +1,94 @@
--- What a list of keys is: lines that end, each of which spells a key, and no key twice. A text is a list of bytes.
-use Rattle.std.specs.{Prelude.{◌≡◌, ◌≢◌, ℕ, ◌+◌, ◌≤◌, false, nat_eq, List, [], ◌∷◌, ◌++◌, length, IsTrue}, List.{IsDistinct}}
-use Rattle.lz_slot.specs.{Rooms.{largest_of}, Sets.{members}, Texts.{Spells}, declared.format.Format.{Format}}
+-- What a list of keys is: lines that end, each of which names a key. A text is a list of bytes.
+use Rattle.std.specs.{Prelude.{◌≡◌, ◌≢◌, ◌⊎◌, ℕ, ◌+◌, ◌≤◌, false, true, nat_eq, List, [], ◌∷◌, ◌++◌, length, IsTrue}, List.{IsDistinct}}
+use Rattle.lz_slot.specs.{Limits.{last_room}, Rooms.{largest_of, last_room_of}, Sets.{members}, Texts.{Spells}, declared.format.Format.{Format}}
 use Rattle.lz_proto.specs.Lines.{has_line_feed, line_feed, without_return}
-use Rattle.lazyset_file_commands.specs.declared.list.ListFault.{ListFault, TheVariants.{Line, Twice, Read, Memory}}
+use Rattle.lz_resp.specs.{Keys.{text_number}, Limits.{most_argument}}
+use Rattle.lz_scan_client.specs.Told.{AreOnce}
+use Rattle.lazyset_file_commands.specs.{Marks.{texts_mark}, declared.{lines.Lines.{Lines, TheVariants.{Keys, Texts}}, list.ListFault.{ListFault}}}
+use Rattle.lazyset_file_commands.specs.declared.list.ListFault.TheVariants.{Line, Twice, Read, Memory}
 
--- the line, less one carriage return at its end, spells this key, which a file of this format can hold
-abbrev pub SpellsKey : Format → List ℕ → ℕ → Type 0
-SpellsKey format line k = (k ≤ largest_of format) × Spells (without_return line) k
+-- What lines name: keys of a format, each of them once, or members of the set of texts with this name, which may come again.
+pub data Named : Type 0 where
+  keys : Format → Named
+  texts : List ℕ → Named
 
--- The text is whole lines that spell these keys, one a line, in their order.
-pub data Spelled (format : Format) : List ℕ → List ℕ → Type 0 where
-  nothing : Spelled format [] []
+abbrev pub named_by : Format → Lines → Named
+named_by format Keys = keys format
+named_by format (Texts name) = texts name.now
+
+-- a file of this format has a place for each key that lines may name, and for the mark
+abbrev pub HasPlaceFor : Format → Lines → Type 0
+HasPlaceFor format Keys = Unit {0}
+HasPlaceFor format (Texts name) = last_room_of format ≡ last_room
+
+-- The line names this key. As a key it is spelled, less one carriage return at the end, and a file of this format can hold it. A text is all of
+-- the line, as long as a service takes it.
+abbrev pub NamesKey : Named → List ℕ → ℕ → Type 0
+NamesKey (keys format) line k = (k ≤ largest_of format) × Spells (without_return line) k
+NamesKey (texts name) line k = (length line ≤ most_argument) × (k ≡ text_number name line)
+
+-- The text is whole lines that name these keys, one a line, in their order.
+pub data Spelled (named : Named) : List ℕ → List ℕ → Type 0 where
+  nothing : Spelled named [] []
   more : (line rest : List ℕ) (k : ℕ) (ks : List ℕ)
-      → has_line_feed line ≡ false → SpellsKey format line k → Spelled format rest ks → Spelled format (line ++ line_feed ∷ rest) (k ∷ ks)
+      → has_line_feed line ≡ false → NamesKey named line k → Spelled named rest ks → Spelled named (line ++ line_feed ∷ rest) (k ∷ ks)
 
--- The text lists these keys, and none of them twice.
-pub record Lists (format : Format) (text ks : List ℕ) : Type 0 where
-  pub spelled : Spelled format text ks
-  pub once : IsDistinct nat_eq ks
+-- These are the keys of a file of which lines name those, in that order: no key stands in two lines, or the mark is first and each key of a text
+-- there once.
+abbrev pub AreKeysOf : Named → List ℕ → List ℕ → Type 0
+AreKeysOf (keys format) told ks = (told ≡ ks) × IsDistinct nat_eq ks
+AreKeysOf (texts name) told ks = AreOnce (texts_mark ∷ told) ks × ((rest : List ℕ) × (ks ≡ texts_mark ∷ rest))
+
+-- The text lists these keys.
+pub record Lists (named : Named) (text ks : List ℕ) : Type 0 where
+  pub told : List ℕ
+  pub spelled : Spelled named text told
+  pub all : AreKeysOf named told ks
 
 -- this is the first line of the text, and it ends
 abbrev pub HasFirstLine : List ℕ → List ℕ → Type 0
 HasFirstLine text line = (has_line_feed line ≡ false) × ((rest : List ℕ) × (text ≡ line ++ line_feed ∷ rest))
 
--- there is more text, and it has no first line that ends and spells a key of this format
-abbrev pub HasNoKey : Format → List ℕ → Type 0
-HasNoKey format text = (text ≢ []) × ((line : List ℕ) (k : ℕ) → HasFirstLine text line → ¬ SpellsKey format line k)
+-- there is more text, and it has no first line that ends and names a key
+abbrev pub HasNoKey : Named → List ℕ → Type 0
+HasNoKey named text = (text ≢ []) × ((line : List ℕ) (k : ℕ) → HasFirstLine text line → ¬ NamesKey named line k)
 
 -- the first line of the text spells one of these keys
-abbrev pub HasKeyOf : Format → List ℕ → List ℕ → Type 0
-HasKeyOf format ks text = (line : List ℕ) × (k : ℕ) × HasFirstLine text line × SpellsKey format line k × IsTrue (members ks k)
+abbrev pub HasKeyOf : Named → List ℕ → List ℕ → Type 0
+HasKeyOf (keys format) ks text = (line : List ℕ) × (k : ℕ) × HasFirstLine text line × NamesKey (keys format) line k × IsTrue (members ks k)
+HasKeyOf (texts name) ks text = ⊥
 
 -- The lines of the text above this one, counted from 1, list keys, after which the rest of the text is at fault.
-pub record FailsAt (format : Format) (text : List ℕ) (number : ℕ) (IsAtFault : List ℕ → List ℕ → Type 0) : Type 0 where
+pub record FailsAt (named : Named) (text : List ℕ) (number : ℕ) (IsAtFault : List ℕ → List ℕ → Type 0) : Type 0 where
   pub above : List ℕ
   pub rest : List ℕ
   pub whole : text ≡ above ++ rest
   pub ks : List ℕ
-  pub lists : Lists format above ks
-  pub place : number ≡ length ks + 1
+  pub lists : Lists named above ks
+  pub place : number ≡ length lists.told + 1
   pub fault : IsAtFault ks rest
 
--- why a text lists no keys: its first line at fault spells no key of this format, or one that stands in a line above
-abbrev pub IsListFaultOf : Format → List ℕ → ListFault → Type 0
-IsListFaultOf format text (Line number) = FailsAt format text number (λ ks rest. HasNoKey format rest)
-IsListFaultOf format text (Twice number) = FailsAt format text number (HasKeyOf format)
-IsListFaultOf format text Read = Unit {0}
-IsListFaultOf format text Memory = Unit {0}
+-- why a text lists no keys: its first line at fault names no key, or one that stands in a line above
+abbrev pub IsListFaultOf : Named → List ℕ → ListFault → Type 0
+IsListFaultOf named text (Line number) = FailsAt named text number (λ ks rest. HasNoKey named rest)
+IsListFaultOf named text (Twice number) = FailsAt named text number (HasKeyOf named)
+IsListFaultOf named text Read = Unit {0}
+IsListFaultOf named text Memory = Unit {0}
 
--- the key of a line was added to these
-pub record AddsKey (format : Format) (line old new : List ℕ) : Type 0 where
+-- the key of a line is added to these, or, where it may come again, was one of them
+abbrev pub Adds : Named → ℕ → List ℕ → List ℕ → Type 0
+Adds (keys format) k old new = (members old k ≡ false) × (new ≡ old ++ k ∷ [])
+Adds (texts name) k old new = ((members old k ≡ true) × (new ≡ old)) ⊎ ((members old k ≡ false) × (new ≡ old ++ k ∷ []))
+
+pub record AddsKey (named : Named) (line old new : List ℕ) : Type 0 where
   pub key : ℕ
-  pub spells : SpellsKey format line key
-  pub apart : members old key ≡ false
-  pub added : new ≡ old ++ key ∷ []
+  pub names : NamesKey named line key
+  pub adds : Adds named key old new
 
--- why the key of a line wasn't added to these
-abbrev pub IsLineFaultOf : Format → List ℕ → List ℕ → ListFault → Type 0
-IsLineFaultOf format line ks (Line number) = (number ≡ length ks + 1) × ((k : ℕ) → ¬ SpellsKey format line k)
-IsLineFaultOf format line ks (Twice number) = (number ≡ length ks + 1) × ((k : ℕ) × SpellsKey format line k × IsTrue (members ks k))
-IsLineFaultOf format line ks Read = ⊥
-IsLineFaultOf format line ks Memory = Unit {0}
+-- why the key of the line of this number wasn't added to these
+abbrev pub IsLineFaultOf : Named → ℕ → List ℕ → List ℕ → ListFault → Type 0
+IsLineFaultOf named number line ks (Line place) = (place ≡ number) × ((k : ℕ) → ¬ NamesKey named line k)
+IsLineFaultOf (keys format) number line ks (Twice place) = (place ≡ number) × ((k : ℕ) × NamesKey (keys format) line k × IsTrue (members ks k))
+IsLineFaultOf (texts name) number line ks (Twice place) = ⊥
+IsLineFaultOf named number line ks Read = ⊥
+IsLineFaultOf named number line ks Memory = Unit {0}

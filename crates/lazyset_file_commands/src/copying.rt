@@ -1,7 +1,9 @@
 //! The command that makes a file of the keys that a running service tells.
-ghost use Rattle.std.specs.Prelude.{◌≡◌, ◌↔◌, ◌≤◌, ℕ, Result as Answer, Err, IfErr, IfOk, IsErrOf, IsTrue};
+ghost use Rattle.std.specs.Prelude.{◌≡◌, ◌↔◌, ◌≤◌, ℕ, Result as Answer, Err, IfErr, IfOk, IsErrOf, IsTrue, OnOk};
 ghost use Rattle.lz_slot.specs.Limits.{last_room};
 ghost use Rattle.lz_slot.specs.Rooms.{last_room_of};
+ghost use Rattle.lz_scan_client.specs.Shapes.{IsShape};
+ghost use Rattle.lz_scan_client.specs.declared.fault.ScanFault.{ScanFault as Why};
 ghost use Rattle.lz_vault.specs.Makes.{IsBadCount, MayBeMade, WritesNothing};
 ghost use Rattle.lazyset_file_commands.specs.Copies.{IsCopy, IsCopyFaultOf, IsToldFirst, LeavesCopy, MakesCopy, copy_status, copy_text, scan_status, scan_text};
 ghost use Rattle.lazyset_file_commands.specs.Tellings.{Tells};
@@ -12,7 +14,7 @@ use crate::refusal::send_line;
 use crate::status::Status;
 use crate::telling::{NO_MEMORY, NO_READ, status_sent, tell};
 use lz_disk::Disk;
-use lz_scan_client::{ScanFault, scan_rooms};
+use lz_scan_client::{ScanFault, Shape, ask_shape, scan_rooms};
 use lz_slot::Format;
 use lz_vault::{MakeFault, make_with};
 use std::alloc::Global;
@@ -58,6 +60,24 @@ pub fn copy_on<R: Read, A: Write, W: Write + Drop, D: Disk>(
 {
     let answer = make_copy(alloc, reader, asker, disk, slots, format);
     tell_answer(writer, answer)
+}
+
+/// Asks a service for the format and the slots of its file, over a connection that is read from and asked over. Where they aren't told it
+/// says why, `noread`, `noreply` or `nomemory`, and gives the status of a copy that ends so.
+pub fn ask_shape_on<R: Read, A: Write, W: Write + Drop>(
+    alloc: Global,
+    reader: &mut R,
+    asker: &mut A,
+    writer: &mut W,
+) -> Result<Shape, Status>
+    ensures shape { IfOk result (IsShape (R.remaining reader.old) (R.remaining reader.new) (A.contents asker.old) (A.contents asker.new)) }
+    ensures untold { OnOk result (W.contents writer.new ≡ W.contents writer.old) }
+    ensures err { IfErr result (λ status. (fault : Why) × Tells (W.contents writer.old) (W.contents writer.new) (scan_text fault) (scan_status fault) status) }
+{
+    match ask_shape(alloc, reader, asker) {
+        Ok(shape) => Ok(shape),
+        Err(fault) => Err(tell_scan_fault(writer, fault)),
+    }
 }
 
 // Makes the file, and gives the number of its keys.

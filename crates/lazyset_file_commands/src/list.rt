@@ -1,25 +1,25 @@
 //! A list of keys out of a reader, one a line.
-ghost use Rattle.std.specs.Prelude.{◌≡◌, ◌+◌, ◌++◌, ◌∷◌, [], ℕ, false, IfOk, IfErr, IfNone, IfSome, OnOk, Some, length, map};
+ghost use Rattle.std.specs.Prelude.{◌≡◌, ◌+◌, ◌++◌, ◌∷◌, [], ℕ, false, IfOk, IfErr, IfSome, OnOk, Some, length, map};
 ghost use Rattle.lz_judge.specs.Places.{IsTable};
 ghost use Rattle.lz_proto.specs.Lines.{has_line_feed, line_feed};
 ghost use Rattle.lz_vault.specs.Makes.{MayBeMembers};
-ghost use Rattle.lazyset_file_commands.specs.Lists.{AddsKey, IsLineFaultOf, IsListFaultOf, Lists, SpellsKey};
-ghost use Rattle.lazyset_file_commands.specs.ListParts.{BeginsList, EndsWith, FailsAtEnd, FailsIn, GoesOn, IsOpenList};
+ghost use Rattle.lazyset_file_commands.specs.Lists.{AddsKey, HasPlaceFor, IsLineFaultOf, IsListFaultOf, Lists, named_by};
+ghost use Rattle.lazyset_file_commands.specs.Marks.{texts_mark};
+ghost use Rattle.lazyset_file_commands.specs.ListParts.{EndsWith, FailsAtEnd, FailsIn, GoesOn, IsLike, IsOpenList, IsUnread, named_in};
 
+use crate::lines::Lines;
+use crate::texts::TEXTS_MARK;
 use lz_judge::Places;
-use lz_proto::{MOST_PIECE, receive, without_return};
-use lz_slot::{Format, Key, read_key};
+use lz_proto::{MOST_PIECE, receive};
+use lz_slot::{Format, Key};
 use memchr::memchr;
 use std::alloc::Global;
 use std::io::Read;
 
-// The most bytes of a line with a key: those of a room, a colon, a number and a carriage return.
-const MOST_LISTED: usize = 22;
-
 /// Why no list of keys was read.
 #[derive(Clone, Copy)]
 pub enum ListFault {
-    /// The first line at fault, from 1, is this one: it doesn't read as a key of the format.
+    /// The first line at fault, from 1, is this one: it names no key that the format has, or doesn't end.
     Line(u64),
     /// The first line at fault, from 1, is this one: its key stands in a line above.
     Twice(u64),
@@ -28,18 +28,23 @@ pub enum ListFault {
     Memory,
 }
 
-/// Reads the keys of a file of this format, one a line, up to the input's end or to the first line at fault, and judges each line as
-/// soon as it is read. Each line ends with a line feed, before which one carriage return is dropped.
+/// Reads the keys of a file of this format, which the lines name, up to the input's end or to the first line at fault, and judges each
+/// line as soon as it is read. Each line ends with a line feed; from one with a key one carriage return before that is dropped.
 pub fn read_list<R: Read>(
     alloc: Global,
     reader: &mut R,
     format: Format,
+    lines: Lines<'_>,
 ) -> Result<Vec<Key>, ListFault>
-    ensures ok { IfOk result (λ keys. IfSome (R.remaining reader.old) (λ text. Lists format text keys.items)) }
+    requires { HasPlaceFor format lines }
+    ensures ok { IfOk result (λ keys. IfSome (R.remaining reader.old) (λ text. Lists (named_by format lines.entry) text keys.items)) }
     ensures members { IfOk result (λ keys. MayBeMembers format (length keys.items) keys.items) }
-    ensures err { IfErr result (λ fault. IfSome (R.remaining reader.old) (λ text. IsListFaultOf format text fault)) }
+    ensures err { IfErr result (λ fault. IfSome (R.remaining reader.old) (λ text. IsListFaultOf (named_by format lines.entry) text fault)) }
 {
-    let mut list = KeyList::new(alloc, format);
+    let mut list = match KeyList::begin(alloc, format, lines) {
+        Ok(list) => list,
+        Err(fault) => return Err(fault),
+    };
     let mut piece = [0; MOST_PIECE];
     // A loop is proved to end, so this one counts its pieces.
     'pieces: for _ in 0..u64::MAX {
@@ -58,31 +63,73 @@ pub fn read_list<R: Read>(
 
 /// A list that was read so far: its keys, the table of them, and the beginning of a line that hasn't ended yet.
 #[derive(Drop)]
-struct KeyList {
+struct KeyList<'n> {
     format: Format,
+    lines: Lines<'n>,
     keys: Vec<Key>,
     seen: Places,
     line: Vec<u8>,
+    /// The number of this line.
+    number: u64,
 }
 
-impl KeyList {
-    fn new(alloc: Global, format: Format) -> KeyList
-        ensures kept { IsOpenList result }
-        ensures begins { BeginsList format result }
+impl<'n> KeyList<'n> {
+    // A list of no lines. Of texts it has the mark.
+    fn begin(alloc: Global, format: Format, lines: Lines<'n>) -> Result<KeyList<'n>, ListFault>
+        requires { HasPlaceFor format lines }
+        ensures kept { IfOk result IsOpenList }
+        ensures unread { IfOk result IsUnread }
+        ensures like { IfOk result (λ list. (list.format ≡ format) × (list.lines ≡ lines.entry)) }
+        ensures err { IfErr result (λ fault. fault ≡ ListFault.Memory) }
     {
-        KeyList {
+        let mut list = KeyList {
             format,
+            lines,
             keys: Vec::new(alloc),
             seen: Places::new(alloc),
             line: Vec::new(alloc),
+            number: 1,
+        };
+        match lines {
+            Lines::Keys => Ok(list),
+            Lines::Texts(_) => match list.mark() {
+                Ok(()) => Ok(list),
+                Err(fault) => Err(fault),
+            },
         }
     }
 
-    // The number of the line that comes next.
-    fn line_number(&self) -> u64
-        ensures { result ≡ length self.now.keys.items + 1 }
+    // Adds the mark that keys are texts.
+    fn mark(&mut self) -> Result<(), ListFault>
+        requires { IsTable (map Some self.old.keys.items) self.old.seen }
+        ensures seen { OnOk result (IsTable (map Some self.new.keys.items) self.new.seen) }
+        ensures added { OnOk result (self.new.keys.items ≡ self.old.keys.items ++ texts_mark ∷ []) }
+        ensures like { IsLike self.old self.new }
+        ensures line { (self.new.line ≡ self.old.line) × (self.new.number ≡ self.old.number) }
+        ensures err { IfErr result (λ fault. fault ≡ ListFault.Memory) }
     {
-        self.keys.len() as u64 + 1
+        match Key::of_rank(TEXTS_MARK) {
+            Some(mark) => self.add(mark),
+            None => Err(ListFault::Memory),
+        }
+    }
+
+    // Adds a key to the keys and to the table of them.
+    fn add(&mut self, key: Key) -> Result<(), ListFault>
+        requires { IsTable (map Some self.old.keys.items) self.old.seen }
+        ensures seen { OnOk result (IsTable (map Some self.new.keys.items) self.new.seen) }
+        ensures added { OnOk result (self.new.keys.items ≡ self.old.keys.items ++ key ∷ []) }
+        ensures like { IsLike self.old self.new }
+        ensures line { (self.new.line ≡ self.old.line) × (self.new.number ≡ self.old.number) }
+        ensures err { IfErr result (λ fault. fault ≡ ListFault.Memory) }
+    {
+        let Ok(()) = self.keys.push(key) else {
+            return Err(ListFault::Memory);
+        };
+        let Ok(()) = self.seen.add(self.keys.as_slice()) else {
+            return Err(ListFault::Memory);
+        };
+        Ok(())
     }
 
     // Takes the next piece of the list.
@@ -117,6 +164,10 @@ impl KeyList {
         if let Err(fault) = self.add_line() {
             return Err(fault);
         }
+        let Some(next) = self.number.checked_add(1) else {
+            return Err(ListFault::Read);
+        };
+        self.number = next;
         self.line.clear();
         Ok(())
     }
@@ -125,27 +176,25 @@ impl KeyList {
     fn add_line(&mut self) -> Result<(), ListFault>
         requires { IsTable (map Some self.old.keys.items) self.old.seen }
         ensures seen { OnOk result (IsTable (map Some self.new.keys.items) self.new.seen) }
-        ensures ok { OnOk result (AddsKey self.old.format self.old.line.items self.old.keys.items self.new.keys.items) }
-        ensures format { self.new.format ≡ self.old.format }
-        ensures err { IfErr result (IsLineFaultOf self.old.format self.old.line.items self.old.keys.items) }
+        ensures ok { OnOk result (AddsKey (named_in self.old) self.old.line.items self.old.keys.items self.new.keys.items) }
+        ensures like { IsLike self.old self.new }
+        ensures number { self.new.number ≡ self.old.number }
+        ensures err { IfErr result (IsLineFaultOf (named_in self.old) self.old.number self.old.line.items self.old.keys.items) }
     {
-        let number = self.line_number();
-        let Some(key) = key_on(self.line.as_slice(), self.format) else {
+        let number = self.number;
+        let Some(key) = self.lines.key_on(self.line.as_slice(), self.format) else {
             return Err(ListFault::Line(number));
         };
         if self.seen.find(self.keys.as_slice(), key.rank()).is_some() {
-            return Err(ListFault::Twice(number));
+            return match self.lines {
+                Lines::Keys => Err(ListFault::Twice(number)),
+                Lines::Texts(_) => Ok(()),
+            };
         }
-        let Ok(()) = self.keys.push(key) else {
-            return Err(ListFault::Memory);
-        };
-        let Ok(()) = self.seen.add(self.keys.as_slice()) else {
-            return Err(ListFault::Memory);
-        };
-        Ok(())
+        self.add(key)
     }
 
-    // Keeps a part of a line that goes on, unless it is longer already than the text of a key.
+    // Keeps a part of a line that goes on, unless it is longer already than any line.
     fn keep(&mut self, part: &[u8]) -> Result<(), ListFault>
         requires kept { IsOpenList self.old }
         requires clear { has_line_feed part.now ≡ false }
@@ -156,8 +205,8 @@ impl KeyList {
         let Ok(()) = self.line.extend_from_slice(part) else {
             return Err(ListFault::Memory);
         };
-        if self.line.len() > MOST_LISTED {
-            return Err(ListFault::Line(self.line_number()));
+        if self.line.len() > self.lines.most_bytes(self.format) {
+            return Err(ListFault::Line(self.number));
         }
         Ok(())
     }
@@ -165,29 +214,14 @@ impl KeyList {
     // The keys of the list, which ends here.
     fn end(self) -> Result<Vec<Key>, ListFault>
         requires { IsOpenList self }
-        ensures ok { IfOk result (λ keys. EndsWith self keys.items) }
-        ensures members { IfOk result (λ keys. MayBeMembers self.format (length keys.items) keys.items) }
-        ensures err { IfErr result (FailsAtEnd self) }
+        ensures ok { IfOk result (λ keys. EndsWith self.entry keys.items) }
+        ensures members { IfOk result (λ keys. MayBeMembers self.entry.format (length keys.items) keys.items) }
+        ensures err { IfErr result (FailsAtEnd self.entry) }
     {
         if self.line.is_empty() {
             Ok(self.keys)
         } else {
-            Err(ListFault::Line(self.line_number()))
+            Err(ListFault::Line(self.number))
         }
-    }
-}
-
-// The key on a line.
-fn key_on(line: &[u8], format: Format) -> Option<Key>
-    ensures some { IfSome result (λ key. SpellsKey format line.now key) }
-    ensures none { IfNone result ((key : ℕ) → ¬ SpellsKey format line.now key) }
-{
-    let Ok(key) = read_key(without_return(line)) else {
-        return None;
-    };
-    if format.has_room_for(key) {
-        Some(key)
-    } else {
-        None
     }
 }

@@ -1,10 +1,12 @@
 //! The command that makes a file with the keys of a list.
 ghost use Rattle.std.specs.Prelude.{◌≡◌, ◌↔◌, ◌≤◌, ℕ, List, Result as Answer, Err, IfErr, IsErrOf, IsTrue, OnOk};
 ghost use Rattle.lz_vault.specs.Makes.{IsBadCount, MayBeMade, WritesNothing};
+ghost use Rattle.lazyset_file_commands.specs.Lists.{HasPlaceFor, named_by};
 ghost use Rattle.lazyset_file_commands.specs.Listings.{IsListing, IsListingFaultOf, IsToldFirst, LeavesListed, MakesListed, list_status, list_text, listing_status, listing_text};
 ghost use Rattle.lazyset_file_commands.specs.Makings.{room_text};
 ghost use Rattle.lazyset_file_commands.specs.Tellings.{Tells};
 
+use crate::lines::Lines;
 use crate::list::{ListFault, read_list};
 use crate::making::{tell_fault, tell_made};
 use crate::refusal::{refuse_line, send_line, send_two};
@@ -25,11 +27,12 @@ pub enum ListingFault {
     OfMaking(MakeFault),
 }
 
-/// Makes a file of this format with so many slots, of which the first hold the keys that the reader lists, one a line, and says so:
-/// `made N`, or why not, by the first of these: `refused 2` where no file has so many slots, before anything is read; `line L` with
-/// the first line at fault where it reads as no key of the format, `twice L` where its key stands in a line above; `refused 9 M S`
-/// where M keys have no room in S slots; and `refused N` with the fault of a making. Failed where a device failed or a read, with
-/// `noread`, or there was no memory, with `nomemory`, and where the line could not be written.
+/// Makes a file of this format with so many slots, of which the first hold the keys that the reader's lines name, after the mark of
+/// texts where they are texts, and says so: `made N`, or why not, by the first of these: `refused 2` where no file has so many slots,
+/// before anything is read; `line L` with the first line at fault where it names no key of the format or doesn't end, `twice L` where
+/// its key stands in a line above; `refused 9 M S` where M keys have no room in S slots; and `refused N` with the fault of a making.
+/// Failed where a device failed or a read, with `noread`, or there was no memory, with `nomemory`, and where the line could not be
+/// written.
 pub fn make_keys_on<R: Read, W: Write + Drop, D: Disk>(
     alloc: Global,
     reader: &mut R,
@@ -37,17 +40,19 @@ pub fn make_keys_on<R: Read, W: Write + Drop, D: Disk>(
     disk: &mut D,
     slots: u64,
     format: Format,
+    lines: Lines<'_>,
 ) -> Status
-    ensures told { (answer : Answer (Unit {0}) ListingFault) × IsListing format slots (R.remaining reader.old) (D.device disk.old) (D.device disk.new) answer
+    requires { HasPlaceFor format lines }
+    ensures told { (answer : Answer (Unit {0}) ListingFault) × IsListing format (named_by format lines.entry) slots (R.remaining reader.old) (D.device disk.old) (D.device disk.new) answer
         × IfErr answer (λ fault. IsToldFirst fault → disk.new ≡ disk.old)
         × Tells (W.contents writer.old) (W.contents writer.new) (listing_text slots answer) (listing_status answer) result }
     ensures uncalled { IsBadCount format slots → (reader.new ≡ reader.old) × (disk.new ≡ disk.old) }
     ensures safe { IsTrue (D.device disk.old).honest → (MayBeMade (D.device disk.old).medium.seen slots → ⊥) → WritesNothing (D.device disk.old) (D.device disk.new) }
-    ensures any_moment { IsTrue (D.device disk.old).honest → LeavesListed format slots (R.remaining reader.old) (D.device disk.old) (D.device disk.new) }
+    ensures any_moment { IsTrue (D.device disk.old).honest → LeavesListed format (named_by format lines.entry) slots (R.remaining reader.old) (D.device disk.old) (D.device disk.new) }
     ensures faults { (D.device disk.old).faults ≤ (D.device disk.new).faults }
     ensures honest { (D.device disk.new).honest ≡ (D.device disk.old).honest }
 {
-    let answer = make_listed(alloc, reader, disk, slots, format);
+    let answer = make_listed(alloc, reader, disk, slots, format, lines);
     tell_answer(writer, slots, answer)
 }
 
@@ -58,21 +63,23 @@ fn make_listed<R: Read, D: Disk>(
     disk: &mut D,
     slots: u64,
     format: Format,
+    lines: Lines<'_>,
 ) -> Result<(), ListingFault>
-    ensures made { OnOk result (MakesListed format slots (R.remaining reader.old) (D.device disk.old) (D.device disk.new)) }
-    ensures refused { IfErr result (IsListingFaultOf format slots (R.remaining reader.old) (D.device disk.old) (D.device disk.new)) }
+    requires { HasPlaceFor format lines }
+    ensures made { OnOk result (MakesListed format (named_by format lines.entry) slots (R.remaining reader.old) (D.device disk.old) (D.device disk.new)) }
+    ensures refused { IfErr result (IsListingFaultOf format (named_by format lines.entry) slots (R.remaining reader.old) (D.device disk.old) (D.device disk.new)) }
     ensures count { IsErrOf result (ListingFault.OfMaking MakeFault.BadCount) ↔ IsBadCount format slots }
     ensures unread { IsBadCount format slots → reader.new ≡ reader.old }
     ensures untouched { IfErr result (λ fault. IsToldFirst fault → disk.new ≡ disk.old) }
     ensures safe { IsTrue (D.device disk.old).honest → (MayBeMade (D.device disk.old).medium.seen slots → ⊥) → WritesNothing (D.device disk.old) (D.device disk.new) }
-    ensures any_moment { IsTrue (D.device disk.old).honest → LeavesListed format slots (R.remaining reader.old) (D.device disk.old) (D.device disk.new) }
+    ensures any_moment { IsTrue (D.device disk.old).honest → LeavesListed format (named_by format lines.entry) slots (R.remaining reader.old) (D.device disk.old) (D.device disk.new) }
     ensures faults { (D.device disk.old).faults ≤ (D.device disk.new).faults }
     ensures honest { (D.device disk.new).honest ≡ (D.device disk.old).honest }
 {
     if slots == 0 || slots > format.most_slots() {
         return Err(ListingFault::OfMaking(MakeFault::BadCount));
     }
-    let keys = match read_list(alloc, reader, format) {
+    let keys = match read_list(alloc, reader, format, lines) {
         Ok(keys) => keys,
         Err(fault) => return Err(ListingFault::OfList(fault)),
     };

@@ -1,14 +1,16 @@
 -- What is found in the slots of a file is what its set has.
 use Rattle.lz_slot.specs.declared.slot.SlotRead.TheVariants as read
-use Rattle.std.proofs.Common.{◌≡◌, ◌⊎◌, inl, inr, ⊎_elim, ℕ, zero, suc, ◌+◌, ◌*◌, ◌<◌, ◌≤◌, Bool, true, false, not, ◌&&◌, ◌||◌, ◌==◌, refl, sym, ap, ◌∙◌, subst, arith, List, ◌∷◌, length, take, Ok, Err, IsTrue, eq-eqb}
-use Rattle.std.proofs.lemmas.Bool.{cases_Bool, cases_eq, eqb-true, or_cases, Decides.{nat_tests}}
+use Rattle.std.proofs.Common.{◌≡◌, ◌⊎◌, inl, inr, ⊎_elim, ℕ, zero, suc, ◌+◌, ◌*◌, ◌<◌, ◌≤◌, Bool, true, false, not, ◌&&◌, ◌||◌, ◌==◌, refl, sym, ap, ◌∙◌, subst}
+use Rattle.std.proofs.{Common.{arith, List, ◌∷◌, length, take, Ok, Err, IsTrue, eq-eqb}, lemmas.Bool.{cases_Bool, cases_eq, eqb-true, or_cases}}
+use Rattle.std.proofs.lemmas.Bool.Decides.{nat_tests}
 use mathlib.Core.Bool.{true≢false, false≢true}
-use Rattle.lz_slot.specs.{Sets.{Keys}, Bytes.{Holds, format_of, header_body, header_read, open_byte, slot_at}, declared.{header.HeaderFault.{HeaderFault}, slot.SlotRead.{SlotRead}}}
+use Rattle.lz_slot.specs.{Sets.{Keys}, Bytes.{Holds, format_of, header_body, header_read, open_byte, slot_at}, declared.header.HeaderFault.{HeaderFault}}
+use Rattle.lz_slot.{specs.declared.slot.SlotRead.{SlotRead}, proofs.Files.ExactBytes.{header_reads_back}}
 use Rattle.lz_disk.{specs.{Images.{Medium, synced}, Devices.{Device, IsCall, IsTimely}}, proofs.Moments.{leaves_more}}
-use Rattle.lz_vault.specs.{Opens.{IsRefusedFor}, Renewals.{OnlySyncs}, Scans.{OnlyReads}, Vaults.{LeavesEither}, declared.opening.OpenFault.TheVariants.{Device as DeviceFailed, Memory}}
-use Rattle.lz_vault.proofs.Openings.{call_reads, read_before, refused}
-use Rattle.lz_slot.proofs.Files.ExactBytes.{header_reads_back}
-use Rattle.lazyset_set_commands.specs.{Founds.{HasNoForeign, IsFoundOf, found_below, is_foreign, texts_mark, with_slot}, declared.found.Found.{Found}}
+use Rattle.lz_vault.specs.{Opens.{IsRefusedFor}, Renewals.{OnlySyncs}, Scans.{OnlyReads}, Vaults.{LeavesEither}}
+use Rattle.lz_vault.{specs.declared.opening.OpenFault.TheVariants.{Device as DeviceFailed, Memory}, proofs.Openings.{call_reads, read_before, refused}}
+use Rattle.lazyset_file_commands.specs.Marks.{texts_mark}
+use Rattle.lazyset_set_commands.specs.{Founds.{HasNoForeign, IsFoundOf, found_below, is_foreign, with_slot}, declared.found.Found.{Found}}
 
 or_first : (a b : Bool) → a ≡ true → (a || b) ≡ true
 or_first a b is = rw is refl

@@ -10,7 +10,8 @@ use Rattle.lz_vault.specs.{Stages.{Suits}, Opens.{IsFaultOf, IsRefusedFor, MayOp
 use Rattle.lz_proto.specs.{Lines.{Items, Items.{nothing, line}, IsItem}, Sessions.{IsInput, Serves, session_text}}
 use Rattle.lz_proto.specs.declared.{request.Request.TheVariants.{Add}, reply.Reply.{Reply, TheVariants.{Yes, No, Full, Halted, Worn, OldFile}}, item.Item.{Item, TheVariants.{Asks}}}
 use Rattle.lz_proto.proofs.Texts.{one_list}
-use Rattle.lazyset_set_commands.specs.{PlainReplies.{PassAnswers}, Runs.{EachHolds, RepliesOfPass}, Founds.{IsFoundOf, texts_mark}, Marks.{FitsFor, HoldsSome, IsFit, IsOther, TellsOther, mark_line, marked, othernumbers_line, othertext_line, step_for}}
+use Rattle.lazyset_file_commands.specs.Marks.{texts_mark}
+use Rattle.lazyset_set_commands.specs.{PlainReplies.{PassAnswers}, Runs.{EachHolds, RepliesOfPass}, Founds.{IsFoundOf}, Marks.{FitsFor, HoldsSome, IsFit, IsOther, TellsOther, mark_line, marked, othernumbers_line, othertext_line, step_for}}
 use Rattle.lazyset_set_commands.specs.declared.marks.{Wanted.{Wanted, TheVariants.{Anything, Numbers, Texts, OlderTexts}}, Step.{Step, TheVariants.{Serve, Mark, OtherText, OtherNumbers}}}
 use Rattle.lazyset_file_commands.specs.{Tellings.{Tells}, declared.status.Status.{Status, TheVariants.{Refused}}}
 use Rattle.lazyset_set_commands.{specs.declared.found.Found.{Found}, proofs.{Openings.{opening_leaves, unwritten}, Runs.PlainRows.{same_is}}}

@@ -3,11 +3,8 @@ use Rattle.lz_slot.specs.declared.slot.SlotRead.TheVariants as read
 use Rattle.std.specs.Prelude.{◌≡◌, ◌≤◌, ℕ, zero, suc, Bool, true, false, not, ◌&&◌, ◌||◌, ◌==◌, nat_lt, Result, Ok, Err, Option, Some, None}
 use Rattle.lz_slot.specs.{Limits.{largest_number}, Sets.{Keys}, declared.slot.SlotRead.{SlotRead}}
 use Rattle.lz_disk.specs.declared.DeviceFault.{DeviceFault}
+use Rattle.lazyset_file_commands.specs.Marks.{texts_mark}
 use Rattle.lazyset_set_commands.specs.declared.found.Found.{Found}
-
--- the mark that keys are texts: kind 1 and value 0, so number 1 x 10^15 + 0 of room 15
-abbrev pub texts_mark : ℕ
-texts_mark = 15_001_000_000_000_000_000
 
 -- a key that no file of texts has: neither in room 0 nor this mark
 abbrev pub is_foreign : ℕ → Bool

@@ -3,9 +3,11 @@ use Rattle.std.specs.Prelude.{◌≡◌, ◌⊎◌, ◌≤◌, ℕ, Bool, true, 
 use Rattle.lz_slot.specs.{Sets.{Keys, after}, Bytes.{Holds, format_of}, declared.command.Command.TheVariants.{Add}}
 use Rattle.lz_disk.specs.Devices.{Device}
 use Rattle.lz_vault.specs.Renewals.{OnlySyncs}
-use Rattle.lazyset_file_commands.specs.{Refusals.{FailedOpen}, Tellings.{Tells}, declared.status.Status.{Status, TheVariants.{Refused}}}
-use Rattle.lazyset_set_commands.specs.{Founds.{HasNoForeign, texts_mark}, PlainReplies.{PassMayAnswer}, Runs.{EachHolds, SessionOfSet}, Services.{RanService, RefusedService}}
-use Rattle.lazyset_set_commands.specs.declared.marks.{Wanted.{Wanted, TheVariants.{Anything, Numbers, Texts, OlderTexts}}, Step.{Step, TheVariants.{Serve, Mark, OtherText, OtherNumbers}}}
+use Rattle.lazyset_file_commands.specs.{Marks.{texts_mark}, Refusals.{FailedOpen}, Tellings.{Tells}, declared.status.Status.{Status, TheVariants.{Refused}}}
+use Rattle.lazyset_set_commands.specs.{Founds.{HasNoForeign}, PlainReplies.{PassMayAnswer}, Runs.{EachHolds, SessionOfSet}}
+use Rattle.lazyset_set_commands.specs.{Services.{RanService, RefusedService}, declared.marks.Wanted.{Wanted}}
+use Rattle.lazyset_set_commands.specs.declared.marks.{Wanted.TheVariants.{Anything, Numbers, Texts, OlderTexts}, Step.{Step}}
+use Rattle.lazyset_set_commands.specs.declared.marks.Step.TheVariants.{Serve, Mark, OtherText, OtherNumbers}
 
 -- the line that adds it
 abbrev pub mark_line : List ℕ

@@ -9,13 +9,12 @@ ghost use Rattle.lz_vault.specs.Opens.{IsRefusedFor};
 ghost use Rattle.lz_vault.specs.Renewals.{OnlySyncs};
 ghost use Rattle.lz_vault.specs.Scans.{OnlyReads, SaysPiece};
 ghost use Rattle.lz_vault.specs.declared.opening.OpenFault.{OpenFault};
-ghost use Rattle.lazyset_set_commands.specs.Founds.{TellsFound, found_below, is_foreign, texts_mark, with_key, with_slot};
+ghost use Rattle.lazyset_file_commands.specs.Marks.{texts_mark};
+ghost use Rattle.lazyset_set_commands.specs.Founds.{TellsFound, found_below, is_foreign, with_key, with_slot};
 
+use lazyset_file_commands::TEXTS_MARK;
 use lz_disk::{DeviceFault, Disk};
 use lz_slot::{Format, Header, Key, MAX_NUMBER, SlotRead, read_header, read_slot};
-
-// The rank of the mark that keys are texts: number 1,000,000,000,000,000 of room 15.
-const TEXTS_MARK: u64 = 15_001_000_000_000_000_000;
 
 // The slots that are read at once.
 const SLOTS_AT_ONCE: u64 = 1_024;

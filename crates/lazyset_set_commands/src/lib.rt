@@ -9,8 +9,9 @@ mod serving;
 mod sorting;
 
 pub use lazyset_file_commands::{
-    MOST_JUDGED, Shelf, Shown, Standing, Status, check_of_on, copy_on, format_number, grow_on,
-    judge_on, make_keys_on, make_on, rehearse_on, renew_on, survey_on, torn_slots,
+    Lines, MOST_JUDGED, Shelf, Shown, Standing, Status, ask_shape_on, check_of_on, copy_on,
+    format_number, grow_on, judge_on, make_keys_on, make_on, rehearse_on, renew_on, survey_on,
+    tell, torn_slots,
 };
 pub use lz_serve::{Listener, ServeOptions};
 pub use marks::{Wanted, serve_kept_on};

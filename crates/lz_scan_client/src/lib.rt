@@ -1,10 +1,12 @@
-//! A client's scan of all rooms of a service that speaks Redis's protocol: what it asks, page by page, and the keys that it is told.
+//! A client of a service that speaks Redis's protocol: it asks for the shape of the service's file, and scans all rooms, page by page.
 #![tactic(auto)]
 
 mod fault;
 mod replies;
 mod scanning;
+mod shape;
 mod told;
 
 pub use fault::ScanFault;
 pub use scanning::scan_rooms;
+pub use shape::{Shape, ask_shape};

@@ -10,8 +10,8 @@ use Rattle.lz_proto.specs.declared.{item.Item.TheVariants.{Asks, Faulty}, reply.
 use Rattle.lz_proto.{specs.{declared.end.End.{End}, Lines.{line, nothing}, Pieces.{Reads}, Sessions.{Answered, Serves, session_text}}, proofs.LineReads.{item_read}}
 use Rattle.lz_proto.proofs.Texts.{only}
 use Rattle.lz_board.specs.declared.pass.Pass.{Pass}
-use Rattle.lz_serve.specs.declared.{line.Line.{Line}, language.Language.TheVariants.{Lines, Frames}, turn.Turn.{Turn, TheVariants.{Asks as asks, Says as says}}}
-use Rattle.lz_serve.specs.{Grants.{Grant, IsOfLine, key_asked}, Lines.{IsFree, awaited}, Listings.{Listing}, Exchanges.{CameFrom, Exchange}}
+use Rattle.lz_serve.specs.declared.{line.Line.{Line}, language.Language.{Language, TheVariants.{Lines, Frames}}, turn.Turn.{Turn, TheVariants.{Asks as asks, Says as says}}}
+use Rattle.lz_serve.specs.{Grants.{Grant, IsOfLine, key_asked}, Lines.{IsFree, awaited}, Listings.{Listing}, Exchanges.{CameFrom, Exchange, read_as}}
 use Rattle.lz_serve.specs.{Conversations.{AreTold, IsAt, IsTold, Rests, Talk, more, nothing as none_told}, LineSessions.{IsGranted, LinesCame, refused_line}}
 use Rattle.lz_serve.proofs.LineSessions.{lines_are_sessions}
 use Rattle.lz_resp.specs.declared.{form.Form.TheVariants.{Added}, naming.Naming.{Naming}}
@@ -126,7 +126,7 @@ pub record Stands (grants : List Grant) (text : List ℕ) (t : Talk) : Type 0 wh
 
 pub session : (grants : List Grant) (text : List ℕ) (t : Talk) → t.spoken ≡ Lines → t.stops ≡ false → IsAt any 1 grants text [] t → Stands grants text t
 session grants text t spoken goes at =
-    let s = lines_are_sessions any 1 grants text [] t spoken at in
+    let s = lines_are_sessions any 1 grants text [] t (ap (λ (l : Language). read_as l text) spoken) at in
     let none = s.goes goes in
     let said : s.said ≡ t.unsent = sym (append-nil s.said) ∙ ap (λ (l : List Item). s.said ++ flat_map refused_line l) (sym none) ∙ sym s.told in
     record {

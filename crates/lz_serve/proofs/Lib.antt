@@ -31,6 +31,8 @@ pub mod OwnLines
 pub mod OwnLinesRows
 pub mod ExchangesMore
 pub mod Cuts
+pub mod Languages
+pub mod LanguageRows
 pub mod Standings
 pub mod LineSessions
 pub mod TalksOnStreams

@@ -10,8 +10,9 @@ use Rattle.lz_proto.specs.declared.{request.Request.{Request, TheVariants.{Add, 
 use Rattle.lz_proto.specs.{declared.{reply.Reply.{Reply}, end.End.{End}}, Sessions.{Answered, reply_text}, Steps.{end_after}}
 use Rattle.lz_proto.proofs.Serving.{answered_more, fault_answered, request_answered}
 use Rattle.lz_serve.specs.declared.{language.Language.{Language}, reader.Reader.{Reader}, turn.{Wording.TheVariants.{Line}, Turn.{Turn}}}
-use Rattle.lz_serve.specs.{Exchanges.{CameFrom, Exchange, asks, end_by, of_line, refused as refused_of, taken, turn_of}, Conversations.{AreTold, IsTold, more, nothing}, Grants.{Grant}}
-use Rattle.lz_serve.specs.{Listings.{Listing}, LineSessions.{IsGranted, LinesAreSessions, LinesCame, refused_line}}
+use Rattle.lz_serve.specs.Exchanges.{CameFrom, CameOfAll, Exchange, asks, end_by, of_line, read_as, refused as refused_of, taken, turn_of}
+use Rattle.lz_serve.specs.{Conversations.{AreTold, IsTold, more, nothing}, Grants.{Grant}}
+use Rattle.lz_serve.{specs.{Listings.{Listing}, LineSessions.{IsGranted, LinesAreSessions, LinesCame, refused_line}}, proofs.Languages.{untold_yet}}
 
 -- the items of a front of exchanges
 record Fronts (f : Item → Exchange) (items : List Item) (xs ys : List Exchange) : Type 0 where
@@ -213,16 +214,19 @@ told_so L _ _ _ _ _ (more connection exchanges grants text exchange its said end
       }
 ]
 
-lines_came : (text : List ℕ) (exchanges : List Exchange) (r : Option Reader) → CameFrom language.Lines text exchanges r → (items : List Item) × LinesCame text items r × (exchanges ≡ map of_line items)
-lines_came text exchanges (Some (reader.Lines kept)) came = came.1
-lines_came text exchanges (Some (reader.Frames place)) came = absurd (let apart = came.1 in cc)
-lines_came text exchanges None came = came
+lines_came : (spoken : Language) (text : List ℕ) (exchanges : List Exchange) (r : Option Reader) → read_as spoken text ≡ language.Lines → CameFrom spoken text exchanges r → (items : List Item) × LinesCame text items r × (exchanges ≡ map of_line items)
+lines_came spoken text exchanges (Some (reader.Lines kept)) lines came = came.1
+lines_came spoken text exchanges (Some (reader.Frames place)) lines came =
+    let apart : ◌≡◌ {A = Language} language.Lines (language.Frames came.0) = sym lines ∙ came.1 in absurd (cc)
+lines_came spoken text exchanges (Some (reader.Unread naming)) lines came =
+    let apart : ◌≡◌ {A = Language} language.Lines (language.Either naming) = sym lines ∙ untold_yet spoken naming text came.0 came.1 in absurd (cc)
+lines_came spoken text exchanges None lines came = subst (λ (l : Language). CameOfAll l text exchanges) lines came
 
 pub lines_are_sessions : (L : Listing → Type 0) → LinesAreSessions L
-lines_are_sessions L connection grants text sent t spoken at =
+lines_are_sessions L connection grants text sent t lines at =
     let kept = at.came.0 in
     let cut = at.came.1 in
-    let came = lines_came text (kept ++ cut) t.reader (subst (λ (l : Language). CameFrom l text (kept ++ cut) t.reader) spoken at.came.2) in
+    let came = lines_came t.spoken text (kept ++ cut) t.reader lines at.came.2 in
     let f = fronts of_line came.0 kept cut (sym came.2) in
     let are : at.done ++ at.left ≡ map of_line f.front ++ taken t.stops (map of_line f.rest) =
     at.came.3 ∙ ap (λ (l : List Exchange). l ++ taken t.stops cut) (sym f.first) ∙ ap (λ (l : List Exchange). map of_line f.front ++ taken t.stops l) (sym f.others) in

@@ -8,46 +8,93 @@ use Rattle.std.proofs.Common.{◌≡◌, ℕ, zero, suc, Bool, List, [], ◌∷�
 use Rattle.std.proofs.{Common.{append_assoc, length-append, arith}, Math.Seq.{take-append-add}, lemmas.List.{append-nil, take-append-drop}}
 use Rattle.lz_proto.specs.{declared.{request.Request.{Request}, reply.Reply.{Reply}, end.End.{End, TheVariants.{Done, Quit}}}, Pieces.{faults_of}}
 use Rattle.lz_proto.specs.Lines.{Items as LineItems}
-use Rattle.lz_resp.specs.{declared.query.Query.{Query}, Keys.{at_first}, Queries.{query_text}}
+use Rattle.lz_resp.specs.{declared.{naming.Naming.{Naming}, query.Query.{Query}}, Keys.{at_first}, Pieces.{start}, Queries.{query_text}}
 use Rattle.lz_serve.specs.declared.{language.Language.{Language}, line.Line.{Line}, reader.Reader.{Reader}, turn.{Turn.{Turn}, Wording.{Wording}}}
-use Rattle.lz_serve.specs.Exchanges.{CameFrom, EndsWith, Exchange, ReadsMore, asks, end_by, ends, lists, of_frame, of_line, refused, requests_in, says, taken, tells, turn_of}
-use Rattle.lz_serve.specs.{Exchanges.{worded}, Grants.{Grant}, Listings.{Listing, listing_end, listing_text}, Lines.{asked_by, awaited, replies_of}}
+use Rattle.lz_serve.specs.Exchanges.{CameFrom, CameOfAll, EndsWith, Exchange, ReadsMore, ReadsOn, asks, end_by, ends, lists, of_frame, of_line, read_as, refused, requests_in}
+use Rattle.lz_serve.specs.Exchanges.{says, taken, tells, turn_of, unread, worded}
+use Rattle.lz_serve.specs.{Grants.{Grant}, Listings.{Listing, listing_end, listing_text}, Lines.{asked_by, awaited, replies_of}}
 use Rattle.lz_serve.specs.Conversations.{AreFor, AreTold, Fed, Finished, IsAt, IsPageFor, IsTold, Noted, Paged, Talk, Told, more, nothing_yet, query_end}
 use Rattle.lz_serve.specs.{Conversations.{replies_in, nothing as none_told, stopped}, Refusals.{TakenFrom, cut_turns, kept_waiting}}
 use Rattle.lz_serve.proofs.{Cuts.{cut, taken_later}, ExchangesMore.{map_more, requests_more, taken_more}}
-use Rattle.lz_serve.proofs.LineReplies.{asked_more, asked_noted}
+use Rattle.lz_serve.proofs.{Languages.{stays_read, untold}, LineReplies.{asked_more, asked_noted}}
 
--- a piece more has come
-came_more : (spoken : Language) (text piece : List ℕ) (xs ys : List Exchange) (before after : Reader) → CameFrom spoken text xs (Some before) → ReadsMore before piece ys after → CameFrom spoken (text ++ piece) (xs ++ ys) (Some after)
-came_more spoken text piece xs ys (reader.Lines kept) (reader.Lines left) (is, (items, reads, are)) (others, feeds, gives) = (
-  is,
+-- a piece more has come of a text whose language is known
+came_on : (spoken : Language) (text piece : List ℕ) (xs ys : List Exchange) (before after : Reader) → CameFrom spoken text xs (Some before) → ReadsOn before piece ys after → ((naming : Naming) → before ≡ reader.Unread naming → ⊥) → CameFrom spoken (text ++ piece) (xs ++ ys) (Some after)
+came_on spoken text piece xs ys (reader.Lines kept) (reader.Lines left) (is, (items, reads, are)) (others, feeds, gives) known = (
+  stays_read spoken language.Lines text piece (λ naming e. absurd cc) is,
   (
     items ++ others,
     lines.reads_more text piece items others kept left reads feeds,
     ap (λ (l : List Exchange). l ++ ys) are ∙ ap (λ (l : List Exchange). map of_line items ++ l) gives ∙ sym (map_more of_line items others),
   ),
 )
-came_more spoken text piece xs ys (reader.Frames kept) (reader.Frames left) (naming, is, (items, reads, are)) (others, feeds, gives) = (
+came_on spoken text piece xs ys (reader.Frames kept) (reader.Frames left) (naming, is, (items, reads, are)) (others, feeds, gives) known = (
   naming,
-  is,
+  stays_read spoken (language.Frames naming) text piece (λ n e. absurd cc) is,
   (
     items ++ others,
     frames.reads_more (at_first naming) text piece items others kept left reads feeds,
     ap (λ (l : List Exchange). l ++ ys) are ∙ ap (λ (l : List Exchange). map of_frame items ++ l) gives ∙ sym (map_more of_frame items others),
   ),
 )
-came_more spoken text piece xs ys (reader.Lines kept) (reader.Frames left) came reads = absurd reads
-came_more spoken text piece xs ys (reader.Frames kept) (reader.Lines left) came reads = absurd reads
+came_on spoken text piece xs ys (reader.Lines kept) (reader.Frames left) came reads known = absurd reads
+came_on spoken text piece xs ys (reader.Lines kept) (reader.Unread left) came reads known = absurd reads
+came_on spoken text piece xs ys (reader.Frames kept) (reader.Lines left) came reads known = absurd reads
+came_on spoken text piece xs ys (reader.Frames kept) (reader.Unread left) came reads known = absurd reads
+came_on spoken text piece xs ys (reader.Unread naming) after came reads known = absurd (known naming refl)
+
+-- what came of a text that is read as lines, or as frames, came of it in either language
+came_so_read : (naming : Naming) (text : List ℕ) (xs : List Exchange) (l : Language) (after : Reader) → ((n : Naming) → l ≡ language.Either n → ⊥) → read_as (language.Either naming) text ≡ l → CameFrom l text xs (Some after) → CameFrom (language.Either naming) text xs (Some after)
+came_so_read naming text xs language.Lines (reader.Lines kept) known is came = (is, came.1)
+came_so_read naming text xs language.Lines (reader.Frames place) known is came = absurd (let apart = came.1 in cc)
+came_so_read naming text xs language.Lines (reader.Unread n) known is came = absurd (let apart = came.0 in cc)
+came_so_read naming text xs (language.Frames n) (reader.Lines kept) known is came = absurd (let apart = came.0 in cc)
+came_so_read naming text xs (language.Frames n) (reader.Frames place) known is came = (came.0, is ∙ came.1, came.2)
+came_so_read naming text xs (language.Frames n) (reader.Unread m) known is came = absurd (let apart = came.0 in cc)
+came_so_read naming text xs (language.Either n) after known is came = absurd (known n refl)
+
+nothing_of_lines : CameFrom language.Lines [] [] (Some (reader.Lines (Some [])))
+nothing_of_lines = (refl, ([], (refl, λ rest items its. its), refl))
+
+nothing_of_frames : (naming : Naming) → CameFrom (language.Frames naming) [] [] (Some (reader.Frames (Some (start naming))))
+nothing_of_frames naming = (naming, refl, ([], (frames.step_empty (at_first naming) [] refl, λ rest items its. its), refl))
+
+-- the first piece has come, in the language that it tells
+module _ (naming : Naming) (ys : List Exchange) (after : Reader) where
+  came_first : (piece : List ℕ) (l : Language) → read_as (language.Either naming) piece ≡ l → ReadsOn (unread l) piece ys after → CameFrom (language.Either naming) piece ys (Some after)
+  came_first piece language.Lines is reads =
+      came_so_read naming piece ys language.Lines after (λ n e. absurd cc) is (came_on language.Lines [] piece [] ys (reader.Lines (Some [])) after nothing_of_lines reads (λ n e. absurd cc))
+  came_first piece (language.Frames n) is reads =
+      came_so_read naming piece ys (language.Frames n) after (λ m e. absurd cc) is (came_on (language.Frames n) [] piece [] ys (reader.Frames (Some (start n))) after (nothing_of_frames n) reads (λ m e. absurd cc))
+  came_first piece (language.Either n) is (same, none) =
+      let (nothing, its) = untold naming n piece is in
+      subst (λ (r : Reader). CameFrom (language.Either naming) piece ys (Some r)) (sym same) (ap (λ (m : Naming). language.Either m) its, nothing, none)
+
+-- a piece more has come
+came_more : (spoken : Language) (text piece : List ℕ) (xs ys : List Exchange) (before after : Reader) → CameFrom spoken text xs (Some before) → ReadsMore before piece ys after → CameFrom spoken (text ++ piece) (xs ++ ys) (Some after)
+came_more spoken text piece xs ys (reader.Lines kept) after came (begun, begins, reads) =
+    came_on spoken text piece xs ys (reader.Lines kept) after came (subst (λ (r : Reader). ReadsOn r piece ys after) begins reads) (λ n e. absurd cc)
+came_more spoken text piece xs ys (reader.Frames kept) after came (begun, begins, reads) =
+    came_on spoken text piece xs ys (reader.Frames kept) after came (subst (λ (r : Reader). ReadsOn r piece ys after) begins reads) (λ n e. absurd cc)
+came_more spoken text piece xs ys (reader.Unread naming) after (is, nothing, none) (begun, begins, reads) =
+    let first = came_first naming ys after piece (read_as (language.Either naming) piece) refl (subst (λ (r : Reader). ReadsOn r piece ys after) begins reads) in
+    let texts : piece ≡ text ++ piece = ap (λ (t : List ℕ). t ++ piece) (sym nothing) in
+    let all : ys ≡ xs ++ ys = ap (λ (l : List Exchange). l ++ ys) (sym none) in
+    subst (λ (l : Language). CameFrom l (text ++ piece) (xs ++ ys) (Some after)) (sym is)
+    (subst (λ (t : List ℕ). CameFrom (language.Either naming) t (xs ++ ys) (Some after)) texts (subst (λ (l : List Exchange). CameFrom (language.Either naming) piece l (Some after)) all first))
 
 -- the text has ended
 came_whole : (spoken : Language) (text : List ℕ) (xs ys : List Exchange) (before : Reader) → CameFrom spoken text xs (Some before) → EndsWith before ys → CameFrom spoken text (xs ++ ys) None
 came_whole spoken text xs ys (reader.Lines kept) (is, (items, reads, are)) (fault, at_end, gives) =
     let its : LineItems text (items ++ faults_of fault) = subst (λ (t : List ℕ). LineItems t (items ++ faults_of fault)) (append-nil text) (lines.items_end text items kept fault reads at_end) in
-    subst (λ (l : Language). CameFrom l text (xs ++ ys) None) (sym is)
+    subst (λ (l : Language). CameOfAll l text (xs ++ ys)) (sym is)
     (items ++ faults_of fault, its, ap (λ (l : List Exchange). l ++ ys) are ∙ ap (λ (l : List Exchange). map of_line items ++ l) gives ∙ sym (map_more of_line items (faults_of fault)))
 came_whole spoken text xs ys (reader.Frames kept) (naming, is, (items, reads, are)) none =
-    subst (λ (l : Language). CameFrom l text (xs ++ ys) None) (sym is)
+    subst (λ (l : Language). CameOfAll l text (xs ++ ys)) (sym is)
     (items, frames.items_end (at_first naming) text items kept reads, ap (λ (l : List Exchange). xs ++ l) none ∙ append-nil xs ∙ are)
+came_whole spoken text xs ys (reader.Unread naming) (is, nothing, are) none =
+    subst (λ (l : Language). CameOfAll (read_as l text) text (xs ++ ys)) (sym is)
+    (subst (λ (t : List ℕ). CameOfAll (read_as (language.Either naming) t) t (xs ++ ys)) (sym nothing) (refl, ap (λ (l : List Exchange). l ++ ys) are ∙ none))
 
 -- the same of what was taken of it
 taken_is : (s : Bool) (xs kept cut ys : List Exchange) → xs ≡ kept ++ taken s cut → xs ++ taken s ys ≡ kept ++ taken s (cut ++ ys)
@@ -102,8 +149,9 @@ for_many connection told [] (g ∷ grants) are = absurd are
 for_many connection told (request ∷ requests) [] are = absurd are
 
 pub begins : (L : Listing → Type 0) (connection : ℕ) (spoken : Language) → IsAt L connection [] [] [] (nothing_yet spoken)
-begins L connection language.Lines = record { done = []; left = []; came = ([], [], (refl, ([], (refl, λ rest items its. its), refl)), refl); turns = refl; asked = refl; told = none_told connection; counted = refl }
-begins L connection (language.Frames naming) = record { done = []; left = []; came = ([], [], (naming, refl, ([], (frames.step_empty (at_first naming) [] refl, λ rest items its. its), refl)), refl); turns = refl; asked = refl; told = none_told connection; counted = refl }
+begins L connection language.Lines = record { done = []; left = []; came = ([], [], nothing_of_lines, refl); turns = refl; asked = refl; told = none_told connection; counted = refl }
+begins L connection (language.Frames naming) = record { done = []; left = []; came = ([], [], nothing_of_frames naming, refl); turns = refl; asked = refl; told = none_told connection; counted = refl }
+begins L connection (language.Either naming) = record { done = []; left = []; came = ([], [], (refl, refl, refl), refl); turns = refl; asked = refl; told = none_told connection; counted = refl }
 
 module _ (L : Listing → Type 0) (connection : ℕ) (grants : List Grant) (text sent : List ℕ) (t : Talk) (at : IsAt L connection grants text sent t) where
   pub fed : (piece : List ℕ) (new : Talk) → Fed piece t new → IsAt L connection grants (text ++ piece) sent new

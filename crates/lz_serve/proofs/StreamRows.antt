@@ -6,8 +6,8 @@ use Rattle.std.proofs.Common.{◌≡◌, ℕ, true, false, List, [], ◌∷◌, 
 use Rattle.std.specs.List.{flat_map}
 use mathlib.Core.Bool.{true≢false}
 use Rattle.lz_proto.{specs.{declared.{item.Item.{Item}, end.End.{End}}, Lines.{nothing}, Pieces.{Reads}, Sessions.{Answered}}, proofs.Texts.{only, some_items}}
-use Rattle.lz_serve.specs.{Grants.{Grant}, Listings.{Listing}, declared.{language.Language.TheVariants.{Lines}, reader.Reader.{Reader}}}
-use Rattle.lz_serve.specs.{LineSessions.{IsGranted, LinesCame, refused_line}, Streams.{IsFresh, MayTake, Receives, Takes, Traffic}}
+use Rattle.lz_serve.specs.{Grants.{Grant}, Listings.{Listing}, declared.{language.Language.{Language, TheVariants.{Lines}}, reader.Reader.{Reader}}}
+use Rattle.lz_serve.specs.{Exchanges.{read_as}, LineSessions.{IsGranted, LinesCame, refused_line}, Streams.{IsFresh, MayTake, Receives, Takes, Traffic}}
 use Rattle.lz_serve.proofs.LineSessions.{lines_are_sessions}
 
 abbrev traffic : List ℕ → List ℕ → Traffic
@@ -49,12 +49,13 @@ silent connection grants (item ∷ done) written ended none answered = absurd (c
 unread : (items : List Item) (r : Option Reader) → is_none r ≡ false → LinesCame [] items r → items ≡ []
 unread items (Some (reader.Lines kept)) goes came = no_items items kept came
 unread items (Some (reader.Frames place)) goes came = absurd came
+unread items (Some (reader.Unread naming)) goes came = absurd came
 unread items None goes came = absurd (true≢false goes)
 
 -- something is told to a client that has sent nothing
 told_unasked : (P : List Grant → Type 0) (L : Listing → Type 0) (text : List ℕ) → MayTake P L (Some (traffic [] [])) (1 ∷ text) → ⊥
 told_unasked P L text (connection, t, (grants, may, at, spoken, goes), rest, begins) =
-    let s = lines_are_sessions L connection grants [] [] t spoken at in
+    let s = lines_are_sessions L connection grants [] [] t (ap (λ (l : Language). read_as l []) spoken) at in
     let none : s.done ++ (s.refused ++ s.left) ≡ [] = unread (s.done ++ (s.refused ++ s.left)) t.reader goes s.came in
     let said : s.said ≡ [] = silent connection grants s.done s.said s.ended (empty_front s.done (s.refused ++ s.left) none) s.answered in
     let refused : s.refused ≡ [] = empty_front s.refused s.left (empty_back s.done (s.refused ++ s.left) none) in

@@ -4,7 +4,7 @@ use Rattle.lz_resp.specs.declared.item.Item.TheVariants as frame
 use Rattle.lz_serve.specs.declared.language.Language.TheVariants as language
 use Rattle.lz_serve.specs.declared.turn.Turn.TheVariants as turn
 use Rattle.lz_serve.specs.declared.reader.Reader.TheVariants as reader
-use Rattle.std.specs.{Prelude.{◌≡◌, ℕ, Bool, true, false, List, [], ◌∷◌, ◌++◌, codes, length, map, Option, Some, None, if◌then◌else◌}, List.{flat_map, list_any}}
+use Rattle.std.specs.{Prelude.{◌≡◌, ℕ, Bool, true, false, List, [], ◌∷◌, ◌++◌, codes, length, map, ◌==◌, Option, Some, None, if◌then◌else◌}, List.{flat_map, list_any}}
 use Rattle.lz_proto.specs.declared.{request.Request.{Request, TheVariants.{Quit}}, reply.Reply.{Reply}, item.Item.{Item as LineItem}, end.End.{End}}
 use Rattle.lz_proto.specs.{declared.{end.End.TheVariants.{Done, Halted}, fault.Bad.{Bad}}, Lines.{Items as LineItems}}
 use Rattle.lz_proto.specs.{Pieces.{Ends, Feeds as FeedsLines, Reads as ReadsLines, faults_of}, Sessions.{bad_text, reply_text}}
@@ -83,29 +83,59 @@ pub record Pending : Type 0 where
 abbrev pub adding : List Exchange → Pending → Pending
 adding exchanges p = record p { turns = p.turns ++ map turn_of (taken p.stops exchanges); waiting = p.waiting ++ requests_in (taken p.stops exchanges) }
 
+-- the language in which a text is read: of either language it is frames where it begins with `*`, and else lines
+abbrev pub read_as : Language → List ℕ → Language
+read_as (language.Either naming) (byte ∷ text) = if byte == 0x2a then language.Frames naming else language.Lines
+read_as spoken text = spoken
+
 -- no text has come yet
 abbrev pub unread : Language → Reader
 unread language.Lines = reader.Lines (Some [])
 unread (language.Frames naming) = reader.Frames (Some (start naming))
+unread (language.Either naming) = reader.Unread naming
+
+-- the first piece of a text, which may be empty, tells its language
+abbrev pub Begun : Reader → List ℕ → Reader → Type 0
+Begun (reader.Unread naming) piece new = new ≡ unread (read_as (language.Either naming) piece)
+Begun old piece new = new ≡ old
+
+-- a piece of the text gives these exchanges, in the language that it or one before it has told, or none where nothing has come
+abbrev pub ReadsOn : Reader → List ℕ → List Exchange → Reader → Type 0
+ReadsOn (reader.Lines old) piece exchanges (reader.Lines new) = (items : List LineItem) × FeedsLines old piece items new × (exchanges ≡ map of_line items)
+ReadsOn (reader.Frames old) piece exchanges (reader.Frames new) = (items : List FrameItem) × FeedsFrames old piece items new × (exchanges ≡ map of_frame items)
+ReadsOn (reader.Unread naming) piece exchanges new = (new ≡ reader.Unread naming) × (exchanges ≡ [])
+ReadsOn old piece exchanges new = ⊥
 
 -- a piece of the text gives these exchanges
 abbrev pub ReadsMore : Reader → List ℕ → List Exchange → Reader → Type 0
-ReadsMore (reader.Lines old) piece exchanges (reader.Lines new) = (items : List LineItem) × FeedsLines old piece items new × (exchanges ≡ map of_line items)
-ReadsMore (reader.Frames old) piece exchanges (reader.Frames new) = (items : List FrameItem) × FeedsFrames old piece items new × (exchanges ≡ map of_frame items)
-ReadsMore old piece exchanges new = ⊥
+ReadsMore old piece exchanges new = (begun : Reader) × Begun old piece begun × ReadsOn begun piece exchanges new
 
 -- the text's end gives these: a line that has none is a fault, and of a frame nothing comes
 abbrev pub EndsWith : Reader → List Exchange → Type 0
 EndsWith (reader.Lines kept) exchanges = (fault : Option Bad) × Ends kept fault × (exchanges ≡ map of_line (faults_of fault))
-EndsWith (reader.Frames place) exchanges = exchanges ≡ []
+EndsWith other exchanges = exchanges ≡ []
 
--- The exchanges are those of the text in its language, up to what the reader keeps of it; none is left where the text has ended.
+-- the exchanges are those of a whole text in this language; where that isn't known nothing has come
+abbrev pub CameOfAll : Language → List ℕ → List Exchange → Type 0
+CameOfAll language.Lines text exchanges = (items : List LineItem) × LineItems text items × (exchanges ≡ map of_line items)
+CameOfAll (language.Frames naming) text exchanges = (items : List FrameItem) × FrameItems (at_first naming) text items × (exchanges ≡ map of_frame items)
+CameOfAll (language.Either naming) text exchanges = (text ≡ []) × (exchanges ≡ [])
+
+-- The exchanges are those of the text in the language in which it is read, up to what the reader keeps of it; none is left where the text has ended.
 abbrev pub CameFrom : Language → List ℕ → List Exchange → Option Reader → Type 0
-CameFrom spoken text exchanges (Some (reader.Lines kept)) = (spoken ≡ language.Lines) × ((items : List LineItem) × ReadsLines text items kept × (exchanges ≡ map of_line items))
+CameFrom spoken text exchanges (Some (reader.Lines kept)) =
+    (read_as spoken text ≡ language.Lines) × ((items : List LineItem) × ReadsLines text items kept × (exchanges ≡ map of_line items))
 CameFrom spoken text exchanges (Some (reader.Frames place)) =
-    (naming : Naming) × (spoken ≡ language.Frames naming) × ((items : List FrameItem) × ReadsFrames (record { state = at_first naming; text = text }) items place × (exchanges ≡ map of_frame items))
-CameFrom language.Lines text exchanges None = (items : List LineItem) × LineItems text items × (exchanges ≡ map of_line items)
-CameFrom (language.Frames naming) text exchanges None = (items : List FrameItem) × FrameItems (at_first naming) text items × (exchanges ≡ map of_frame items)
+    (naming : Naming) × (read_as spoken text ≡ language.Frames naming)
+    × ((items : List FrameItem) × ReadsFrames (record { state = at_first naming; text = text }) items place × (exchanges ≡ map of_frame items))
+CameFrom spoken text exchanges (Some (reader.Unread naming)) = (spoken ≡ language.Either naming) × (text ≡ []) × (exchanges ≡ [])
+CameFrom spoken text exchanges None = CameOfAll (read_as spoken text) text exchanges
+
+-- What comes of a text in either language comes of it in the one in which it is read.
+abbrev pub EitherIsAsRead : Type 0
+EitherIsAsRead =
+    (spoken : Language) (text : List ℕ) (exchanges : List Exchange) (r : Option Reader) → CameFrom spoken text exchanges r
+    → CameFrom (read_as spoken text) text exchanges r
 
 -- the text of replies that are worded so
 abbrev pub worded : Wording → List Reply → List ℕ

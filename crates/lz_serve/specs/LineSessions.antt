@@ -4,7 +4,7 @@ use Rattle.std.specs.{Prelude.{◌≡◌, ℕ, suc, false, List, [], ◌∷◌, 
 use Rattle.lz_proto.specs.declared.{request.Request.{Request, TheVariants.{Quit}}, item.Item.{Item, TheVariants.{Asks, Faulty}}, reply.Reply.{Reply}, end.End.{End}}
 use Rattle.lz_proto.specs.{Lines.{Items}, Pieces.{Reads}, Sessions.{Answered, bad_text}}
 use Rattle.lz_serve.specs.{declared.{language.Language.TheVariants.{Lines}, reader.Reader.{Reader}, turn.Wording.TheVariants.{Line}}, Conversations.{IsAt, Talk}}
-use Rattle.lz_serve.specs.{Exchanges.{refusal}, Grants.{Grant, IsOfLine}, Listings.{Listing}}
+use Rattle.lz_serve.specs.{Exchanges.{read_as, refusal}, Grants.{Grant, IsOfLine}, Listings.{Listing}}
 
 -- One reply more was granted: this one, to this request, which is the line after as many as were granted replies before, on this connection.
 abbrev pub IsGranted : ℕ → List Grant → Request → Reply → List Grant → Type 0
@@ -13,7 +13,7 @@ IsGranted connection old request reply new = (g : Grant) × (new ≡ old ++ g �
 -- the items are those of the text, up to what the reader keeps of it; none is left where the text has ended
 abbrev pub LinesCame : List ℕ → List Item → Option Reader → Type 0
 LinesCame text items (Some (reader.Lines kept)) = Reads text items kept
-LinesCame text items (Some (reader.Frames place)) = ⊥
+LinesCame text items (Some _) = ⊥
 LinesCame text items None = Items text items
 
 -- what is told of a line that is refused: a request, `quit`, or a fault, which is told as ever
@@ -38,6 +38,8 @@ pub record IsSession (connection : ℕ) (grants : List Grant) (text sent : List 
   pub ends : refused ≡ [] → ended ≡ t.ended
   pub goes : t.stops ≡ false → refused ≡ []
 
--- A conversation of lines stands within a session, whatever is so of pages.
+-- A conversation whose text is read as lines stands within a session, whatever is so of pages.
 abbrev pub LinesAreSessions : (Listing → Type 0) → Type 0
-LinesAreSessions L = (connection : ℕ) (grants : List Grant) (text sent : List ℕ) (t : Talk) → t.spoken ≡ Lines → IsAt L connection grants text sent t → IsSession connection grants text sent t
+LinesAreSessions L =
+    (connection : ℕ) (grants : List Grant) (text sent : List ℕ) (t : Talk) → read_as t.spoken text ≡ Lines → IsAt L connection grants text sent t
+    → IsSession connection grants text sent t

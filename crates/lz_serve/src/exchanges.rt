@@ -45,6 +45,10 @@ impl Exchanges {
         }
     }
 
+    pub(crate) fn allocator(&self) -> Global {
+        self.alloc
+    }
+
     /// What a line comes to has come.
     pub(crate) fn put_line(&mut self, item: LineItem) -> Result<(), AllocError>
         ensures { OnOk result (self.new ≡ adding (of_line item ∷ []) self.old) }

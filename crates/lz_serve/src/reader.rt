@@ -4,12 +4,12 @@ ghost use Rattle.lz_proto.specs.Pieces.{Feeds as FeedsLines, Ends};
 ghost use Rattle.lz_proto.specs.declared.item.Item.{Item as ALine};
 ghost use Rattle.lz_resp.specs.Pieces.{Feeds as FeedsFrames};
 ghost use Rattle.lz_resp.specs.declared.item.Item.{Item as AFrame};
-ghost use Rattle.lz_serve.specs.Exchanges.{EndsWith, Exchange, ReadsMore, adding, of_frame, of_line, unread};
+ghost use Rattle.lz_serve.specs.Exchanges.{Begun, EndsWith, Exchange, ReadsMore, adding, of_frame, of_line, unread};
 
 use crate::exchanges::Exchanges;
 use crate::language::Language;
 use lz_proto::{Item as LineItem, Lines};
-use lz_resp::{Frames, Item as FrameItem};
+use lz_resp::{Frames, Item as FrameItem, Naming};
 use std::alloc::{AllocError, Global};
 use std::collections::VecDeque;
 use std::marker::Model;
@@ -19,6 +19,8 @@ use std::marker::Model;
 pub enum Reader {
     Lines(LineReader),
     Frames(FrameReader),
+    /// Nothing has come that tells which of both it is.
+    Unread(Naming),
 }
 
 /// Cuts a text into lines. Contracts see it as its `Lines`.
@@ -72,6 +74,7 @@ impl Reader {
                 frames: Frames::new(alloc, naming),
                 items: VecDeque::new(alloc),
             }),
+            Language::Either(naming) => Reader::Unread(naming),
         }
     }
 
@@ -79,9 +82,21 @@ impl Reader {
     pub(crate) fn feed(&mut self, piece: &[u8], exchanges: &mut Exchanges) -> Result<(), AllocError>
         ensures { OnOk result ((more : List Exchange) × ReadsMore self.old piece.now more self.new × (exchanges.new ≡ adding more exchanges.old)) }
     {
+        self.begin(exchanges.allocator(), piece);
         match self {
             Reader::Lines(lines) => lines.feed(piece, exchanges),
             Reader::Frames(frames) => frames.feed(piece, exchanges),
+            Reader::Unread(_) => Ok(()),
+        }
+    }
+
+    // The first piece of a text tells its language.
+    fn begin(&mut self, alloc: Global, piece: &[u8])
+        ensures { Begun self.old piece.now self.new }
+    {
+        if let Reader::Unread(naming) = self {
+            let language = Language::Either(*naming).read_as(piece);
+            *self = Reader::new(alloc, language);
         }
     }
 
@@ -91,14 +106,14 @@ impl Reader {
     {
         match self {
             Reader::Lines(reader) => reader.end(exchanges),
-            Reader::Frames(_) => Ok(()),
+            Reader::Frames(_) | Reader::Unread(_) => Ok(()),
         }
     }
 
     /// For how many bytes of what is read it has room.
     pub(crate) fn room(&self) -> usize {
         match self {
-            Reader::Lines(_) => 0,
+            Reader::Lines(_) | Reader::Unread(_) => 0,
             Reader::Frames(reader) => reader.frames.room(),
         }
     }
@@ -113,6 +128,7 @@ impl Reader {
                 reader.frames.rest();
                 reader.items.shrink_to(0);
             }
+            Reader::Unread(_) => {}
         }
     }
 }

@@ -1,5 +1,5 @@
 //! Workers, each with a share of a set's passes, in threads.
-ghost use Rattle.std.specs.Prelude.{◌≡◌, ◌≤◌, [], All, IfSome, vec_capacity, vec_len};
+ghost use Rattle.std.specs.Prelude.{◌≡◌, ◌≤◌, [], All, IfErr, IfOk, IfSome, vec_capacity, vec_len};
 ghost use Rattle.lz_set.specs.Names.{MayCall};
 ghost use Rattle.lz_serve.specs.Halts.{IsCalmAfter};
 ghost use Rattle.lz_serve.specs.Services.{Serves};
@@ -18,7 +18,7 @@ use lz_set::{Named, Pass, StepGate};
 use std::alloc::{AllocError, Global};
 use std::sync::Wait;
 use std::thread;
-use std::thread::{SpawnError, Threads};
+use std::thread::{Promise, PromisedHandle, Scope, SpawnError, Threads};
 use std::time::Clock;
 
 /// What serves by a share of the passes, until it is done.
@@ -103,7 +103,34 @@ where
         done,
     } = spare;
     let free = set_free::<N, B>(passes, free);
-    let served = thread::scope(
+    let served = serve_shares(rt, own, desk, others, threads, free, back, observer);
+    hand_back(served, done)
+}
+
+// The same, each by its share of these free passes, with room for the threads and for all passes that come back.
+fn serve_shares<'a, D, G, N, B, R, O>(
+    rt: &R,
+    own: Worker<'a, D, G, N, R, O>,
+    desk: Option<Desk<Socket<'a>, N, B>>,
+    others: Vec<Worker<'a, D, G, N, R, O>>,
+    threads: Vec<Running<N, B>>,
+    free: Vec<FreePass<N, B>>,
+    back: Vec<FreePass<N, B>>,
+    observer: &O,
+) -> Vec<FreePass<N, B>>
+where
+    D: Disk + Send,
+    G: StepGate + Send + Sync,
+    N: Named + Send + Sync,
+    B: Given + Send + Sync,
+    R: Threads + Wait + Clock + AllocGlobal + Sync,
+    O: Observer + Sync,
+    requires desk { IfSome desk (λ d. (d.given ≡ 0) × (d.free ≡ 0) × (vec_len free ≤ d.most)) }
+    requires back { (vec_len back ≡ 0) × (vec_len free ≤ vec_capacity back) }
+    requires threads { (threads.items ≡ []) × (vec_len others ≤ vec_capacity threads) }
+    ensures { vec_len result ≡ vec_len free }
+{
+    thread::scope(
         thread::scope_env(),
         rt,
         move |scope| -> Vec<FreePass<N, B>>
@@ -122,31 +149,48 @@ where
                 left = left.saturating_sub(1);
                 let share = take_share(rt.alloc(), &mut free, left);
                 let count = share.len();
-                let thread = scope.spawn_with(
-                    HandsBack { count },
-                    move || -> Vec<FreePass<N, B>>
-                        ensures { vec_len result ≡ vec_len share }
-                    { worker.serve(share) },
-                );
-                match thread {
+                let serve = move || -> Vec<FreePass<N, B>>
+                    ensures { vec_len result ≡ vec_len share }
+                { worker.serve(share) };
+                match begin(scope, HandsBack { count }, serve, observer) {
                     Ok(thread) => {
                         let Ok(()) = threads.push(thread) else {
                             unreachable!()
                         };
                     }
-                    Err(refused) => {
-                        let SpawnError { value: serve_here } = refused;
-                        observer.threadless();
-                        add_all(&mut back, serve_here());
-                    }
+                    Err(served) => add_all(&mut back, served),
                 }
             }
             add_all(&mut back, free);
             add_all(&mut back, own.serve_at(desk, mine));
             join_all(rt, threads, back)
         },
-    );
-    hand_back(served, done)
+    )
+}
+
+// Does this in a thread of its own. Where none can be made, it is done here, and what comes of it is the error. The observer is told so
+// before: it may last as long as the service.
+fn begin<
+    's,
+    E,
+    P: Promise<T> + Drop,
+    F: FnOnce() -> T + Send + 's,
+    T: Send + Drop + 's,
+    O: Observer,
+>(scope: &Scope<'s, E>, promise: P, f: F, observer: &O) -> Result<PromisedHandle<T, P>, T>
+    requires runs { F.pre f }
+    requires keeps { (r : T) → F.post f r → P.kept_by promise r }
+    ensures ok { IfOk result (λ thread. thread.promise ≡ promise) }
+    ensures err { IfErr result (λ r. P.kept_by promise r) }
+{
+    match scope.spawn_with(promise, f) {
+        Ok(thread) => Ok(thread),
+        Err(refused) => {
+            let SpawnError { value: do_here } = refused;
+            observer.threadless();
+            Err(do_here())
+        }
+    }
 }
 
 // Room for so many threads, and for so many passes: free ones, those that come back, and those that are handed back at the end.

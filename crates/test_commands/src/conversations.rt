@@ -58,6 +58,22 @@ fn the_members_of_a_frame_are_told_together(rt: HostRuntime) -> Result<(), Fail>
 }
 
 #[test]
+fn the_first_byte_of_a_text_tells_its_language(rt: HostRuntime) -> Result<(), Fail> {
+    let mut framed = Conversation::new(rt.alloc(), Language::Either(Naming::Rooms));
+    framed.feed(b"".as_slice())?;
+    framed.feed(b"*".as_slice())?;
+    framed.feed(b"1\r\n$4\r\nPING\r\nping\r\n".as_slice())?;
+    assert!(rt; framed.tell()? && framed.tell()? && !framed.tell()?);
+    assert!(rt; framed.unsent() == b"+PONG\r\n+PONG\r\n".as_slice());
+    let mut lined = Conversation::new(rt.alloc(), Language::Either(Naming::Rooms));
+    lined.feed(b"p".as_slice())?;
+    lined.feed(b"ing\n*1\n".as_slice())?;
+    assert!(rt; lined.tell()? && lined.tell()? && !lined.tell()?);
+    assert!(rt; lined.unsent() == b"bad 2\nbad 2\n".as_slice());
+    Ok(())
+}
+
+#[test]
 fn the_service_itself_is_asked_in_turn(rt: HostRuntime) -> Result<(), Fail> {
     let mut talk = Conversation::new(rt.alloc(), Language::Frames(Naming::Rooms));
     talk.feed(b"sadd 0 1\r\ndbsize\r\nsadd 0 2\r\nshutdown\r\nping\r\n".as_slice())?;

@@ -1,6 +1,6 @@
 //! Makings from lists of keys: what is made and told, and a reader, a writer and a device that fail.
 use crate::commands::{Ran, disk_with};
-use lazyset_set_commands::{Shown, make_keys_on, survey_on};
+use lazyset_set_commands::{Lines, Shown, make_keys_on, survey_on};
 use lz_disk::MemoryDisk;
 use lz_slot::Format;
 use std::alloc::{AllocError, Global};
@@ -23,7 +23,15 @@ fn list(alloc: Global, disk: MemoryDisk, list: &[u8], slots: u64, format: Format
     let mut disk = disk;
     let mut reader = list;
     let mut printed: Vec<u8> = Vec::new(alloc);
-    let status = make_keys_on(alloc, &mut reader, &mut printed, &mut disk, slots, format);
+    let status = make_keys_on(
+        alloc,
+        &mut reader,
+        &mut printed,
+        &mut disk,
+        slots,
+        format,
+        Lines::Keys,
+    );
     Ran {
         code: status.code(),
         printed,
@@ -97,6 +105,7 @@ fn a_failed_read_ends_a_list(rt: HostRuntime) -> Result<(), Fail> {
                 &mut disk,
                 3,
                 Format::Three,
+                Lines::Keys,
             );
             let is_told = status.code() == 1 && output.as_slice() == b"noread\n".as_slice();
             assert!(rt; is_told && disk.calls() == 0, "after {count} bytes");
@@ -119,6 +128,7 @@ fn a_failed_write_ends_a_list(rt: HostRuntime) -> Result<(), Fail> {
             &mut disk,
             3,
             Format::Three,
+            Lines::Keys,
         );
         let is_told = status.code() == u8::from(room < 7)
             && Some(writer.taken.as_slice()) == b"made 3\n".get(..room);

@@ -5,7 +5,7 @@ use Rattle.std.proofs.{Common.{append_assoc}, Math.Seq.{take-add}, lemmas.List.{
 use Rattle.lz_slot.specs.declared.format.Format.{Format}
 use Rattle.lz_proto.{specs.{declared.{item.Item.{Item}, end.End.TheVariants.{Done}}, Lines.{Items}}, proofs.Texts.{some_items}}
 use Rattle.lz_board.specs.Seats.{BoardId}
-use Rattle.lz_serve.specs.{declared.{language.Language.TheVariants.{Lines}, reader.Reader.{Reader}}, LineSessions.{IsGranted, LinesCame}}
+use Rattle.lz_serve.specs.{declared.{language.Language.{Language, TheVariants.{Lines}}, reader.Reader.{Reader}}, Exchanges.{read_as}, LineSessions.{IsGranted, LinesCame}}
 use Rattle.lz_serve.{specs.{Grants.{AreGranted, IsGrant}, Listings.{IsListing}, Streams.{MayTake, Traffic}}, proofs.LineSessions.{lines_are_sessions}}
 use Rattle.test_threads.specs.Tapes.{IsTape}
 
@@ -62,6 +62,7 @@ first_items ended text read done later (Some (reader.Lines (Some left))) whole i
           (subst (λ (x : List ℕ). Items x ((done ++ later) ++ some.0)) (take-append-drop read text) (came.1 (drop read text) some.0 some.1)),
     )
 first_items ended text read done later (Some (reader.Frames place)) whole is came = absurd came
+first_items ended text read done later (Some (reader.Unread naming)) whole is came = absurd came
 
 sent_on : (sent text rest : List ℕ) (count : ℕ) → sent ++ (text ++ rest) ≡ (sent ++ take count text) ++ (drop count text ++ rest)
 sent_on sent text rest count =
@@ -77,7 +78,7 @@ told_on b F old text sent piece new read count ended is tape may longer =
   where
     by_talk : MayTake (AreGranted b F) (IsListing b) (Some (traffic (take read text) ended sent)) piece → IsTape b F text read ended new
     by_talk (connection, t, (grants, granted, at, spoken, goes), rest, is_rest) =
-        let s = lines_are_sessions (IsListing b) connection grants (take read text) sent t spoken at in
+        let s = lines_are_sessions (IsListing b) connection grants (take read text) sent t (ap (λ (l : Language). read_as l (take read text)) spoken) at in
         let both = append_assoc s.done s.refused s.left in
         let first = first_items ended text read (s.done ++ s.refused) s.left t.reader tape.whole goes (subst (λ (l : List Item). LinesCame (take read text) l t.reader) (sym both) s.came) in
         let split : sent ++ t.unsent ≡ new ++ (drop count piece ++ rest) =

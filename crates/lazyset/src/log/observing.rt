@@ -43,10 +43,10 @@ where
     }
 
     fn no_port(&self, error: io::Error) {
-        let file = self.file;
+        let (file, way_out) = (self.file, self.around.way_out);
         self.write(
             Level::Error,
-            format_args!("lazyset: serve {file}: noport: {error}"),
+            format_args!("lazyset: serve {file}: noport: {error}{way_out}"),
         );
     }
 

@@ -5,7 +5,7 @@ use Rattle.lazyset_file_commands.{specs.ListParts.{IsOpenList}, proofs.ListPiece
 abbrev pub invariant-pieces : goal.invariant-pieces
 invariant-pieces g l = record {
   kept : IsOpenList l.list;
-  same : l.list.format ≡ l.fn.format;
+  like : (l.list.format ≡ l.fn.format) × (l.list.lines ≡ l.fn.lines);
   room : 0 < length l.piece;
   read : IfSome (g.R.Read.remaining l.initial.reader) (IsLeftOf l.list (g.R.Read.remaining l.reader));
 }

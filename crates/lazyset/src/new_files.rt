@@ -1,0 +1,105 @@
+//! The commands that make a file of nothing, of a list and of another file.
+ghost use Rattle.std.specs.Prelude.{◌≡◌, IfSome};
+ghost use Rattle.lz_slot.specs.Limits.{last_room};
+ghost use Rattle.lz_slot.specs.Rooms.{last_room_of};
+ghost use Rattle.lazyset_file_commands.specs.Lists.{HasPlaceFor};
+
+use crate::counted::Counted;
+use crate::fault::Fault;
+use crate::files::{StandIns, open, say_cause};
+use crate::making::Making;
+use crate::over_disk::{make_keys_over, make_over, renew_over};
+use lazyset_set_commands::{Lines, Status};
+use lz_disk::Lock;
+use lz_slot::Format;
+use std::fs::File;
+use std::io::Write;
+use std::rt::Files;
+use std::time::Clock;
+
+/// Makes a file of the empty set.
+pub fn make<R, W>(
+    rt: &R,
+    writer: &mut W,
+    file: &str,
+    slots: u64,
+    format: Format,
+) -> Result<Status, Fault>
+where
+    R: Files<File = File> + Eprint + Clock + AllocGlobal,
+    W: Write + Drop,
+{
+    let (making, disk) = Making::begin(rt, file, None)?;
+    let (status, disk) = make_over(rt, writer, file, disk, slots, format);
+    Ok(making.end(rt, &disk, status))
+}
+
+/// Makes a file of the keys that the lines of standard input name: keys, or members of a set of texts.
+pub fn make_keys<R, W>(
+    rt: &R,
+    writer: &mut W,
+    stands: &StandIns,
+    file: &str,
+    slots: u64,
+    format: Format,
+    texts_of: Option<&str>,
+) -> Result<Status, Fault>
+where
+    R: Files<File = File> + Input + Eprint + Clock + AllocGlobal,
+    W: Write + Drop,
+    requires { IfSome texts_of (λ name. last_room_of format ≡ last_room) }
+{
+    if stands.has_no_input() {
+        return Err(Fault::NoRead);
+    }
+    let (making, disk) = Making::begin(rt, file, None)?;
+    let mut reader = Counted::new(rt.reader());
+    let lines = lines_of(texts_of, format);
+    let (status, disk) = make_keys_over(rt, &mut reader, writer, file, disk, slots, format, lines);
+    if status == Status::Done {
+        say_count(rt, file, reader.lines(), lines);
+    }
+    Ok(making.end(rt, &disk, status))
+}
+
+// What the lines of a list name, in a file of this format.
+fn lines_of(texts_of: Option<&str>, format: Format) -> Lines<'_>
+    requires { IfSome texts_of (λ name. last_room_of format ≡ last_room) }
+    ensures { HasPlaceFor format result }
+{
+    match texts_of {
+        Some(name) => Lines::Texts(name.as_bytes()),
+        None => Lines::Keys,
+    }
+}
+
+// Says how many lines a list had. A text may stand there twice.
+fn say_count<R: Eprint>(rt: &R, file: &str, count: u64, lines: Lines<'_>) {
+    let _ = match (lines, count) {
+        (Lines::Keys, 1) => eprintln!(rt; "lazyset: make {file}: 1 key"),
+        (Lines::Keys, _) => eprintln!(rt; "lazyset: make {file}: {count} keys"),
+        (Lines::Texts(_), 1) => eprintln!(rt; "lazyset: make {file}: 1 line of texts"),
+        (Lines::Texts(_), _) => eprintln!(rt; "lazyset: make {file}: {count} lines of texts"),
+    };
+}
+
+/// Makes a file of the keys of another one.
+pub fn renew<R, W>(
+    rt: &R,
+    writer: &mut W,
+    old: &str,
+    new: &str,
+    slots: u64,
+    format: Format,
+) -> Result<Status, Fault>
+where
+    R: Files<File = File> + Eprint + Clock + AllocGlobal,
+    W: Write + Drop,
+    requires { last_room_of format ≡ last_room }
+{
+    let old_disk = open(rt, old, Lock::Shared)?;
+    let (making, disk) = Making::begin(rt, new, Some(&old_disk))?;
+    let (status, old_disk, disk) = renew_over(rt, writer, old, old_disk, new, disk, slots, format);
+    say_cause(rt, old, old_disk.cause());
+    Ok(making.end(rt, &disk, status))
+}

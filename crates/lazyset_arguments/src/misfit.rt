@@ -1,0 +1,40 @@
+//! Command lines that the table of words lets through, and that ask for nothing that can be done.
+use crate::refusal::{Refusal, bad_passes, long_name, no_mark, too_many_buckets, too_many_loops};
+use crate::service::beyond;
+use crate::values::{format_of, number};
+use clap::ArgMatches;
+use lz_slot::{Format, LAST_ROOM};
+use std::alloc::Global;
+
+/// The faults that the table of words doesn't show: texts need a mark and a name that a service takes, a format has its own most
+/// buckets, loops may have more passes than there are threads, and each loop needs a pass.
+pub(crate) fn misfit(alloc: Global, matches: &ArgMatches<'_>) -> Refusal {
+    match listed(matches) {
+        Some(format) if format.last_room() != LAST_ROOM => return no_mark(alloc),
+        Some(_) => return long_name(alloc),
+        None => {}
+    }
+    if let Some((buckets, format)) = rehearsed(matches) {
+        return too_many_buckets(alloc, buckets, format);
+    }
+    match beyond(matches) {
+        Some((passes, most)) => bad_passes(alloc, passes, most),
+        None => too_many_loops(alloc),
+    }
+}
+
+// The format of a file that is made.
+fn listed(matches: &ArgMatches<'_>) -> Option<Format> {
+    match matches.subcommand()? {
+        ("make", words) => format_of(words),
+        _ => None,
+    }
+}
+
+// The buckets and the format of a rehearsal.
+fn rehearsed(matches: &ArgMatches<'_>) -> Option<(u64, Format)> {
+    match matches.subcommand()? {
+        ("rehearse", words) => Some((number(words, "buckets")?, format_of(words)?)),
+        _ => None,
+    }
+}
