@@ -3,7 +3,7 @@ use Rattle.lz_proto.specs.declared.end.End.TheVariants as ends
 use Rattle.lz_serve.specs.declared.reader.Reader.TheVariants as reader
 use Rattle.lz_serve.specs.declared.turn.Wording.TheVariants as wording
 use Rattle.lz_serve.specs.Exchanges as exchange
-use Rattle.std.{specs.{Prelude.{⊤}, Fmt.{digits}, List.{flat_map}}, proofs.Common.{◌≡◌, inl, inr, ℕ, List, [], ◌∷◌, ◌++◌, ◌+◌, suc, length, Option, Some, None, false, refl}}
+use Rattle.std.{specs.{Prelude.{⊤}, Fmt.{digits}}, proofs.Common.{◌≡◌, inl, inr, ℕ, List, [], ◌∷◌, ◌++◌, ◌+◌, suc, length, Option, Some, None, false, refl}}
 use Rattle.std.proofs.{Common.{sym, ap, subst, ◌∙◌, arith, codes, length-append}, lemmas.List.{append-nil, nil_from_length}}
 use Rattle.lz_proto.specs.declared.{request.Request.{Request, TheVariants.{Add, Has, Quit}}, fault.Bad.TheVariants.{NoNumber}, item.Item.{Item}}
 use Rattle.lz_proto.specs.declared.{item.Item.TheVariants.{Asks, Faulty}, reply.Reply.{Reply, TheVariants.{Yes, No, Full, Halted, Worn, OldFile}}}
@@ -12,7 +12,7 @@ use Rattle.lz_proto.proofs.Texts.{only}
 use Rattle.lz_board.specs.declared.pass.Pass.{Pass}
 use Rattle.lz_serve.specs.declared.{line.Line.{Line}, language.Language.{Language, TheVariants.{Lines, Frames}}, turn.Turn.{Turn, TheVariants.{Asks as asks, Says as says}}}
 use Rattle.lz_serve.specs.{Grants.{Grant, IsOfLine, key_asked}, Lines.{IsFree, awaited}, Listings.{Listing}, Exchanges.{CameFrom, Exchange, read_as}}
-use Rattle.lz_serve.specs.{Conversations.{AreTold, IsAt, IsTold, Rests, Talk, more, nothing as none_told}, LineSessions.{IsGranted, LinesCame, refused_line}}
+use Rattle.lz_serve.specs.{Conversations.{AreTold, IsAt, IsTold, Rests, Talk, more, nothing as none_told}, LineSessions.{EndsAfter, IsGranted, LinesCame, refused_text}}
 use Rattle.lz_serve.proofs.LineSessions.{lines_are_sessions}
 use Rattle.lz_resp.specs.declared.{form.Form.TheVariants.{Added}, naming.Naming.{Naming}}
 
@@ -128,13 +128,13 @@ pub session : (grants : List Grant) (text : List ℕ) (t : Talk) → t.spoken �
 session grants text t spoken goes at =
     let s = lines_are_sessions any 1 grants text [] t (ap (λ (l : Language). read_as l text) spoken) at in
     let none = s.goes goes in
-    let said : s.said ≡ t.unsent = sym (append-nil s.said) ∙ ap (λ (l : List Item). s.said ++ flat_map refused_line l) (sym none) ∙ sym s.told in
+    let said : s.said ≡ t.unsent = sym (append-nil s.said) ∙ ap (λ (l : List Item). s.said ++ refused_text l) (sym none) ∙ sym s.told in
     record {
       done = s.done;
       left = s.left;
       came = subst (λ (l : List Item). LinesCame text (s.done ++ (l ++ s.left)) t.reader) none s.came;
       many = s.many;
-      answered = subst (λ (e : End). Answered (IsGranted 1) [] s.done grants t.unsent e) (s.ends none) (subst (λ (w : List ℕ). Answered (IsGranted 1) [] s.done grants w s.ended) said s.answered);
+      answered = subst (λ (e : End). Answered (IsGranted 1) [] s.done grants t.unsent e) (sym (subst (λ (l : List Item). EndsAfter s.ended l t.ended) none s.ends)) (subst (λ (w : List ℕ). Answered (IsGranted 1) [] s.done grants w s.ended) said s.answered);
     }
 
 -- lines that ended have these items alone

@@ -4,15 +4,16 @@ use Rattle.lz_proto.specs.declared.end.End.TheVariants as ends
 use Rattle.lz_serve.specs.declared.language.Language.TheVariants as language
 use Rattle.lz_serve.specs.declared.reader.Reader.TheVariants as reader
 use Rattle.std.proofs.Common.{◌≡◌, ◌≢◌, ◌⊎◌, ◌++◌, ◌+◌, inl, inr, ℕ, suc, Bool, true, false, List, [], ◌∷◌, length, map, Option, Some, None, refl, sym, ap, subst, ◌∙◌, arith, length-append, append_assoc}
-use Rattle.std.{specs.List.{flat_map}, proofs.lemmas.List.{append-nil, flat_map_more, map-append}}
+use Rattle.std.proofs.lemmas.List.{append-nil, map-append}
 use mathlib.Core.Bool.{true≢false}
 use Rattle.lz_proto.specs.declared.{request.Request.{Request, TheVariants.{Add, Remove, Has, Quit}}, item.Item.{Item, TheVariants.{Asks, Faulty}}}
-use Rattle.lz_proto.specs.{declared.{reply.Reply.{Reply}, end.End.{End}}, Sessions.{Answered, reply_text}, Steps.{end_after}}
+use Rattle.lz_proto.specs.{declared.{reply.Reply.{Reply}, end.End.{End}}, Sessions.{Answered, bad_text, reply_text}, Steps.{end_after}}
 use Rattle.lz_proto.proofs.Serving.{answered_more, fault_answered, request_answered}
-use Rattle.lz_serve.specs.declared.{language.Language.{Language}, reader.Reader.{Reader}, turn.{Wording.TheVariants.{Line}, Turn.{Turn}}}
-use Rattle.lz_serve.specs.Exchanges.{CameFrom, CameOfAll, Exchange, asks, end_by, of_line, read_as, refused as refused_of, taken, turn_of}
-use Rattle.lz_serve.specs.{Conversations.{AreTold, IsTold, more, nothing}, Grants.{Grant}}
-use Rattle.lz_serve.{specs.{Listings.{Listing}, LineSessions.{IsGranted, LinesAreSessions, LinesCame, refused_line}}, proofs.Languages.{untold_yet}}
+use Rattle.lz_serve.specs.declared.{line.Line.{Line as UnderWay}, language.Language.{Language}, reader.Reader.{Reader}, turn.{Wording.TheVariants.{Line}, Turn.{Turn}}}
+use Rattle.lz_serve.specs.Exchanges.{CameFrom, CameOfAll, Exchange, asks, end_by, of_line, read_as, refusal, refused as refused_of, requests_in, taken, turn_of}
+use Rattle.lz_serve.specs.{Conversations.{AreTold, IsTold, more, nothing}, Grants.{Grant}, Lines.{asked_by}}
+use Rattle.lz_serve.specs.{Listings.{Listing}, LineSessions.{EndsAfter, IsGranted, LinesAreSessions, LinesCame, refused_end, refused_text}}
+use Rattle.lz_serve.proofs.{Cuts.{refused_asks}, Languages.{untold_yet}}
 
 -- the items of a front of exchanges
 record Fronts (f : Item → Exchange) (items : List Item) (xs ys : List Exchange) : Type 0 where
@@ -101,6 +102,7 @@ record Parts (s : Bool) (done left : List Exchange) (kept cut : List Item) : Typ
   told : done ≡ map of_line front ++ map as_refused refused
   many : length rest ≡ length left
   goes : s ≡ false → refused ≡ []
+  rests : refused ≢ [] → requests_in left ≡ []
 
 refused_parts : (done left : List Exchange) (kept cut : List Item) → done ++ left ≡ map of_line kept ++ map as_refused cut → Parts true done left kept cut
 refused_parts [] left kept cut same =
@@ -108,7 +110,7 @@ refused_parts [] left kept cut same =
     let many : length left ≡ length (map of_line kept) + length (map as_refused cut) = ap (λ (l : List Exchange). length l) same ∙ length-append (map of_line kept) (map as_refused cut) in
     let k = length_map of_line kept in
     let c = length_map as_refused cut in
-    record { front = []; refused = []; rest = kept ++ cut; whole = refl; told = refl; many = omega (arith, both, many, k, c); goes = λ _. refl }
+    record { front = []; refused = []; rest = kept ++ cut; whole = refl; told = refl; many = omega (arith, both, many, k, c); goes = λ _. refl; rests = λ some. absurd (some refl) }
 refused_parts (x ∷ done) left (item ∷ kept) cut same =
     let first : x ≡ of_line item = cc in
     let others : done ++ left ≡ map of_line kept ++ map as_refused cut = cc in
@@ -121,16 +123,35 @@ refused_parts (x ∷ done) left (item ∷ kept) cut same =
       told = ap (λ (e : Exchange). e ∷ done) first ∙ ap (λ (l : List Exchange). of_line item ∷ l) p.told;
       many = p.many;
       goes = λ going. absurd (true≢false going);
+      rests = p.rests;
     }
 refused_parts (x ∷ done) left [] cut same =
     let f = fronts as_refused cut (x ∷ done) left (sym same) in
-    record { front = []; refused = f.front; rest = f.rest; whole = f.whole; told = sym f.first; many = length_map as_refused f.rest ∙ ap (λ (l : List Exchange). length l) f.others; goes = λ going. absurd (true≢false going) }
+    record {
+      front = [];
+      refused = f.front;
+      rest = f.rest;
+      whole = f.whole;
+      told = sym f.first;
+      many = length_map as_refused f.rest ∙ ap (λ (l : List Exchange). length l) f.others;
+      goes = λ going. absurd (true≢false going);
+      rests = λ some. ap (λ (l : List Exchange). requests_in l) (sym f.others ∙ sym (refused_lines f.rest)) ∙ refused_asks (map of_line f.rest);
+    }
 
 parts : (s : Bool) (done left : List Exchange) (kept cut : List Item) → done ++ left ≡ map of_line kept ++ taken s (map of_line cut) → Parts s done left kept cut
 parts true done left kept cut same = refused_parts done left kept cut (same ∙ ap (λ (l : List Exchange). map of_line kept ++ l) (refused_lines cut))
 parts false done left kept cut same =
     let f = fronts of_line (kept ++ cut) done left (map-append of_line kept cut ∙ sym same) in
-    record { front = f.front; refused = []; rest = f.rest; whole = f.whole; told = sym f.first ∙ sym (append-nil (map of_line f.front)); many = length_map of_line f.rest ∙ ap (λ (l : List Exchange). length l) f.others; goes = λ _. refl }
+    record {
+      front = f.front;
+      refused = [];
+      rest = f.rest;
+      whole = f.whole;
+      told = sym f.first ∙ sym (append-nil (map of_line f.front));
+      many = length_map of_line f.rest ∙ ap (λ (l : List Exchange). length l) f.others;
+      goes = λ _. refl;
+      rests = λ some. absurd (some refl);
+    }
 
 last_of : (items : List Item) → (items ≡ []) ⊎ ((front : List Item) × (item : Item) × (items ≡ front ++ item ∷ []))
 last_of [] = inl refl
@@ -152,20 +173,49 @@ last_same (a ∷ xs) (b ∷ ys) x y same =
     let both = last_same xs ys x y others in
     (ap (λ (e : Exchange). e ∷ xs) first ∙ ap (λ (l : List Exchange). b ∷ l) both.0, both.1)
 
+-- the text before it
+before_more : (text : List ℕ) (first : List Item) (item : Item) → refused_text (first ++ item ∷ []) ≡ refused_text first ++ refused_text (item ∷ []) → text ++ refused_text (first ++ item ∷ []) ≡ (text ++ refused_text first) ++ refused_text (item ∷ [])
+before_more text first item more = ap (λ (w : List ℕ). text ++ w) more ∙ sym (append_assoc text (refused_text first) (refused_text (item ∷ [])))
+
+-- what is told of one line more that is refused, where the conversation goes on before it
+one_more : (first : List Item) (item : Item) → refused_end first ≡ ends.Done
+    → (refused_text (first ++ item ∷ []) ≡ refused_text first ++ refused_text (item ∷ [])) × (refused_end (first ++ item ∷ []) ≡ refused_end (item ∷ []))
+one_more [] item goes = (refl, refl)
+one_more (Asks Quit ∷ first) item goes = absurd (cc)
+one_more (Faulty bad ∷ first) item goes = let more = one_more first item goes in (before_more (bad_text bad) first item more.0, more.1)
+one_more (Asks (Add k) ∷ first) item goes = let more = one_more first item goes in (before_more (refusal Line) first item more.0, more.1)
+one_more (Asks (Remove k) ∷ first) item goes = let more = one_more first item goes in (before_more (refusal Line) first item more.0, more.1)
+one_more (Asks (Has k) ∷ first) item goes = let more = one_more first item goes in (before_more (refusal Line) first item more.0, more.1)
+
+-- those that were refused go on where all do
+goes_before : (before : End) (first : List Item) → EndsAfter before first ends.Done → (before ≡ ends.Done) × (refused_end first ≡ ends.Done)
+goes_before before [] goes = (sym goes, refl)
+goes_before before (item ∷ first) goes = (goes.0, sym goes.1)
+
+ends_after : (before after : End) (first : List Item) (item : Item) → before ≡ ends.Done → after ≡ refused_end (first ++ item ∷ []) → EndsAfter before (first ++ item ∷ []) after
+ends_after before after [] item goes is = (goes, is)
+ends_after before after (x ∷ first) item goes is = (goes, is)
+
 -- the session of the first items, and what is told of those that were refused
 record Said (connection : ℕ) (front refused : List Item) (grants : List Grant) (text : List ℕ) (ended : End) : Type 0 where
   said : List ℕ
   before : End
   answered : Answered (IsGranted connection) [] front grants said before
-  told : text ≡ said ++ flat_map refused_line refused
-  ends : refused ≡ [] → before ≡ ended
+  told : text ≡ said ++ refused_text refused
+  ends : EndsAfter before refused ended
 
-refusal_told : (L : Listing → Type 0) (connection : ℕ) (grants its : List Grant) (item : Item) (said : List ℕ) (ended : End) → IsTold L connection grants (as_refused item) its said ended → (its ≡ []) × (said ≡ refused_line item)
-refusal_told L connection grants its (Asks Quit) said ended told = (told.0, told.1)
-refusal_told L connection grants its (Asks (Add k)) said ended told = (told.0, told.1)
-refusal_told L connection grants its (Asks (Remove k)) said ended told = (told.0, told.1)
-refusal_told L connection grants its (Asks (Has k)) said ended told = (told.0, told.1)
-refusal_told L connection grants its (Faulty bad) said ended told = (told.0, told.1)
+-- one that was refused is told by no grant
+record Refusal (item : Item) (its : List Grant) (said : List ℕ) (ended : End) : Type 0 where
+  none : its ≡ []
+  text : said ≡ refused_text (item ∷ [])
+  ends : ended ≡ refused_end (item ∷ [])
+
+refusal_told : (L : Listing → Type 0) (connection : ℕ) (grants its : List Grant) (item : Item) (said : List ℕ) (ended : End) → IsTold L connection grants (as_refused item) its said ended → Refusal item its said ended
+refusal_told L connection grants its (Asks Quit) said ended told = record { none = told.0; text = told.1; ends = told.2 }
+refusal_told L connection grants its (Asks (Add k)) said ended told = record { none = told.0; text = told.1 ∙ sym (append-nil (refusal Line)); ends = told.2 }
+refusal_told L connection grants its (Asks (Remove k)) said ended told = record { none = told.0; text = told.1 ∙ sym (append-nil (refusal Line)); ends = told.2 }
+refusal_told L connection grants its (Asks (Has k)) said ended told = record { none = told.0; text = told.1 ∙ sym (append-nil (refusal Line)); ends = told.2 }
+refusal_told L connection grants its (Faulty bad) said ended told = record { none = told.0; text = told.1 ∙ sym (append-nil (bad_text bad)); ends = told.2 }
 
 none_refused : (L : Listing → Type 0) (connection : ℕ) (exchanges : List Exchange) (grants : List Grant) (text : List ℕ) (ended : End) → AreTold L connection exchanges grants text ended → (front refused : List Item) → refused ≡ []
     → exchanges ≡ map of_line front ++ map as_refused refused → Said connection front refused grants text ended
@@ -175,13 +225,9 @@ none_refused L connection exchanges grants text ended told front refused none ar
       said = text;
       before = ended;
       answered = answered L connection exchanges grants text ended told front its;
-      told = sym (append-nil text) ∙ ap (λ (l : List Item). text ++ flat_map refused_line l) (sym none);
-      ends = λ _. refl;
+      told = sym (append-nil text) ∙ ap (λ (l : List Item). text ++ refused_text l) (sym none);
+      ends = subst (λ (l : List Item). EndsAfter ended l ended) (sym none) refl;
     }
-
-no_last : (front : List Item) (item : Item) → [] ≡ front ++ item ∷ [] → ⊥
-no_last [] item is = cc
-no_last (first ∷ front) item is = cc
 
 no_front : (xs : List Exchange) (front : List Item) (item : Item) → [] ≡ xs ++ map as_refused (front ++ item ∷ []) → ⊥
 no_front [] [] item is = cc
@@ -205,14 +251,22 @@ told_so L _ _ _ _ _ (more connection exchanges grants text exchange its said end
       let same = last_same exchanges (map of_line front ++ map as_refused first) exchange (as_refused item) all in
       let was = told_so L connection exchanges grants text ends.Done before front first same.0 in
       let now = refusal_told L connection grants its item said ended (subst (λ (e : Exchange). IsTold L connection grants e its said ended) same.1 told) in
+      let goes = goes_before was.before first was.ends in
+      let both = one_more first item goes.1 in
       record {
         said = was.said;
         before = was.before;
-        answered = subst (λ (gs : List Grant). Answered (IsGranted connection) [] front gs was.said was.before) (sym (append-nil grants) ∙ ap (λ (gs : List Grant). grants ++ gs) (sym now.0)) was.answered;
-        told = ap (λ (w : List ℕ). w ++ said) was.told ∙ ap (λ (w : List ℕ). (was.said ++ flat_map refused_line first) ++ w) now.1 ∙ flat_map_more refused_line was.said first item ∙ ap (λ (l : List Item). was.said ++ flat_map refused_line l) (sym is);
-        ends = λ none. absurd (no_last first item (sym none ∙ is));
+        answered = subst (λ (gs : List Grant). Answered (IsGranted connection) [] front gs was.said was.before) (sym (append-nil grants) ∙ ap (λ (gs : List Grant). grants ++ gs) (sym now.none)) was.answered;
+        told = ap (λ (w : List ℕ). w ++ said) was.told ∙ ap (λ (w : List ℕ). (was.said ++ refused_text first) ++ w) now.text ∙ append_assoc was.said (refused_text first) (refused_text (item ∷ [])) ∙ ap (λ (w : List ℕ). was.said ++ w) (sym both.0)
+            ∙ ap (λ (l : List Item). was.said ++ refused_text l) (sym is);
+        ends = subst (λ (l : List Item). EndsAfter was.before l ended) (sym is) (ends_after was.before ended first item goes.0 (now.ends ∙ sym both.1));
       }
 ]
+
+-- where nothing is asked, no line is under way, and none waits
+none_asked : (under : List UnderWay) (waiting : List Request) → asked_by under ++ waiting ≡ [] → (under ≡ []) × (waiting ≡ [])
+none_asked [] waiting none = (refl, none)
+none_asked (line ∷ under) waiting none = absurd (cc)
 
 lines_came : (spoken : Language) (text : List ℕ) (exchanges : List Exchange) (r : Option Reader) → read_as spoken text ≡ language.Lines → CameFrom spoken text exchanges r → (items : List Item) × LinesCame text items r × (exchanges ≡ map of_line items)
 lines_came spoken text exchanges (Some (reader.Lines kept)) lines came = came.1
@@ -244,4 +298,5 @@ lines_are_sessions L connection grants text sent t lines at =
       told = s.told;
       ends = s.ends;
       goes = p.goes;
+      unbegun = λ some. none_asked t.under t.waiting (sym at.asked ∙ p.rests some);
     }

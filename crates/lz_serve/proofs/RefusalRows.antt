@@ -3,14 +3,14 @@ use Rattle.lz_proto.specs.declared.end.End.TheVariants as ends
 use Rattle.lz_serve.specs.declared.turn.Wording.TheVariants as wording
 use Rattle.lz_serve.specs.Exchanges as exchange
 use Rattle.std.proofs.Common.{◌≡◌, ◌++◌, ◌+◌, ℕ, suc, true, false, nat_eq, get_or, List, [], ◌∷◌, Some, length, map, refl, sym, ap, subst, ◌∙◌, arith, codes, append_assoc}
-use Rattle.std.{specs.List.{flat_map}, proofs.lemmas.Bool.Decides.{nat_tests}}
+use Rattle.std.proofs.lemmas.Bool.Decides.{nat_tests}
 use Rattle.lz_proto.specs.declared.{request.Request.{Request, TheVariants.{Add, Remove, Has, Quit}}, item.Item.{Item, TheVariants.{Asks, Faulty}}, reply.Reply.{Reply, TheVariants.{Yes, No, Full, Halted, Worn, OldFile}}}
-use Rattle.lz_proto.specs.{Pieces.{Reads}, Sessions.{Serves, session_text}}
+use Rattle.lz_proto.specs.{declared.fault.Bad.TheVariants.{NoNumber}, Pieces.{Reads}, Sessions.{Serves, session_text}}
 use Rattle.lz_resp.specs.declared.{form.Form.TheVariants.{Added}, query.Query.{Query}, scan.Scan.{Scan}}
 use Rattle.lz_board.specs.declared.pass.Pass.{Pass}
 use Rattle.lz_serve.specs.declared.turn.Turn.{Turn, TheVariants.{Asks as asks, Says as says, Lists as lists, Tells as tells}}
 use Rattle.lz_serve.specs.{Clients.{Asker, Refuses}, Conversations.{IsAt, nothing as none_told, stopped}, Exchanges.{Exchange, frame_refusal, refused, requests_in, turn_of}, Grants.{Grant}}
-use Rattle.lz_serve.specs.{LineSessions.{IsGranted, refused_line}, Refusals.{cut_turns, kept_waiting}}
+use Rattle.lz_serve.specs.{LineSessions.{EndsAfter, IsGranted, refused_text}, Refusals.{cut_turns, kept_waiting}}
 use Rattle.lz_serve.proofs.ConversationRows.{add_read, any, as_many, awaits_one, came, first, gets, its_turns, lines, only_items, second, session, stands}
 use Rattle.lz_serve.proofs.{ClientRows.{asks as asker}, LineSessions.{lines_are_sessions}}
 
@@ -42,6 +42,13 @@ has_stopped = refl
 is_refused : IsAt any 1 [] lines [] (record (stands (nothing_done ∷ says (codes "bad 3\n") ∷ []) [] 0 [] ends.Done) { stops = true })
 is_refused = record { done = []; left = map refused (first ∷ second ∷ []); came = ([], first ∷ second ∷ [], came, refl); turns = refl; asked = refl; told = none_told 1; counted = refl }
 
+-- a request, a fault and a request are refused, and after `quit` nothing is told
+until_quit : refused_text (Asks (Add 1) ∷ Faulty NoNumber ∷ Asks (Has 1) ∷ Asks Quit ∷ Asks (Add 1) ∷ []) ≡ codes "stopping\nbad 3\nstopping\n"
+until_quit = refl
+
+ends_by_quit : EndsAfter ends.Done (Asks (Add 1) ∷ Asks Quit ∷ []) ends.Quit
+ends_by_quit = (refl, refl)
+
 -- a client whose first line is under way
 abbrev busy : Pass → Asker
 busy p = record (asker p []) { turns = line ∷ line ∷ []; waiting = Has 6 ∷ [] }
@@ -50,6 +57,14 @@ refuses : (p : Pass) → Refuses (busy p) (record (busy p) { turns = line ∷ no
 refuses p there = refl
 
 -- What must not hold.
+
+-- a line is refused after `halted`
+refused_after_halted : EndsAfter ends.Halted (Asks (Add 1) ∷ []) ends.Done → ⊥
+refused_after_halted is = let apart = is.0 in cc
+
+-- a conversation goes on after `quit`
+goes_on_after_quit : EndsAfter ends.Done (Asks Quit ∷ []) ends.Done → ⊥
+goes_on_after_quit is = let apart = is.1 in cc
 
 -- a line that was begun is refused
 begun_refused : cut_turns 1 (line ∷ []) ≡ nothing_done ∷ [] → ⊥
@@ -101,7 +116,7 @@ first_byte bytes = get_or bytes 0 0
 not_s : (byte : ℕ) → 115 ≡ byte → nat_eq 115 byte ≡ false → ⊥
 not_s byte is other = grind (arith, nat_tests)
 
-granted_and_told : (p : Pass) (done refused : List Item) (replies : List Reply) → done ++ refused ≡ Asks (Add 1) ∷ [] → Serves (IsGranted 1) [] done replies (gets p Yes) → codes "stopping\n" ≡ session_text done replies ++ flat_map refused_line refused → ⊥
+granted_and_told : (p : Pass) (done refused : List Item) (replies : List Reply) → done ++ refused ≡ Asks (Add 1) ∷ [] → Serves (IsGranted 1) [] done replies (gets p Yes) → codes "stopping\n" ≡ session_text done replies ++ refused_text refused → ⊥
 granted_and_told p [] refused [] all served told = cc
 granted_and_told p [] refused (reply ∷ replies) all served told = served
 granted_and_told p (Faulty bad ∷ done) refused replies all served told = cc
@@ -122,4 +137,4 @@ told_of_a_granted_line : (p : Pass) → IsAt any 1 (gets p Yes) (codes "add 1\n"
 told_of_a_granted_line p stood =
     let s = lines_are_sessions any 1 (gets p Yes) (codes "add 1\n") [] (record (stands [] [] 1 (codes "stopping\n") ends.Done) { stops = true }) refl stood in
     let all = only_items (codes "add 1\n") (Asks (Add 1) ∷ []) (s.done ++ s.refused) s.left add_read (subst (λ (l : List Item). Reads (codes "add 1\n") l (Some [])) (sym (append_assoc s.done s.refused s.left)) s.came) s.many in
-    granted_and_told p s.done s.refused s.answered.replies all s.answered.served (s.told ∙ ap (λ (w : List ℕ). w ++ flat_map refused_line s.refused) s.answered.text)
+    granted_and_told p s.done s.refused s.answered.replies all s.answered.served (s.told ∙ ap (λ (w : List ℕ). w ++ refused_text s.refused) s.answered.text)

@@ -3,11 +3,10 @@ use Rattle.lz_serve.specs.declared.stream.Received.TheVariants as received
 use Rattle.lz_serve.specs.declared.stream.Taken.TheVariants as taken
 use Rattle.lz_serve.specs.declared.reader.Reader.TheVariants as reader
 use Rattle.std.proofs.Common.{◌≡◌, ℕ, true, false, List, [], ◌∷◌, ◌++◌, Option, Some, None, is_none, refl, sym, ap, ◌∙◌}
-use Rattle.std.specs.List.{flat_map}
 use mathlib.Core.Bool.{true≢false}
 use Rattle.lz_proto.{specs.{declared.{item.Item.{Item}, end.End.{End}}, Lines.{nothing}, Pieces.{Reads}, Sessions.{Answered}}, proofs.Texts.{only, some_items}}
 use Rattle.lz_serve.specs.{Grants.{Grant}, Listings.{Listing}, declared.{language.Language.{Language, TheVariants.{Lines}}, reader.Reader.{Reader}}}
-use Rattle.lz_serve.specs.{Exchanges.{read_as}, LineSessions.{IsGranted, LinesCame, refused_line}, Streams.{IsFresh, MayTake, Receives, Takes, Traffic}}
+use Rattle.lz_serve.specs.{Exchanges.{read_as}, LineSessions.{IsGranted, LinesCame, refused_text}, Streams.{IsFresh, MayTake, Receives, Takes, Traffic}}
 use Rattle.lz_serve.proofs.LineSessions.{lines_are_sessions}
 
 abbrev traffic : List ℕ → List ℕ → Traffic
@@ -59,5 +58,5 @@ told_unasked P L text (connection, t, (grants, may, at, spoken, goes), rest, beg
     let none : s.done ++ (s.refused ++ s.left) ≡ [] = unread (s.done ++ (s.refused ++ s.left)) t.reader goes s.came in
     let said : s.said ≡ [] = silent connection grants s.done s.said s.ended (empty_front s.done (s.refused ++ s.left) none) s.answered in
     let refused : s.refused ≡ [] = empty_front s.refused s.left (empty_back s.done (s.refused ++ s.left) none) in
-    let unsent : t.unsent ≡ [] = s.told ∙ ap (λ (w : List ℕ). w ++ flat_map refused_line s.refused) said ∙ ap (λ (l : List Item). flat_map refused_line l) refused in
+    let unsent : t.unsent ≡ [] = s.told ∙ ap (λ (w : List ℕ). w ++ refused_text s.refused) said ∙ ap (λ (l : List Item). refused_text l) refused in
     absurd (cc)

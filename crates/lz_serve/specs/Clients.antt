@@ -6,7 +6,7 @@ use Rattle.lz_list.specs.Traces.{Trace, Begins}
 use Rattle.lz_board.specs.{declared.pass.Pass.{Pass}, Seats.{part}}
 use Rattle.lz_resp.specs.declared.{query.Query.{Query}, scan.Scan.{Scan}}
 use Rattle.lz_serve.specs.{declared.{line.Line.{Line}, turn.Turn.{Turn}}, Conversations.{IsReady, IsText}, Grants.{Posed, key_asked}}
-use Rattle.lz_serve.specs.{Lines.{AreReplied, IsFree, StandsAt}, Queues.{is_in}, Refusals.{cut_turns}}
+use Rattle.lz_serve.specs.{Lines.{AreReplied, IsFree, StandsAt}, Queues.{is_in}, Refusals.{cut_turns, kept_waiting}}
 use Rattle.lz_proto.specs.declared.{request.Request.{Request}, end.End.{End, TheVariants.{Done}}}
 
 -- The number of its connection; how many lines were handed out, and how many of them were told their replies; the others; the pass to which
@@ -70,9 +70,12 @@ pub record HasLine (a : Asker) : Type 0 where
   pub numbered : a.lines ≢ 18446744073709551615
   pub free : IsFree a.under (key_asked request)
 
--- each exchange was refused of which no request is under way, nor of one after it, unless the client is lost
+-- Each exchange was refused of which no request is under way, nor of one after it. The requests of the others wait as they did, and nothing else has
+-- changed, unless the client is lost.
 abbrev pub Refuses : Asker → Asker → Type 0
-Refuses old new = new.lost ≡ false → new.turns ≡ cut_turns (length old.under) old.turns
+Refuses old new =
+    new.lost ≡ false
+    → new ≡ record old { turns = cut_turns (length old.under) old.turns; waiting = take (kept_waiting (length old.under) old.turns) old.waiting }
 
 -- it is so of the client that is there, if one was there before
 abbrev pub RefusesOf : Option Asker → Option Asker → Type 0

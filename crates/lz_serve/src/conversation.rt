@@ -79,7 +79,7 @@ impl Conversation {
         requires { IsSome self.old.reader }
         ensures ok { OnOk result (Fed piece.now self.old self.new) }
         ensures goes { IsSome self.new.reader }
-        ensures others { self.new ≡ record self.old { reader = self.new.reader; turns = self.new.turns; waiting = self.new.waiting; stops = self.new.stops } }
+        ensures others { self.new ≡ record self.old { reader = self.new.reader; turns = self.new.turns; waiting = self.new.waiting } }
     {
         match &mut self.reader {
             Some(reader) => reader.feed(piece, &mut self.exchanges),
@@ -91,7 +91,7 @@ impl Conversation {
     pub fn finish(&mut self) -> Result<(), AllocError>
         requires { IsSome self.old.reader }
         ensures ok { OnOk result (Finished self.old self.new) }
-        ensures others { self.new ≡ record self.old { reader = None; turns = self.new.turns; waiting = self.new.waiting; stops = self.new.stops } }
+        ensures others { self.new ≡ record self.old { reader = None; turns = self.new.turns; waiting = self.new.waiting } }
     {
         match self.reader.take() {
             Some(reader) => reader.end(&mut self.exchanges),

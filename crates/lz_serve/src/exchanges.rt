@@ -51,7 +51,8 @@ impl Exchanges {
 
     /// What a line comes to has come.
     pub(crate) fn put_line(&mut self, item: LineItem) -> Result<(), AllocError>
-        ensures { OnOk result (self.new ≡ adding (of_line item ∷ []) self.old) }
+        ensures ok { OnOk result (self.new ≡ adding (of_line item ∷ []) self.old) }
+        ensures stops { self.new.stops ≡ self.old.stops }
     {
         match item {
             LineItem::Asks(Request::Quit) => self.put_turn(Turn::Ends(Text::of(self.alloc, b"")?)),
@@ -65,7 +66,8 @@ impl Exchanges {
 
     /// What a frame comes to has come.
     pub(crate) fn put_frame(&mut self, item: FrameItem) -> Result<(), AllocError>
-        ensures { OnOk result (self.new ≡ adding (of_frame item ∷ []) self.old) }
+        ensures ok { OnOk result (self.new ≡ adding (of_frame item ∷ []) self.old) }
+        ensures stops { self.new.stops ≡ self.old.stops }
     {
         match item {
             FrameItem::Asks(form, requests) => {
@@ -111,7 +113,8 @@ impl Exchanges {
 
     /// The service stops. Where so many requests of these turns were begun, each turn of which none was is refused, and so is what comes.
     pub(crate) fn stop(&mut self, begun: usize) -> Result<(), AllocError>
-        ensures { OnOk result (self.new ≡ record { turns = cut_turns begun self.old.turns; waiting = take (kept_waiting begun self.old.turns) self.old.waiting; stops = true }) }
+        ensures ok { OnOk result (self.new ≡ record { turns = cut_turns begun self.old.turns; waiting = take (kept_waiting begun self.old.turns) self.old.waiting; stops = true }) }
+        ensures stops { self.new.stops ≡ true }
     {
         self.stops = true;
         let mut cut = VecDeque::new(self.alloc);
@@ -154,7 +157,8 @@ impl Exchanges {
 
     // A turn that asks nothing, or is refused.
     fn put_turn(&mut self, turn: Turn) -> Result<(), AllocError>
-        ensures { OnOk result (self.new ≡ record self.old { turns = self.old.turns ++ taken_turn self.old.stops turn ∷ [] }) }
+        ensures ok { OnOk result (self.new ≡ record self.old { turns = self.old.turns ++ taken_turn self.old.stops turn ∷ [] }) }
+        ensures stops { self.new.stops ≡ self.old.stops }
     {
         let turn = taken(self.alloc, self.stops, turn)?;
         self.turns.push_back(turn)?;
@@ -164,7 +168,8 @@ impl Exchanges {
     // A line's request.
     fn put_request(&mut self, request: Request) -> Result<(), AllocError>
         requires { request ≢ Request.Quit }
-        ensures { OnOk result (self.new ≡ adding (asks Wording.Line (request ∷ []) ∷ []) self.old) }
+        ensures ok { OnOk result (self.new ≡ adding (asks Wording.Line (request ∷ []) ∷ []) self.old) }
+        ensures stops { self.new.stops ≡ self.old.stops }
     {
         if self.stops {
             return self.put_turn(Turn::Asks(Wording::Line, 1));
@@ -178,7 +183,8 @@ impl Exchanges {
     // Requests, and the turn of their replies.
     fn put_requests(&mut self, wording: Wording, requests: &[Request]) -> Result<(), AllocError>
         requires { All (λ request. request ≢ Request.Quit) requests.now }
-        ensures { OnOk result (self.new ≡ adding (asks wording requests.now ∷ []) self.old) }
+        ensures ok { OnOk result (self.new ≡ adding (asks wording requests.now ∷ []) self.old) }
+        ensures stops { self.new.stops ≡ self.old.stops }
     {
         if self.stops {
             return self.put_turn(Turn::Asks(wording, requests.len()));

@@ -1,12 +1,12 @@
 -- Worked rows of what may have been sent to a client that asked `add 1`.
 use Rattle.std.proofs.{Common.{◌≡◌, ℕ, All, arith, false, nat_eq, List, [], ◌∷◌, ◌++◌, ap, codes, get_or, refl, subst, ◌∙◌}, lemmas.Bool.Decides.{nat_tests}}
-use Rattle.std.{specs.List.{flat_map}, proofs.lemmas.List.Elements.{All-cons, All-head, All-nil}}
+use Rattle.std.proofs.lemmas.List.Elements.{All-cons, All-head, All-nil}
 use Rattle.lz_slot.specs.declared.format.Format.{Format}
 use Rattle.lz_proto.specs.declared.{request.Request.TheVariants.{Add, Remove, Has, Quit}, item.Item.{Item, TheVariants.{Asks, Faulty}}, reply.Reply.{Reply}}
 use Rattle.lz_proto.specs.{declared.{reply.Reply.TheVariants.{Yes, No, Full, Halted, Worn, OldFile}, end.End.TheVariants.{Done}}, Lines.{Items, line, nothing}}
 use Rattle.lz_proto.{specs.Sessions.{Serves, session_text}, proofs.{LineReads.{item_read}, Texts.{only}}}
 use Rattle.lz_board.specs.Seats.{BoardId}
-use Rattle.lz_serve.specs.{LineSessions.{IsGranted, refused_line}, Grants.{Grant, IsAfter, IsGrant, IsOfLine}}
+use Rattle.lz_serve.specs.{LineSessions.{IsGranted, refused_text}, Grants.{Grant, IsAfter, IsGrant, IsOfLine}}
 use Rattle.test_threads.specs.Tapes.{IsTold}
 
 abbrev text : List ℕ
@@ -31,6 +31,8 @@ half_is_sent b F g granted of =
       said = codes "yes\n";
       answered = record { replies = Yes ∷ []; served = (g ∷ [], (g, refl, of), refl); text = refl; ends = refl };
       told = refl;
+      after = Done;
+      ends = refl;
     }
 
 -- What must not hold.
@@ -42,7 +44,7 @@ not_y : (byte : ℕ) → 121 ≡ byte → nat_eq 121 byte ≡ false → ⊥
 not_y byte is other = grind (arith, nat_tests)
 
 yes_there : (connection : ℕ) (items refused more : List Item) (replies : List Reply) (grants : List Grant) (rest : List ℕ) → items ++ (refused ++ more) ≡ Asks (Add 1) ∷ [] → Serves (IsGranted connection) [] items replies grants
-    → codes "yes\n" ++ rest ≡ session_text items replies ++ flat_map refused_line refused → All (λ g. g.reply ≡ No) grants → ⊥
+    → codes "yes\n" ++ rest ≡ session_text items replies ++ refused_text refused → All (λ g. g.reply ≡ No) grants → ⊥
 yes_there n [] [] more [] grants rest is served told all = cc
 yes_there n [] (Faulty bad ∷ refused) more [] grants rest is served told all = cc
 yes_there n [] (Asks Quit ∷ refused) more [] grants rest is served told all = cc
@@ -72,4 +74,4 @@ yes_there n (Asks (Add k) ∷ []) refused more (Yes ∷ []) grants rest is (mid,
 told_ungranted : (b : BoardId) (F : Format) (told : IsTold b F text (codes "yes\n")) → All (λ g. g.reply ≡ No) told.grants → ⊥
 told_ungranted b F told all =
     yes_there told.connection told.items told.refused told.more told.answered.replies told.grants told.rest (only text (Asks (Add 1) ∷ []) its (told.items ++ (told.refused ++ told.more)) told.its) told.answered.served
-    (told.told ∙ ap (λ (w : List ℕ). w ++ flat_map refused_line told.refused) told.answered.text) all
+    (told.told ∙ ap (λ (w : List ℕ). w ++ refused_text told.refused) told.answered.text) all

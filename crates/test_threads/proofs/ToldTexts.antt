@@ -29,6 +29,8 @@ begun b F text =
         said = [];
         answered = record { replies = []; served = refl; text = refl; ends = refl };
         told = refl;
+        after = Done;
+        ends = refl;
       };
     }
 
@@ -99,5 +101,7 @@ told_on b F old text sent piece new read count ended is tape may longer =
             said = s.said;
             answered = s.answered;
             told = sym split ∙ s.told;
+            after = t.ended;
+            ends = s.ends;
           };
         }

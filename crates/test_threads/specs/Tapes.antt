@@ -1,12 +1,13 @@
 -- What may have been sent to a client whose text is known.
-use Rattle.std.specs.{Prelude.{◌≡◌, ◌≤◌, ℕ, Bool, true, List, [], ◌++◌, length}, List.{flat_map}}
+use Rattle.std.specs.Prelude.{◌≡◌, ◌≤◌, ℕ, Bool, true, List, [], ◌++◌, length}
 use Rattle.lz_slot.specs.declared.format.Format.{Format}
 use Rattle.lz_proto.specs.{declared.{item.Item.{Item}, end.End.{End}}, Lines.{Items}, Sessions.{Answered}}
 use Rattle.lz_board.specs.Seats.{BoardId}
-use Rattle.lz_serve.specs.{LineSessions.{IsGranted, refused_line}, Grants.{AreGranted, Grant}}
+use Rattle.lz_serve.specs.{LineSessions.{EndsAfter, IsGranted, refused_text}, Grants.{AreGranted, Grant}}
 
 -- It is a beginning of what the client is told of the first items of its text: each request was
--- granted its reply, as the line of its number on one connection, by a pass of this board, those for one key in turn. Or further ones were refused.
+-- granted its reply, as the line of its number on one connection, by a pass of this board, those for one key in turn. Behind those that were answered,
+-- where that session has not ended, further ones may have been refused.
 pub record IsTold (b : BoardId) (F : Format) (text sent : List ℕ) : Type 0 where
   pub items : List Item
   pub refused : List Item
@@ -19,7 +20,9 @@ pub record IsTold (b : BoardId) (F : Format) (text sent : List ℕ) : Type 0 whe
   pub connection : ℕ
   pub said : List ℕ
   pub answered : Answered (IsGranted connection) [] items grants said ended
-  pub told : sent ++ rest ≡ said ++ flat_map refused_line refused
+  pub told : sent ++ rest ≡ said ++ refused_text refused
+  pub after : End
+  pub ends : EndsAfter ended refused after
 
 -- So much of the client's text has come, all of it where it has ended, and this was sent.
 pub record IsTape (b : BoardId) (F : Format) (text : List ℕ) (read : ℕ) (ended : Bool) (sent : List ℕ) : Type 0 where

@@ -1,5 +1,5 @@
 //! The end of a conversation whose service stops.
-ghost use Rattle.std.specs.Prelude.{◌≡◌, OnOk};
+ghost use Rattle.std.specs.Prelude.{◌≡◌, OnOk, true};
 ghost use Rattle.lz_serve.specs.Conversations.{stopped};
 
 use crate::conversation::Conversation;
@@ -10,7 +10,7 @@ impl Conversation {
     /// ever. Where memory runs out some exchanges may be lost.
     pub fn stop(&mut self) -> Result<(), AllocError>
         ensures ok { OnOk result (self.new ≡ stopped self.old) }
-        ensures others { self.new ≡ record self.old { turns = self.new.turns; waiting = self.new.waiting; stops = self.new.stops } }
+        ensures others { self.new ≡ record self.old { turns = self.new.turns; waiting = self.new.waiting; stops = true } }
     {
         self.exchanges.stop(self.under.len())
     }
