@@ -7,13 +7,13 @@ use Rattle.std.{specs.{Prelude.{⊤}, Fmt.{digits}}, proofs.Common.{◌≡◌, i
 use Rattle.std.proofs.{Common.{sym, ap, subst, ◌∙◌, arith, codes, length-append}, lemmas.List.{append-nil, nil_from_length}}
 use Rattle.lz_proto.specs.declared.{request.Request.{Request, TheVariants.{Add, Has, Quit}}, fault.Bad.TheVariants.{NoNumber}, item.Item.{Item}}
 use Rattle.lz_proto.specs.declared.{item.Item.TheVariants.{Asks, Faulty}, reply.Reply.{Reply, TheVariants.{Yes, No, Full, Halted, Worn, OldFile}}}
-use Rattle.lz_proto.{specs.{declared.end.End.{End}, Lines.{line, nothing}, Pieces.{Reads}, Sessions.{Answered, Serves, session_text}}, proofs.LineReads.{item_read}}
+use Rattle.lz_proto.{specs.{declared.end.End.{End}, Lines.{line, nothing}, Pieces.{Reads}, Sessions.{Serves, session_text}}, proofs.LineReads.{item_read}}
 use Rattle.lz_proto.proofs.Texts.{only}
 use Rattle.lz_board.specs.declared.pass.Pass.{Pass}
 use Rattle.lz_serve.specs.declared.{line.Line.{Line}, language.Language.{Language, TheVariants.{Lines, Frames}}, turn.Turn.{Turn, TheVariants.{Asks as asks, Says as says}}}
 use Rattle.lz_serve.specs.{Grants.{Grant, IsOfLine, key_asked}, Lines.{IsFree, awaited}, Listings.{Listing}, Exchanges.{CameFrom, Exchange, read_as}}
-use Rattle.lz_serve.specs.{Conversations.{AreTold, IsAt, IsTold, Rests, Talk, more, nothing as none_told}, LineSessions.{EndsAfter, IsGranted, LinesCame, refused_text}}
-use Rattle.lz_serve.proofs.LineSessions.{lines_are_sessions}
+use Rattle.lz_serve.specs.{Conversations.{AreTold, IsAt, IsTold, Rests, Talk, more, nothing as none_told}, LineSessions.{IsGranted}}
+use Rattle.lz_serve.proofs.LineSessions.{GoesOn, going_on, lines_are_sessions}
 use Rattle.lz_resp.specs.declared.{form.Form.TheVariants.{Added}, naming.Naming.{Naming}}
 
 -- whatever is so of pages
@@ -116,26 +116,8 @@ not_two_members p said ended told = told.0.1
 not_as_frames : (naming : Naming) (text : List ℕ) (exchanges : List Exchange) → CameFrom (Frames naming) text exchanges (Some (reader.Lines (Some []))) → ⊥
 not_as_frames naming text exchanges came = let apart = came.0 in cc
 
--- Where a conversation stands whose service goes on: nothing was refused.
-pub record Stands (grants : List Grant) (text : List ℕ) (t : Talk) : Type 0 where
-  pub done : List Item
-  pub left : List Item
-  pub came : LinesCame text (done ++ left) t.reader
-  pub many : length left ≡ length t.turns
-  pub answered : Answered (IsGranted 1) [] done grants t.unsent t.ended
-
-pub session : (grants : List Grant) (text : List ℕ) (t : Talk) → t.spoken ≡ Lines → t.stops ≡ false → IsAt any 1 grants text [] t → Stands grants text t
-session grants text t spoken goes at =
-    let s = lines_are_sessions any 1 grants text [] t (ap (λ (l : Language). read_as l text) spoken) at in
-    let none = s.goes goes in
-    let said : s.said ≡ t.unsent = sym (append-nil s.said) ∙ ap (λ (l : List Item). s.said ++ refused_text l) (sym none) ∙ sym s.told in
-    record {
-      done = s.done;
-      left = s.left;
-      came = subst (λ (l : List Item). LinesCame text (s.done ++ (l ++ s.left)) t.reader) none s.came;
-      many = s.many;
-      answered = subst (λ (e : End). Answered (IsGranted 1) [] s.done grants t.unsent e) (sym (subst (λ (l : List Item). EndsAfter s.ended l t.ended) none s.ends)) (subst (λ (w : List ℕ). Answered (IsGranted 1) [] s.done grants w s.ended) said s.answered);
-    }
+pub session : (grants : List Grant) (text : List ℕ) (t : Talk) → t.spoken ≡ Lines → t.stops ≡ false → IsAt any 1 grants text [] t → GoesOn 1 grants text [] t
+session grants text t spoken goes at = going_on 1 grants text [] t (lines_are_sessions any 1 grants text [] t (ap (λ (l : Language). read_as l text) spoken) at) goes
 
 -- lines that ended have these items alone
 pub only_items : (text : List ℕ) (all done left : List Item) → Reads text all (Some []) → Reads text (done ++ left) (Some []) → length left ≡ 0 → done ≡ all

@@ -11,8 +11,8 @@ use Rattle.lz_proto.specs.{declared.{reply.Reply.{Reply}, end.End.{End}}, Sessio
 use Rattle.lz_proto.proofs.Serving.{answered_more, fault_answered, request_answered}
 use Rattle.lz_serve.specs.declared.{line.Line.{Line as UnderWay}, language.Language.{Language}, reader.Reader.{Reader}, turn.{Wording.TheVariants.{Line}, Turn.{Turn}}}
 use Rattle.lz_serve.specs.Exchanges.{CameFrom, CameOfAll, Exchange, asks, end_by, of_line, read_as, refusal, refused as refused_of, requests_in, taken, turn_of}
-use Rattle.lz_serve.specs.{Conversations.{AreTold, IsTold, more, nothing}, Grants.{Grant}, Lines.{asked_by}}
-use Rattle.lz_serve.specs.{Listings.{Listing}, LineSessions.{EndsAfter, IsGranted, LinesAreSessions, LinesCame, refused_end, refused_text}}
+use Rattle.lz_serve.specs.{Conversations.{AreTold, IsTold, Talk, more, nothing}, Grants.{Grant}, Lines.{asked_by}}
+use Rattle.lz_serve.specs.{Listings.{Listing}, LineSessions.{EndsAfter, IsGranted, IsSession, LinesAreSessions, LinesCame, refused_end, refused_text}}
 use Rattle.lz_serve.proofs.{Cuts.{refused_asks}, Languages.{untold_yet}}
 
 -- the items of a front of exchanges
@@ -299,4 +299,25 @@ lines_are_sessions L connection grants text sent t lines at =
       ends = s.ends;
       goes = p.goes;
       unbegun = λ some. none_asked t.under t.waiting (sym at.asked ∙ p.rests some);
+    }
+
+-- The session of a service that goes on: nothing was refused.
+pub record GoesOn (connection : ℕ) (grants : List Grant) (text sent : List ℕ) (t : Talk) : Type 0 where
+  pub done : List Item
+  pub left : List Item
+  pub came : LinesCame text (done ++ left) t.reader
+  pub many : length left ≡ length t.turns
+  pub answered : Answered (IsGranted connection) [] done grants (sent ++ t.unsent) t.ended
+
+pub going_on : (connection : ℕ) (grants : List Grant) (text sent : List ℕ) (t : Talk) → IsSession connection grants text sent t → t.stops ≡ false → GoesOn connection grants text sent t
+going_on connection grants text sent t s goes =
+    let none = s.goes goes in
+    let said : s.said ≡ sent ++ t.unsent = sym (append-nil s.said) ∙ ap (λ (l : List Item). s.said ++ refused_text l) (sym none) ∙ sym s.told in
+    let ended : s.ended ≡ t.ended = sym (subst (λ (l : List Item). EndsAfter s.ended l t.ended) none s.ends) in
+    record {
+      done = s.done;
+      left = s.left;
+      came = subst (λ (l : List Item). LinesCame text (s.done ++ (l ++ s.left)) t.reader) none s.came;
+      many = s.many;
+      answered = subst (λ (e : End). Answered (IsGranted connection) [] s.done grants (sent ++ t.unsent) e) ended (subst (λ (w : List ℕ). Answered (IsGranted connection) [] s.done grants w s.ended) said s.answered);
     }

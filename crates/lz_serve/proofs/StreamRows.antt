@@ -52,8 +52,8 @@ unread items (Some (reader.Unread naming)) goes came = absurd came
 unread items None goes came = absurd (true≢false goes)
 
 -- something is told to a client that has sent nothing
-told_unasked : (P : List Grant → Type 0) (L : Listing → Type 0) (text : List ℕ) → MayTake P L (Some (traffic [] [])) (1 ∷ text) → ⊥
-told_unasked P L text (connection, t, (grants, may, at, spoken, goes), rest, begins) =
+told_unasked : (P : List Grant → Type 0) (L : Listing → Type 0) (A : Type 0) (text : List ℕ) → MayTake P L A (Some (traffic [] [])) (1 ∷ text) → ⊥
+told_unasked P L A text (connection, t, (grants, may, at, spoken, goes), asked, rest, begins) =
     let s = lines_are_sessions L connection grants [] [] t (ap (λ (l : Language). read_as l []) spoken) at in
     let none : s.done ++ (s.refused ++ s.left) ≡ [] = unread (s.done ++ (s.refused ++ s.left)) t.reader goes s.came in
     let said : s.said ≡ [] = silent connection grants s.done s.said s.ended (empty_front s.done (s.refused ++ s.left) none) s.answered in

@@ -95,8 +95,8 @@ module _ (P : List Grant → Type 0) (L : Listing → Type 0) (connection : ℕ)
   known_so Q (Some s) t so was = (was.0, so was.0 was.1, was.2, was.3, was.4)
 
   -- what it has unsent may be taken
-  pub may_take : (s : Option Traffic) (t : Talk) → IsTalkOf P L connection s t → MayTake P L s t.unsent
-  may_take s t at = (connection, t, at, [], sym (append-nil t.unsent))
+  pub may_take : (A : Type 0) (s : Option Traffic) (t : Talk) → (t.stops ≡ true → A) → IsTalkOf P L connection s t → MayTake P L A s t.unsent
+  may_take A s t asked at = (connection, t, at, asked, [], sym (append-nil t.unsent))
 
 -- how many requests of its a turn tells
 abbrev count_of : Turn → ℕ
@@ -110,17 +110,18 @@ record Left (first : Turn) (old new : Talk) : Type 0 where
   few : count_of first ≤ length old.under
   reader : new.reader ≡ old.reader
   spoken : new.spoken ≡ old.spoken
+  stops : new.stops ≡ old.stops
 
 left : (first : Turn) (old new : Talk) → Told first old new → Left first old new
 left (turn.Asks wording count) old new (replies, few, of, is) =
-    record { told = ap (λ (t : Talk). t.told) is; under = ap (λ (t : Talk). t.under) is; few = few; reader = ap (λ (t : Talk). t.reader) is; spoken = ap (λ (t : Talk). t.spoken) is }
+    record { told = ap (λ (t : Talk). t.told) is; under = ap (λ (t : Talk). t.under) is; few = few; reader = ap (λ (t : Talk). t.reader) is; spoken = ap (λ (t : Talk). t.spoken) is; stops = ap (λ (t : Talk). t.stops) is }
 left (turn.Says said) old new is =
-    record { told = ap (λ (t : Talk). t.told) is ∙ omega arith; under = ap (λ (t : Talk). t.under) is; few = omega arith; reader = ap (λ (t : Talk). t.reader) is; spoken = ap (λ (t : Talk). t.spoken) is }
+    record { told = ap (λ (t : Talk). t.told) is ∙ omega arith; under = ap (λ (t : Talk). t.under) is; few = omega arith; reader = ap (λ (t : Talk). t.reader) is; spoken = ap (λ (t : Talk). t.spoken) is; stops = ap (λ (t : Talk). t.stops) is }
 left (turn.Lists scan) old new is = absurd is
 left (turn.Tells query) old new (f, is) =
-    record { told = ap (λ (t : Talk). t.told) is ∙ omega arith; under = ap (λ (t : Talk). t.under) is; few = omega arith; reader = ap (λ (t : Talk). t.reader) is; spoken = ap (λ (t : Talk). t.spoken) is }
+    record { told = ap (λ (t : Talk). t.told) is ∙ omega arith; under = ap (λ (t : Talk). t.under) is; few = omega arith; reader = ap (λ (t : Talk). t.reader) is; spoken = ap (λ (t : Talk). t.spoken) is; stops = ap (λ (t : Talk). t.stops) is }
 left (turn.Ends said) old new is =
-    record { told = ap (λ (t : Talk). t.told) is ∙ omega arith; under = ap (λ (t : Talk). t.under) is; few = omega arith; reader = ap (λ (t : Talk). t.reader) is; spoken = ap (λ (t : Talk). t.spoken) is }
+    record { told = ap (λ (t : Talk). t.told) is ∙ omega arith; under = ap (λ (t : Talk). t.under) is; few = omega arith; reader = ap (λ (t : Talk). t.reader) is; spoken = ap (λ (t : Talk). t.spoken) is; stops = ap (λ (t : Talk). t.stops) is }
 
 module _ (P : List Grant → Type 0) (L : Listing → Type 0) (seen : Trace) (connection : ℕ) where
   -- where an exchange is told that asks nothing
@@ -178,6 +179,7 @@ module _ (P : List Grant → Type 0) (L : Listing → Type 0) (seen : Trace) (co
   -- What stays where the first exchange was told, or none was.
   pub record Stays (s : Option Traffic) (old new : Talk) (puts its : List Pass) : Type 0 where
     pub reader : new.reader ≡ old.reader
+    pub stops : new.stops ≡ old.stops
     pub earned : AreEarned P seen connection new.told new.under its
     pub more : old.told ≤ new.told
     pub lines : new.told + length new.under ≡ old.told + length old.under
@@ -194,6 +196,7 @@ module _ (P : List Grant → Type 0) (L : Listing → Type 0) (seen : Trace) (co
       let to_so : its ≡ drop (count_of first) puts = to ∙ ap (λ (n : ℕ). drop n puts) many in
       record {
         reader = l.reader;
+        stops = l.stops;
         more = let t = l.told in omega (arith, t);
         under = l.under ∙ ap (λ (n : ℕ). drop n old.under) (sym many);
         lines = let t = l.told in let u = ap (λ (x : List Line). length x) l.under ∙ length-drop (count_of first) old.under in let few = l.few in omega (arith, t, u, few);
@@ -206,6 +209,7 @@ module _ (P : List Grant → Type 0) (L : Listing → Type 0) (seen : Trace) (co
       let to_so : its ≡ puts = to ∙ ap (λ (n : ℕ). drop n puts) no_more in
       record {
         reader = ap (λ (t : Talk). t.reader) same;
+        stops = ap (λ (t : Talk). t.stops) same;
         more = let t = ap (λ (t : Talk). t.told) same in omega (arith, t);
         lines = ap (λ (t : Talk). t.told + length t.under) same;
         under = ap (λ (t : Talk). t.under) same ∙ ap (λ (n : ℕ). drop n old.under) (sym no_more);

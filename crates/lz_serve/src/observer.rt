@@ -116,6 +116,11 @@ impl Verb {
 
 /// Is told what an operator wants to know of a service, by any of its threads, and says when it is to end.
 pub trait Observer: Drop {
+    ghost use Rattle.std.specs.Prelude.{◌≡◌, true};
+
+    /// That somebody has asked for its end.
+    ghost asked: { Type 0 };
+
     /// The service stands, and is about to take its first connection from this listener.
     fn serving(&self, serving: Serving, listener: &Listener);
 
@@ -154,5 +159,6 @@ pub trait Observer: Drop {
     fn halted(&self);
 
     /// Whether the service is to end: then no further line or frame is begun, and those that were are answered.
-    fn stops(&self) -> bool;
+    fn stops(&self) -> bool
+        ensures { result ≡ true → asked };
 }

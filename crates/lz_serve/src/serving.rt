@@ -58,6 +58,7 @@ where
     P: Poller,
     requires may_call { All (MayCall N.board) passes.items }
     requires promised { Promises N.board N.format P.Stream.promised P.Stream.listed }
+    requires asked { O.asked → P.Stream.asked }
     ensures served { Serves N.board (parts_of passes.items) passes result.0 }
     ensures sessions { 1 ≤ bounds.sessions → P.came result.1 ≤ P.came poller + bounds.sessions }
 {
@@ -95,6 +96,7 @@ where
     requires may_call { All (MayCall N.board) passes.items }
     requires calm { All (IsCalmAfter B.parts) passes.items }
     requires promised { Promises N.board N.format P.Stream.promised P.Stream.listed }
+    requires asked { O.asked → P.Stream.asked }
     ensures served { Serves N.board B.parts passes result.0 }
     ensures sessions { 1 ≤ bounds.sessions → P.came result.1 ≤ P.came poller + bounds.sessions }
 {
@@ -163,6 +165,7 @@ where
     O: Observer,
     P: Poller,
     requires promised { Promises N.board N.format P.Stream.promised P.Stream.listed }
+    requires asked { O.asked → P.Stream.asked }
     requires limit { (L.before ≡ P.came poller) × (L.sessions ≡ bounds.sessions) }
     ensures count { vec_len result.0 ≡ desk.given }
     ensures sessions { 1 ≤ bounds.sessions → P.came result.1 ≤ P.came poller + bounds.sessions }
@@ -193,6 +196,7 @@ where
     O: Observer,
     P: Poller,
     requires promised { Promises N.board N.format P.Stream.promised P.Stream.listed }
+    requires asked { O.asked → P.Stream.asked }
     ensures given { desk.new.given ≡ desk.old.given }
     ensures rests { desk.new.free ≡ desk.new.given }
 {

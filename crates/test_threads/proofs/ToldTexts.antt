@@ -3,10 +3,10 @@ use Rattle.lz_serve.specs.declared.reader.Reader.TheVariants as reader
 use Rattle.std.proofs.Common.{◌≡◌, ◌+◌, ℕ, Bool, true, false, List, [], ◌++◌, length, take, drop, Option, Some, None, is_none, refl, sym, ap, subst, ◌∙◌, arith}
 use Rattle.std.proofs.{Common.{append_assoc}, Math.Seq.{take-add}, lemmas.List.{drop_all, take-append-drop, take_all, take_at, Elements.{All-nil}}}
 use Rattle.lz_slot.specs.declared.format.Format.{Format}
-use Rattle.lz_proto.{specs.{declared.{item.Item.{Item}, end.End.TheVariants.{Done}}, Lines.{Items}}, proofs.Texts.{some_items}}
+use Rattle.lz_proto.{specs.{declared.{item.Item.{Item}, end.End.TheVariants.{Done}}, Lines.{Items}, Sessions.{Answered}}, proofs.Texts.{some_items}}
 use Rattle.lz_board.specs.Seats.{BoardId}
 use Rattle.lz_serve.specs.{declared.{language.Language.{Language, TheVariants.{Lines}}, reader.Reader.{Reader}}, Exchanges.{read_as}, LineSessions.{IsGranted, LinesCame}}
-use Rattle.lz_serve.{specs.{Grants.{AreGranted, IsGrant}, Listings.{IsListing}, Streams.{MayTake, Traffic}}, proofs.LineSessions.{lines_are_sessions}}
+use Rattle.lz_serve.{specs.{Grants.{AreGranted, IsGrant}, Listings.{IsListing}, Streams.{MayTake, Traffic}}, proofs.LineSessions.{going_on, lines_are_sessions}}
 use Rattle.test_threads.specs.Tapes.{IsTape}
 
 -- nothing has come and nothing was sent
@@ -18,7 +18,6 @@ begun b F text =
       whole = λ e. absurd (cc);
       told = record {
         items = [];
-        refused = [];
         more = some.0;
         its = some.1;
         grants = [];
@@ -26,11 +25,7 @@ begun b F text =
         rest = [];
         ended = Done;
         connection = 0;
-        said = [];
         answered = record { replies = []; served = refl; text = refl; ends = refl };
-        told = refl;
-        after = Done;
-        ends = refl;
       };
     }
 
@@ -71,18 +66,22 @@ sent_on sent text rest count =
     ap (λ (x : List ℕ). sent ++ (x ++ rest)) (sym (take-append-drop count text)) ∙ ap (λ (x : List ℕ). sent ++ x) (append_assoc (take count text) (drop count text) rest)
     ∙ sym (append_assoc sent (take count text) (drop count text ++ rest))
 
+-- a service that nobody can ask to stop goes on
+unasked : (stops : Bool) → (stops ≡ true → ⊥) → stops ≡ false
+unasked false asked = refl
+unasked true asked = absurd (asked refl)
+
 -- a beginning was sent of what might be
 pub told_on : (b : BoardId) (F : Format) (old : Traffic) (text sent piece new : List ℕ) (read count : ℕ) (ended : Bool) → traffic (take read text) ended sent ≡ old → IsTape b F text read ended sent
-    → MayTake (AreGranted b F) (IsListing b) (Some old) piece → new ≡ sent ++ take count piece → IsTape b F text read ended new
+    → MayTake (AreGranted b F) (IsListing b) ⊥ (Some old) piece → new ≡ sent ++ take count piece → IsTape b F text read ended new
 told_on b F old text sent piece new read count ended is tape may longer =
-    let may : MayTake (AreGranted b F) (IsListing b) (Some (traffic (take read text) ended sent)) piece = subst (λ (o : Traffic). MayTake (AreGranted b F) (IsListing b) (Some o) piece) (sym is) may in
+    let may : MayTake (AreGranted b F) (IsListing b) ⊥ (Some (traffic (take read text) ended sent)) piece = subst (λ (o : Traffic). MayTake (AreGranted b F) (IsListing b) ⊥ (Some o) piece) (sym is) may in
     by_talk may
   where
-    by_talk : MayTake (AreGranted b F) (IsListing b) (Some (traffic (take read text) ended sent)) piece → IsTape b F text read ended new
-    by_talk (connection, t, (grants, granted, at, spoken, goes), rest, is_rest) =
-        let s = lines_are_sessions (IsListing b) connection grants (take read text) sent t (ap (λ (l : Language). read_as l (take read text)) spoken) at in
-        let both = append_assoc s.done s.refused s.left in
-        let first = first_items ended text read (s.done ++ s.refused) s.left t.reader tape.whole goes (subst (λ (l : List Item). LinesCame (take read text) l t.reader) (sym both) s.came) in
+    by_talk : MayTake (AreGranted b F) (IsListing b) ⊥ (Some (traffic (take read text) ended sent)) piece → IsTape b F text read ended new
+    by_talk (connection, t, (grants, granted, at, spoken, goes), asked, rest, is_rest) =
+        let s = going_on connection grants (take read text) sent t (lines_are_sessions (IsListing b) connection grants (take read text) sent t (ap (λ (l : Language). read_as l (take read text)) spoken) at) (unasked t.stops asked) in
+        let first = first_items ended text read s.done s.left t.reader tape.whole goes s.came in
         let split : sent ++ t.unsent ≡ new ++ (drop count piece ++ rest) =
         ap (λ (x : List ℕ). sent ++ x) is_rest ∙ sent_on sent piece rest count ∙ ap (λ (x : List ℕ). x ++ (drop count piece ++ rest)) (sym longer) in
         record {
@@ -90,18 +89,13 @@ told_on b F old text sent piece new read count ended is tape may longer =
           whole = tape.whole;
           told = record {
             items = s.done;
-            refused = s.refused;
             more = first.0;
-            its = subst (λ (l : List Item). Items text l) (append_assoc s.done s.refused first.0) first.1;
+            its = first.1;
             grants = grants;
             granted = granted;
             rest = drop count piece ++ rest;
-            ended = s.ended;
+            ended = t.ended;
             connection = connection;
-            said = s.said;
-            answered = s.answered;
-            told = sym split ∙ s.told;
-            after = t.ended;
-            ends = s.ends;
+            answered = subst (λ (x : List ℕ). Answered (IsGranted connection) [] s.done grants x t.ended) split s.answered;
           };
         }

@@ -7,6 +7,7 @@ use crate::stream::Stream;
 impl<S: Stream> Client<S> {
     /// The service stops: what has come and wasn't begun is refused. Of a frame with a member that was begun the others wait for their turn as ever.
     pub(crate) fn stop(&mut self)
+        requires { S.asked }
         ensures lines { KeepsLines self.old self.new }
         ensures refused { Refuses self.old self.new }
     {

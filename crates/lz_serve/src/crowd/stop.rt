@@ -9,6 +9,7 @@ use crate::stream::Stream;
 impl<S: Stream> Crowd<S> {
     /// The service stops: what each client has sent and wasn't begun is refused, and so is what it still sends.
     pub fn stop<O: Observer>(&mut self, observer: &O, buffer: &mut [u8])
+        requires { S.asked }
         ensures { Keeps self.old self.new }
     {
         for token in 0..self.places.len() {
@@ -26,6 +27,7 @@ impl<S: Stream> Crowd<S> {
 
     // The same of the client of this token, if it has one.
     fn refuse(&mut self, token: usize)
+        requires { S.asked }
         ensures kept { Keeps self.old self.new }
         ensures refused { RefusesAt self.old token self.new }
         ensures others { ChangesAt token self.old self.new }

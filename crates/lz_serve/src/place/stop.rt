@@ -10,6 +10,7 @@ const LAST_READS: usize = 16;
 impl<S: Stream> Place<S> {
     /// The service stops: what its client has sent and wasn't begun is refused. It is told so once it is tended to.
     pub(crate) fn stop(&mut self)
+        requires { S.asked }
         ensures kept { KeepsLinesOf self.old.client self.new.client }
         ensures refused { RefusesOf self.old.client self.new.client }
     {

@@ -42,6 +42,7 @@ where
     O: Observer,
     P: Poller,
     requires promised { Promises N.board N.format P.Stream.promised P.Stream.listed }
+    requires asked { O.asked → P.Stream.asked }
     ensures given { desk.new.given ≡ desk.old.given }
 {
     if told.load(Ordering::SeqCst) || desk.halted() || !observer.stops() {

@@ -1,5 +1,5 @@
 use Rattle.lz_serve.proofs.client.Client.read.Goals as goal
-use Rattle.std.proofs.Common.{refl, ap}
+use Rattle.std.proofs.Common.{refl, ap, sym, ◌∙◌}
 use mathlib.Core.Bool.{true≢false}
 use Rattle.lz_serve.{specs.{Clients.{passes_of, seen_by}, Conversations.{Talk}, Exchanges.{requests_in, taken}, Lines.{AreBefore}}, proofs.HeldUp.{held_more}}
 use Rattle.lz_serve.proofs.{LinesUnderWay.{earned_same}, TalksOnStreams.{fed, finished, same_lines}}
@@ -24,6 +24,7 @@ invariant_of-self g c =
       λ held kept.
           let step = c.in-Ok.ensures.ok in
           held_more old new (requests_in (taken old.stops step.2)) (ap (λ (t : Talk). t.waiting) step.5) (ap (λ (t : Talk). t.told) step.5) under (ap (λ (t : Talk). t.ended) step.5) (was.3 held kept),
+      λ stops. was.4 (sym (ap (λ (t : Talk). t.stops) others) ∙ stops),
     )
 
 pub invariant_of-self-in-Ok-finish : goal.invariant_of-self-in-Ok-finish
@@ -46,4 +47,5 @@ invariant_of-self-in-Ok-finish g c =
       λ held kept.
           let step = c.in-Ok-finish.ensures.ok in
           held_more old new (requests_in (taken old.stops step.1)) (ap (λ (t : Talk). t.waiting) step.4) (ap (λ (t : Talk). t.told) step.4) under (ap (λ (t : Talk). t.ended) step.4) (was.3 held kept),
+      λ stops. was.4 (sym (ap (λ (t : Talk). t.stops) others) ∙ stops),
     )

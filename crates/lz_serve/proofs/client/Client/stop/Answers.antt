@@ -19,4 +19,5 @@ invariant_of-self g c =
       earned_same P from.connection seen old.told new.told old.under new.under puts puts (ap (λ (t : Talk). t.told) others) under refl was.1,
       λ kept. same_lines P g.S.Stream.listed seen from.connection traffic new old.under new.under puts under (refusing (AreBefore P seen old.under puts) g.S.Stream.listed from.connection traffic old new c.in-Ok.ensures.ok (was.2 kept)),
       λ held. absurd (cc),
+      λ stops. c.requires,
     )
