@@ -301,6 +301,11 @@ lines_are_sessions L connection grants text sent t lines at =
       unbegun = λ some. none_asked t.under t.waiting (sym at.asked ∙ p.rests some);
     }
 
+-- a service that nobody can ask to stop goes on
+pub unasked : (stops : Bool) → (stops ≡ true → ⊥) → stops ≡ false
+unasked false asked = refl
+unasked true asked = absurd (asked refl)
+
 -- The session of a service that goes on: nothing was refused.
 pub record GoesOn (connection : ℕ) (grants : List Grant) (text sent : List ℕ) (t : Talk) : Type 0 where
   pub done : List Item

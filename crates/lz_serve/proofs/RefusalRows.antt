@@ -2,17 +2,20 @@
 use Rattle.lz_proto.specs.declared.end.End.TheVariants as ends
 use Rattle.lz_serve.specs.declared.turn.Wording.TheVariants as wording
 use Rattle.lz_serve.specs.Exchanges as exchange
-use Rattle.std.proofs.Common.{◌≡◌, ◌++◌, ◌+◌, ℕ, suc, true, false, nat_eq, get_or, List, [], ◌∷◌, Some, length, map, refl, sym, ap, subst, ◌∙◌, arith, codes, append_assoc}
+use Rattle.std.proofs.Common.{◌≡◌, ◌++◌, ◌+◌, ℕ, suc, true, false, nat_eq, get_or, List, [], ◌∷◌, Option, Some, None, is_none, length, map, refl, sym, ap, subst, ◌∙◌, arith, codes, append_assoc}
+use mathlib.Core.Bool.{true≢false}
 use Rattle.std.proofs.lemmas.Bool.Decides.{nat_tests}
 use Rattle.lz_proto.specs.declared.{request.Request.{Request, TheVariants.{Add, Remove, Has, Quit}}, item.Item.{Item, TheVariants.{Asks, Faulty}}, reply.Reply.{Reply, TheVariants.{Yes, No, Full, Halted, Worn, OldFile}}}
-use Rattle.lz_proto.specs.{declared.fault.Bad.TheVariants.{NoNumber}, Pieces.{Reads}, Sessions.{Serves, session_text}}
+use Rattle.lz_proto.specs.{declared.fault.Bad.TheVariants.{NoNumber}, Lines.{Items, nothing}, Pieces.{Reads}, Sessions.{Serves, session_text}}
+use Rattle.lz_proto.proofs.Texts.{only}
 use Rattle.lz_resp.specs.declared.{form.Form.TheVariants.{Added}, query.Query.{Query}, scan.Scan.{Scan}}
 use Rattle.lz_board.specs.declared.pass.Pass.{Pass}
 use Rattle.lz_serve.specs.declared.turn.Turn.{Turn, TheVariants.{Asks as asks, Says as says, Lists as lists, Tells as tells}}
-use Rattle.lz_serve.specs.{Clients.{Asker, Refuses}, Conversations.{IsAt, nothing as none_told, stopped}, Exchanges.{Exchange, frame_refusal, refused, requests_in, turn_of}, Grants.{Grant}}
-use Rattle.lz_serve.specs.{LineSessions.{EndsAfter, IsGranted, refused_text}, Refusals.{cut_turns, kept_waiting}}
+use Rattle.lz_serve.specs.{Clients.{Asker, Refuses}, Conversations.{IsAt, nothing as none_told, stopped}, Exchanges.{Exchange, frame_refusal, read_as, refused, requests_in, turn_of}, Grants.{Grant}}
+use Rattle.lz_serve.specs.{LineSessions.{EndsAfter, IsGranted, LinesCame, refused_text}, Refusals.{cut_turns, kept_waiting}}
+use Rattle.lz_serve.specs.{declared.{language.Language.{Language, TheVariants.{Lines}}, reader.Reader.{Reader}}, Listings.{Listing}, Streams.{MayTake, Traffic}}
 use Rattle.lz_serve.proofs.ConversationRows.{add_read, any, as_many, awaits_one, came, first, gets, its_turns, lines, only_items, second, session, stands}
-use Rattle.lz_serve.proofs.{ClientRows.{asks as asker}, LineSessions.{lines_are_sessions}}
+use Rattle.lz_serve.proofs.{ClientRows.{asks as asker}, LineSessions.{going_on, lines_are_sessions, unasked}}
 
 abbrev line : Turn
 line = asks wording.Line 1
@@ -138,3 +141,31 @@ told_of_a_granted_line p stood =
     let s = lines_are_sessions any 1 (gets p Yes) (codes "add 1\n") [] (record (stands [] [] 1 (codes "stopping\n") ends.Done) { stops = true }) refl stood in
     let all = only_items (codes "add 1\n") (Asks (Add 1) ∷ []) (s.done ++ s.refused) s.left add_read (subst (λ (l : List Item). Reads (codes "add 1\n") l (Some [])) (sym (append_assoc s.done s.refused s.left)) s.came) s.many in
     granted_and_told p s.done s.refused s.answered.replies all s.answered.served (s.told ∙ ap (λ (w : List ℕ). w ++ refused_text s.refused) s.answered.text)
+
+abbrev traffic : Traffic
+traffic = record { spoken = Lines; received = codes "add 1\n"; ended = true; taken = [] }
+
+whole_text : (items : List Item) (r : Option Reader) → is_none r ≡ true → LinesCame (codes "add 1\n") items r → Items (codes "add 1\n") items
+whole_text items (Some r) goes came = absurd (true≢false (sym goes))
+whole_text items None goes came = came
+
+not_told : (done left : List Item) (replies : List Reply) (rest : List ℕ) → done ++ left ≡ Asks (Add 1) ∷ [] → codes "stopping\n" ++ rest ≡ session_text done replies → ⊥
+not_told [] left replies rest all told = cc
+not_told (Faulty bad ∷ done) left replies rest all told = cc
+not_told (Asks Quit ∷ done) left replies rest all told = cc
+not_told (Asks (Remove k) ∷ done) left replies rest all told = cc
+not_told (Asks (Has k) ∷ done) left replies rest all told = cc
+not_told (Asks (Add k) ∷ done) left [] rest all told = cc
+not_told (Asks (Add k) ∷ done) left (Yes ∷ replies) rest all told = not_s 121 (ap first_byte told) refl
+not_told (Asks (Add k) ∷ done) left (No ∷ replies) rest all told = not_s 110 (ap first_byte told) refl
+not_told (Asks (Add k) ∷ done) left (Full ∷ replies) rest all told = not_s 102 (ap first_byte told) refl
+not_told (Asks (Add k) ∷ done) left (Halted ∷ replies) rest all told = not_s 104 (ap first_byte told) refl
+not_told (Asks (Add k) ∷ done) left (Worn ∷ replies) rest all told = not_s 119 (ap first_byte told) refl
+not_told (Asks (Add k) ∷ done) left (OldFile ∷ replies) rest all told = not_s 111 (ap first_byte told) refl
+
+-- or though nobody has asked the service to stop
+told_unasked : (P : List Grant → Type 0) (L : Listing → Type 0) → MayTake P L ⊥ (Some traffic) (codes "stopping\n") → ⊥
+told_unasked P L (connection, t, (grants, may, at, spoken, goes), asked, rest, begins) =
+    let s = going_on connection grants (codes "add 1\n") [] t (lines_are_sessions L connection grants (codes "add 1\n") [] t (ap (λ (l : Language). read_as l (codes "add 1\n")) spoken) at) (unasked t.stops asked) in
+    let all = only (codes "add 1\n") (Asks (Add 1) ∷ []) (add_read.1 [] [] nothing) (s.done ++ s.left) (whole_text (s.done ++ s.left) t.reader goes s.came) in
+    not_told s.done s.left s.answered.replies rest all (sym begins ∙ s.answered.text)

@@ -6,7 +6,7 @@ use Rattle.lz_slot.specs.declared.format.Format.{Format}
 use Rattle.lz_proto.{specs.{declared.{item.Item.{Item}, end.End.TheVariants.{Done}}, Lines.{Items}, Sessions.{Answered}}, proofs.Texts.{some_items}}
 use Rattle.lz_board.specs.Seats.{BoardId}
 use Rattle.lz_serve.specs.{declared.{language.Language.{Language, TheVariants.{Lines}}, reader.Reader.{Reader}}, Exchanges.{read_as}, LineSessions.{IsGranted, LinesCame}}
-use Rattle.lz_serve.{specs.{Grants.{AreGranted, IsGrant}, Listings.{IsListing}, Streams.{MayTake, Traffic}}, proofs.LineSessions.{going_on, lines_are_sessions}}
+use Rattle.lz_serve.{specs.{Grants.{AreGranted, IsGrant}, Listings.{IsListing}, Streams.{MayTake, Traffic}}, proofs.LineSessions.{going_on, lines_are_sessions, unasked}}
 use Rattle.test_threads.specs.Tapes.{IsTape}
 
 -- nothing has come and nothing was sent
@@ -65,11 +65,6 @@ sent_on : (sent text rest : List ℕ) (count : ℕ) → sent ++ (text ++ rest) �
 sent_on sent text rest count =
     ap (λ (x : List ℕ). sent ++ (x ++ rest)) (sym (take-append-drop count text)) ∙ ap (λ (x : List ℕ). sent ++ x) (append_assoc (take count text) (drop count text) rest)
     ∙ sym (append_assoc sent (take count text) (drop count text ++ rest))
-
--- a service that nobody can ask to stop goes on
-unasked : (stops : Bool) → (stops ≡ true → ⊥) → stops ≡ false
-unasked false asked = refl
-unasked true asked = absurd (asked refl)
 
 -- a beginning was sent of what might be
 pub told_on : (b : BoardId) (F : Format) (old : Traffic) (text sent piece new : List ℕ) (read count : ℕ) (ended : Bool) → traffic (take read text) ended sent ≡ old → IsTape b F text read ended sent
