@@ -175,17 +175,17 @@ last_same (a ∷ xs) (b ∷ ys) x y same =
 
 -- the text before it
 before_more : (text : List ℕ) (first : List Item) (item : Item) → refused_text (first ++ item ∷ []) ≡ refused_text first ++ refused_text (item ∷ []) → text ++ refused_text (first ++ item ∷ []) ≡ (text ++ refused_text first) ++ refused_text (item ∷ [])
-before_more text first item more = ap (λ (w : List ℕ). text ++ w) more ∙ sym (append_assoc text (refused_text first) (refused_text (item ∷ [])))
+before_more text first item so = ap (λ (w : List ℕ). text ++ w) so ∙ sym (append_assoc text (refused_text first) (refused_text (item ∷ [])))
 
 -- what is told of one line more that is refused, where the conversation goes on before it
 one_more : (first : List Item) (item : Item) → refused_end first ≡ ends.Done
     → (refused_text (first ++ item ∷ []) ≡ refused_text first ++ refused_text (item ∷ [])) × (refused_end (first ++ item ∷ []) ≡ refused_end (item ∷ []))
 one_more [] item goes = (refl, refl)
 one_more (Asks Quit ∷ first) item goes = absurd (cc)
-one_more (Faulty bad ∷ first) item goes = let more = one_more first item goes in (before_more (bad_text bad) first item more.0, more.1)
-one_more (Asks (Add k) ∷ first) item goes = let more = one_more first item goes in (before_more (refusal Line) first item more.0, more.1)
-one_more (Asks (Remove k) ∷ first) item goes = let more = one_more first item goes in (before_more (refusal Line) first item more.0, more.1)
-one_more (Asks (Has k) ∷ first) item goes = let more = one_more first item goes in (before_more (refusal Line) first item more.0, more.1)
+one_more (Faulty bad ∷ first) item goes = let r = one_more first item goes in (before_more (bad_text bad) first item r.0, r.1)
+one_more (Asks (Add k) ∷ first) item goes = let r = one_more first item goes in (before_more (refusal Line) first item r.0, r.1)
+one_more (Asks (Remove k) ∷ first) item goes = let r = one_more first item goes in (before_more (refusal Line) first item r.0, r.1)
+one_more (Asks (Has k) ∷ first) item goes = let r = one_more first item goes in (before_more (refusal Line) first item r.0, r.1)
 
 -- those that were refused go on where all do
 goes_before : (before : End) (first : List Item) → EndsAfter before first ends.Done → (before ≡ ends.Done) × (refused_end first ≡ ends.Done)

@@ -83,7 +83,7 @@ rest_dropped is = absurd (omega (arith, is))
 
 -- a line that wasn't begun is left without a word
 unsaid : (p : Pass) → Refuses (busy p) (busy p) → ⊥
-unsaid p is = let same = is refl in cc
+unsaid p is = let same : line ∷ line ∷ [] ≡ line ∷ nothing_done ∷ [] = ap (λ (a : Asker). a.turns) (is refl) in cc
 
 no_requests : (left : List Exchange) → map turn_of left ≡ nothing_done ∷ [] → requests_in left ≡ Add 1 ∷ [] → ⊥
 no_requests [] turns asked = cc

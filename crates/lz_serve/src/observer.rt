@@ -1,5 +1,5 @@
 //! What an operator is told of a service.
-ghost use Rattle.std.specs.Prelude.{◌≡◌};
+ghost use Rattle.std.specs.Prelude.{◌≡◌, true};
 ghost use Rattle.lz_serve.specs.Verbs.{verb_of};
 
 use crate::language::Language;
@@ -116,8 +116,6 @@ impl Verb {
 
 /// Is told what an operator wants to know of a service, by any of its threads, and says when it is to end.
 pub trait Observer: Drop {
-    ghost use Rattle.std.specs.Prelude.{◌≡◌, true};
-
     /// That somebody has asked for its end.
     ghost asked: { Type 0 };
 
