@@ -16,6 +16,7 @@ pub mod StreamRows
 pub mod Queues
 pub mod HeldUp
 pub mod Crowds
+pub mod RefusedCrowds
 pub mod Turns
 pub mod PagesTold
 pub mod Joins

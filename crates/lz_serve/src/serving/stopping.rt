@@ -48,7 +48,8 @@ where
     if told.load(Ordering::SeqCst) || desk.halted() || !observer.stops() {
         return;
     }
-    desk.crowd.stop(observer, buffer);
+    desk.crowd.stop();
+    desk.crowd.tell_refused(observer, buffer);
     let began = rt.monotonic().ok();
     'turns: for _ in rt.forever() {
         let is_over = desk.crowd.is_empty() || is_late(rt, began);
