@@ -9,6 +9,7 @@ ghost use Rattle.lz_serve.specs.Streams.{IsFresh};
 
 mod page;
 mod parting;
+mod stop;
 
 use crate::asking::Granted;
 use crate::client::{Client, Question};

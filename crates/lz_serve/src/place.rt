@@ -5,6 +5,8 @@ ghost use Rattle.lz_board.specs.Seats.{part};
 ghost use Rattle.lz_serve.specs.Clients.{AwaitsBefore, AwaitsNoPage, AwaitsPage, ComesAfter, HasNone, HasRepliedBefore, HasSeenIn, HasTold, IsAskedBy, IsHeardOf, IsOwnOf, KeepsHeard, KeepsLines, KeepsLinesOf, KeepsOwn, KeepsSeen, Remains, TellsOf, TellsPageOf};
 ghost use Rattle.lz_serve.specs.Grants.{Promises};
 
+mod stop;
+
 use crate::asking::Granted;
 use crate::client::{Client, Question};
 use crate::clock::Clock;
@@ -14,6 +16,7 @@ use crate::stream::Stream;
 use lz_resp::Scan;
 use lz_set::{Named, Pass};
 use std::time::Duration;
+use stop::may_read;
 
 /// How many pieces of one client are read in a turn, at most.
 const MOST_READS: usize = 16;
@@ -60,6 +63,8 @@ pub(crate) struct Place<S: Stream> {
     parts: bool,
     /// Its session is over, and what it still sends is thrown away.
     leaves: bool,
+    /// Its service stops, and its client is read so often yet.
+    left: Option<usize>,
     /// In which millisecond something came or went last.
     moved: u64,
     /// When its connection was heard last.
@@ -78,6 +83,7 @@ impl<S: Stream> Place<S> {
             lists: false,
             parts: false,
             leaves: false,
+            left: None,
             moved: 0,
             heard: None,
         }
@@ -94,6 +100,7 @@ impl<S: Stream> Place<S> {
         self.lists = false;
         self.parts = false;
         self.leaves = false;
+        self.left = None;
         self.moved = clock.now();
         self.heard = clock.seen();
     }
@@ -227,8 +234,8 @@ impl<S: Stream> Place<S> {
         self.client.as_mut()?.ask(pass)
     }
 
-    // Whether its client has a line for a pass.
-    fn may_ask(&self) -> bool
+    /// Whether its client has a line for a pass.
+    pub(crate) fn may_ask(&self) -> bool
         ensures { result ≡ false → HasNone self.now.client }
     {
         match &self.client {
@@ -273,7 +280,8 @@ impl<S: Stream> Place<S> {
             client.write();
         }
         if self.readable && !self.parts {
-            self.readable = read_pieces(client, observer, buffer, self.drains);
+            self.readable = client.is_occupied()
+                || may_read(&mut self.left) && read_pieces(client, observer, buffer, self.drains);
         }
         // What was told of the pieces that were read.
         if !holds_back && client.has_unsent() {

@@ -41,6 +41,10 @@ struct Counts {
 }
 
 impl Observer for Counts {
+    ghost use Rattle.std.specs.Prelude.{⊤};
+
+    ghost asked = { ⊤ };
+
     fn serving(&self, _serving: Serving, _listener: &Listener) {}
 
     fn no_port(&self, error: io::Error) {

@@ -95,6 +95,8 @@ impl<'a, N: Named> Stream for Tape<'a, N> {
 
     ghost listed = { IsListing N.board };
 
+    ghost asked = { ⊥ };
+
     fn language(&self) -> Language {
         // What its contract sees is known where a field is read.
         let _ended = self.ended;
@@ -135,6 +137,8 @@ impl<'a, N: Named> Stream for Tape<'a, N> {
 struct Deaf;
 
 impl Observer for Deaf {
+    ghost asked = { ⊥ };
+
     fn serving(&self, _serving: Serving, _listener: &Listener) {}
 
     fn no_port(&self, error: io::Error) {

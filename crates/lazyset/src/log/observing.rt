@@ -20,6 +20,10 @@ impl<'a, R> Observer for Log<'a, R>
 where
     R: Eprint + Clock + Wait + AllocGlobal,
 {
+    ghost use Rattle.std.specs.Prelude.{⊤};
+
+    ghost asked = { ⊤ };
+
     fn serving(&self, serving: Serving, listener: &Listener) {
         if let Ok(same) = listener.try_clone() {
             let _ = self.listener.set(self.rt, same);
