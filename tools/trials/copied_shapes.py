@@ -12,7 +12,7 @@ from typing import Dict, Iterable, List, Sequence
 
 from trials.copies import NO_READ, NO_REPLY, answering, copied, endless, told
 from trials.faults import needs_strace
-from trials.files import TWO_SLOTS, bytes_in, changed, put
+from trials.files import TWO_SLOTS, bytes_in, changed, put, said_of_others
 from trials.frames import by_frames
 from trials.growing import CALLS, form_of, slots_of
 from trials.plain_frames import bulk
@@ -101,10 +101,10 @@ def try_others(program: Program, folder: str) -> None:
     file, new = os.path.join(folder, "f"), os.path.join(folder, "new")
     made(program, file, NEWER)
     with Service(program, file, 2, *by_frames(8)) as service:
-        for text in (b"mine\n", bytes(48), changed(TWO_SLOTS, 7, 0x39), b"x" * 1_000):
+        for text in (b"x", b"mine\n", bytes(48), changed(TWO_SLOTS, 7, 0x39), b"x" * 1_000):
             for options in ((), ("--replace",), ("9",), ("9", "--replace")):
                 put(new, text)
-                said = f"lazyset: {new}: its {len(text)} bytes are no set's: give another name, or move it away\n"
+                said = said_of_others(new, text)
                 expect(program.run_loud("copy", str(service.port), new, *options), (Ended("nofile\n", 3), said), f"a copy over {text[:16]!r}")
                 expect(bytes_in(new), text, "what is left")
         for text in (b"", b"\0", changed(TWO_SLOTS, 0, 0), changed(TWO_SLOTS, 0, 0)[:20]):

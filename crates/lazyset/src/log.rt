@@ -7,6 +7,7 @@ use crate::gauge::Gauge;
 use crate::identity::run_of;
 use crate::latencies::Latencies;
 use crate::level::Level;
+use crate::many::Many;
 use crate::rate::Rate;
 use crate::ready::Ready;
 use crate::seldom::Seldom;
@@ -149,12 +150,13 @@ where
             return;
         }
         let sessions = self.sessions.load(Ordering::SeqCst);
-        let (members, slots) = (self.members(), self.gauge.slots());
+        let members = self.members();
+        let slots = Many::new(self.gauge.slots(), "slot", "slots");
         let is_asked = self.stops() && !self.lacks_loop.load(Ordering::SeqCst);
         let how = if is_asked { "stopped" } else { "ended" };
         self.say(
             Level::Notice,
-            format_args!("{how}: sessions {sessions}, members {members} of {slots} slots"),
+            format_args!("{how}: sessions {sessions}, members {members} of {slots}"),
         );
     }
 
@@ -215,14 +217,26 @@ where
         let places = self.places.load(Ordering::SeqCst);
         match self.waiting_at(listener) {
             Some(0) => self.crowded.again(second),
-            Some(waiting) => self.say(
+            Some(waiting) => {
+                let waiting = Many::new(waiting as usize, "connection waits", "connections wait");
+                self.say_taken(places, waiting);
+            }
+            None => self.say_taken(places, "further connections wait"),
+        }
+    }
+
+    // Says that all places are taken, and who waits.
+    fn say_taken<W: fmt::Display + Drop>(&self, places: usize, who: W) {
+        if places == 1 {
+            self.say(
                 Level::Warning,
-                format_args!("all {places} places are taken, {waiting} connections wait"),
-            ),
-            None => self.say(
+                format_args!("the only place is taken, {who}"),
+            );
+        } else {
+            self.say(
                 Level::Warning,
-                format_args!("all {places} places are taken, further connections wait"),
-            ),
+                format_args!("all {places} places are taken, {who}"),
+            );
         }
     }
 

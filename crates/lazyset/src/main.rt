@@ -24,6 +24,7 @@ mod latencies;
 mod level;
 mod log;
 mod making;
+mod many;
 mod new_files;
 mod over_disk;
 mod rate;

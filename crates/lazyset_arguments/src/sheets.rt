@@ -81,7 +81,7 @@ pub const SHEETS: [Sheet; 11] = [
     Sheet {
         name: "stop",
         about: "Stops a service in order: it begins no further command, and answers those that are under way",
-        notes: "Ends when the service has ended. Where that takes more than SECONDS the service goes on stopping, and the status is 1.\n\nExample: lazyset stop f.control, where the service was started with --control f.control",
+        notes: "Ends once the service's file and port are free. Where that takes more than SECONDS the service goes on stopping, and the status is 1.\n\nExample: lazyset stop f.control, where the service was started with --control f.control",
         words: &[CONTROLLED, WITHIN],
     },
     Sheet {

@@ -2,6 +2,7 @@
 use crate::identity::process;
 use crate::level::Level;
 use crate::log::{Log, Stoppable};
+use crate::many::Many;
 use crate::watched::Watched;
 use lazyset_arguments::{MAJOR, MINOR};
 use lazyset_set_commands::format_number;
@@ -116,10 +117,11 @@ where
         match (verb, reply) {
             (Verb::Add, Reply::Yes) => {
                 if let Some(share) = self.gauge.came(members) {
-                    let (members, slots) = (self.members(), self.gauge.slots());
+                    let members = Many::new(self.members(), "member", "members");
+                    let slots = Many::new(self.gauge.slots(), "slot", "slots");
                     self.say(
                         Level::Warning,
-                        format_args!("{share} % full: {members} members in {slots} slots"),
+                        format_args!("{share} % full: {members} in {slots}"),
                     );
                 }
             }
