@@ -4,15 +4,18 @@ from __future__ import annotations
 
 import contextlib
 import os
+import re
 import signal
 import socket
 import stat
 import subprocess
+import sys
 import tempfile
 import threading
 import time
-from typing import IO, List, Sequence, Union
+from typing import IO, List, Sequence, Tuple, Union
 
+from trials.faults import needs_strace
 from trials.program import PATIENCE, Ended, Program, Service
 from trials.report import expect
 from trials.stops import KINDS, control_of, lines_of
@@ -80,6 +83,79 @@ def try_served(program: Program, folder: str) -> None:
         expect(modes, [0o600], "the modes that the socket had")
         expect(os.path.lexists(path), False, "whether the socket is there yet")
         expect(program.run("run", file, lines="has 2\n"), Ended("yes\n", 0), "what the file holds")
+
+
+# A mode that is named, and which it is.
+MODES: Sequence[Tuple[str, int]] = (("0660", 0o660), ("660", 0o660), ("0600", 0o600), ("777", 0o777), ("0622", 0o622))
+
+# What is no mode of a file.
+NO_MODES = ("8", "0668", "1777", "0o660", "+660", "-1", "rw", "77777777777777777777")
+
+
+def try_modes(program: Program, folder: str) -> None:
+    """The sockets get the mode that is named, whatever the umask, before anybody can connect, and have no wider one before."""
+    for number, (word, mode) in enumerate(MODES):
+        for umask in ("0", "077"):
+            file = os.path.join(folder, f"f{number}-{umask}")
+            paths = [socket_of(file), control_of(file)]
+            program.make(file, 8)
+            is_over = threading.Event()
+            modes: List[List[int]] = [[] for _ in paths]
+            watching = [threading.Thread(target=modes_of, args=(path, is_over, noted)) for path, noted in zip(paths, modes)]
+            for thread in watching:
+                thread.start()
+            before = ["sh", "-c", f'umask {umask}; exec "$@"', "sh"]
+            words = (*KINDS[number % len(KINDS)], "--control", control_of(file), "--socket-mode", word)
+            with served(program, file, *words, before=before) as service:
+                expect([stat.S_IMODE(os.stat(path).st_mode) for path in paths], [mode] * 2, f"the modes of {words} under {umask}")
+                expect(replies_at(socket_of(file), b"add 1\n"), b"yes\n", "the reply to a client")
+                expect(program.run("stop", control_of(file)), Ended("", 0), "the stop")
+                expect(service.wait(), 0, "the service's status")
+            is_over.set()
+            for thread in watching:
+                thread.join(PATIENCE)
+            for noted in modes:
+                expect(set(noted) <= {0o600, mode}, True, f"that the socket had no other mode: {noted}")
+            expect([os.path.lexists(path) for path in paths], [False] * 2, "whether the sockets are there yet")
+    try_order(program, os.path.join(folder, "order"))
+    try_group(program)
+
+
+def try_order(program: Program, file: str) -> None:
+    """Each socket listens once it has its mode. Where it can't get that it is taken away, and nobody is served."""
+    needs_strace()
+    trace = f"{file}.trace"
+    program.make(file, 8)
+    before = ["strace", "-f", "-qq", "-o", trace, "-e", "trace=bind,chmod,fchmodat,fchmodat2,listen"]
+    with served(program, file, "--socket-mode", "0660", before=before):
+        pass
+    with open(trace, encoding="ascii", errors="replace") as lines:
+        calls = [found[0] for found in (re.findall(r"(\w+)\(", line) for line in lines) if found]
+    expect([call.replace("fchmodat", "chmod").replace("chmod2", "chmod") for call in calls], ["bind", "chmod", "listen"], "the calls for its socket")
+    refuses = ["strace", "-f", "-qq", "-o", os.devnull, "-e", "trace=chmod,fchmodat,fchmodat2", "-e", "inject=chmod,fchmodat,fchmodat2:error=EPERM"]
+    words = ("serve", file, "-", "2", "--socket", socket_of(file), "--socket-mode", "0660")
+    ended, said = program.run_loud(*words, before=refuses)
+    why = f"lazyset: serve {file}: noport: Operation not permitted (os error 1)"
+    expect((ended, said.splitlines()[-1]), (Ended("noport\n", 1), why), "a mode that can't be had")
+    expect(os.path.lexists(socket_of(file)), False, "whether its socket is there yet")
+
+
+# Somebody else's number.
+OTHER = 65_534
+
+
+def try_group(program: Program) -> None:
+    """Another user of the socket's group can connect where the mode says so, and else none. Only root can try that."""
+    if os.geteuid() != 0:
+        return
+    with tempfile.TemporaryDirectory() as folder:
+        os.chmod(folder, 0o711)
+        file, asks = os.path.join(folder, "f"), "import socket, sys; socket.socket(socket.AF_UNIX).connect(sys.argv[1])"
+        program.make(file, 8)
+        for word, group, is_let_in in (("0660", os.getegid(), True), ("0660", OTHER, False), ("0600", os.getegid(), False), ("0666", OTHER, True)):
+            with served(program, file, "--socket-mode", word):
+                ended = subprocess.run([sys.executable, "-c", asks, socket_of(file)], stderr=subprocess.DEVNULL, user=OTHER, group=group, extra_groups=[])
+                expect(ended.returncode == 0, is_let_in, f"that one of group {group} can connect at mode {word}")
 
 
 def try_crowd(program: Program, folder: str) -> None:
@@ -184,6 +260,12 @@ def try_words(program: Program, folder: str) -> None:
         text = f"error: invalid value '{port}' for '<PORT>'\n  [possible values: -]{more}"
         expect(program.run("serve", file, port, "1", "--socket", f"{file}.s"), Ended(text, 2), f"the port {port} beside a path")
         expect(program.run("serve", file, port, "1", f"--socket={file}.s"), Ended(text, 2), f"the port {port} beside a path, in one word")
+    for word in NO_MODES:
+        text = f"error: invalid value '{word}' for '--socket-mode <MODE>': a mode is octal, 0 to 777, as 0660{more}"
+        for words in (("-", "1", "--socket", f"{file}.s"), ("0", "1", "--control", f"{file}.c"), ()):
+            expect(program.run("serve", file, *words, f"--socket-mode={word}"), Ended(text, 2), f"{words} of the mode {word}")
+    text = "error: '--socket-mode <MODE>' needs '--socket <PATH>' or '--control <PATH>'\n"
+    expect(program.run("serve", file, "0", "1", "--socket-mode", "0660"), Ended(text, 2), "a mode of no socket")
     text = f"error: invalid value '-' for '<PORT>': invalid digit found in string{more}"
     expect(program.run("serve", file, "-", "1"), Ended(text, 2), "no port, and no path")
     expect(sorted(os.listdir(folder)), ["f"], "what is left")
@@ -191,6 +273,7 @@ def try_words(program: Program, folder: str) -> None:
 
 TRIALS = (
     ("a socket at a path", try_served),
+    ("the mode of a service's sockets", try_modes),
     ("a socket at a path with clients that wait", try_crowd),
     ("a socket at a path that nobody answers on", try_taken_over),
     ("a path that is taken", try_refused),

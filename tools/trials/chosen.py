@@ -21,7 +21,7 @@ from trials.marks import IS_NUMBERS, IS_TEXT, MARK, made
 from trials.noise_frames import OTHERS, FrameNoise
 from trials.plain import Plain
 from trials.plain_frames import PONG, PlainTalk, array, integer
-from trials.program import Ended, Key, Program, Service
+from trials.program import Ended, Key, Program, Service, untimed
 from trials.report import Skip, expect
 from trials.stops import control_of, lines_of
 
@@ -130,10 +130,10 @@ def try_usual_port(program: Program, folder: str) -> None:
 def expect_taken(program: Program, file: str, other: socket.socket, words: Sequence[str]) -> None:
     """The service ends where the port is this socket's, and leaves nothing."""
     port = other.getsockname()[1]
-    found = program.run_loud("serve", file, *words)
+    ended, log = program.run_loud("serve", file, *words)
     way_out = f"name another port than {port} behind the file, or 0 for any that is free"
     said = f"{file}: opening\nlazyset: serve {file}: noport: Address already in use (os error 98): {way_out}\n"
-    expect(found, (Ended("noport\n", 1), said), f"a service whose port {port} is taken")
+    expect((ended, untimed(log)), (Ended("noport\n", 1), said), f"a service whose port {port} is taken")
     expect(os.listdir(os.path.dirname(file)), ["f"], "what it leaves")
 
 

@@ -16,7 +16,7 @@ from trials.faults import needs_strace
 from trials.guests import connect, received
 from trials.loops import at_once, read_exactly
 from trials.process import memory
-from trials.program import PATIENCE, Key, Program, Service
+from trials.program import PATIENCE, Key, Program, Service, untimed
 from trials.report import Skip, Wrong, expect
 
 # Connections of one crowd, and how much memory each may keep in the service once it was answered.
@@ -121,7 +121,7 @@ def ended(program: Program, file: str, options: Sequence[str], before: Sequence[
             except subprocess.TimeoutExpired:
                 status = -2
         log.seek(0)
-        return told, status, log.read()
+        return told, status, untimed(log.read())
 
 
 def try_memory(program: Program, folder: str) -> None:

@@ -3,15 +3,17 @@
 from __future__ import annotations
 
 import os
+import re
 import socket
 import subprocess
 import tempfile
-from typing import Sequence, Tuple
+from typing import List, Sequence, Tuple
 
+from trials.faults import needs_strace
 from trials.files import put
 from trials.frames import by_frames, replies
 from trials.plain_frames import array, bulk, integer
-from trials.program import Ended, Key, Program, Service
+from trials.program import Ended, Key, Program, Service, untimed
 from trials.queries import values
 from trials.guests import connect
 from trials.report import Wrong, expect
@@ -25,6 +27,7 @@ IS_NUMBERS = "its keys are numbers: serve it without --text; an older file of te
 IS_ELSEWHERE = "some of its keys are outside room 0, so it is no older file of texts: serve it without --text"
 IS_OLD = "a file of format 1 has no room for the mark of texts: renew it, then serve it with --text=adopt"
 IS_FULL = "no slot is free for the mark of texts: grow the file first"
+ARE_TEXTS = "its keys are texts, and are taken for numbers here"
 
 # The keys of a file, its slots and format, the words of a start, and the line and the words with which that is refused, or nothing.
 STARTS: Tuple[Tuple[Sequence[Key], int, int, Sequence[str], str, str], ...] = (
@@ -127,6 +130,53 @@ def try_texts(program: Program, folder: str) -> None:
             expect((values(client)["members"], values(client)["free"]), ("4", "0"), "INFO of numbers")
 
 
+# The words of a service that takes the mark for a key, and whether its log tells of it: one that names the keys needn't.
+BY_WORDS: Tuple[Tuple[Sequence[str], bool], ...] = (
+    ((), True),
+    (("--connections", "4"), True),
+    (("--connections", "4", "--loops", "2"), True),
+    (NUMBERS, False),
+    (TEXT, False),
+)
+
+
+def try_lines(program: Program, folder: str) -> None:
+    """A run and a service of lines take the mark and texts for numbers, and say so on standard error alone. The look asks nothing of the
+    device: there are as many calls as without the mark."""
+    file, other = os.path.join(folder, "f"), os.path.join(folder, "g")
+    for form in (2, 3, 4):
+        made(program, file, (MARK, Key(0, 5)), 4, form)
+        made(program, other, (Key(15, 7), Key(0, 5)), 4, form)
+        asked = f"has {MARK}\nhas 5\n"
+        said = f"lazyset: {file}: {ARE_TEXTS}\n"
+        expect(program.run_loud("run", file, lines=asked), (Ended("yes\nyes\n", 0), said), f"a run of format {form}")
+        expect(program.run_loud("run", other, lines=asked), (Ended("no\nyes\n", 0), ""), f"a run without the mark of format {form}")
+        expect(program.run_loud("run", file, lines=f"remove {MARK}\n"), (Ended("yes\n", 0), said), "a run that takes the mark away")
+        expect(program.run_loud("run", file, lines="has 5\n"), (Ended("yes\n", 0), ""), "a run once the mark is gone")
+        made(program, file, (MARK, Key(0, 5)), 4, form)
+        for words, is_said in BY_WORDS:
+            told, log, status = started(program, file, words)
+            expect((told[:10], status), ("listening ", 0), f"a service {' '.join(words)}")
+            lines = [line for line in untimed(log).splitlines() if ARE_TEXTS in line]
+            expect(lines, [f"{file}: {ARE_TEXTS}"] * is_said, f"the log of a service {' '.join(words)}")
+        expect(ARE_TEXTS in started(program, other, ())[1], False, "what a service over numbers says")
+        with Service(program, file, None, "--lines") as service:
+            expect(replies(service.port, asked.encode() + b"quit\n"), b"yes\nyes\n", "the replies of a service of lines")
+    needs_strace()
+    made(program, file, (MARK, Key(0, 5)), 4, 4)
+    expect(calls_on(program, file), calls_on(program, other), "the calls of a run over texts, and over numbers")
+
+
+def calls_on(program: Program, file: str) -> List[str]:
+    """The system's calls on this file's bytes in a run that looks up one key."""
+    trace = f"{file}.trace"
+    calls = "trace=pread64,pwrite64,pwritev,fsync,fdatasync"
+    before = ["strace", "-f", "-qq", "-y", "-o", trace, "-e", calls]
+    expect(program.run("run", file, lines="has 5\n", before=before), Ended("yes\n", 0), "a run that is traced")
+    with open(trace, encoding="ascii", errors="replace") as lines:
+        return [re.findall(r"(\w+)\(", line)[0] for line in lines if f"<{file}>" in line]
+
+
 def try_copies(program: Program, folder: str) -> None:
     """A copy, a renewal and a growth of a marked file are marked."""
     file, copy, new = (os.path.join(folder, name) for name in ("f", "g", "h"))
@@ -172,7 +222,7 @@ def try_words(program: Program, folder: str) -> None:
     ended, said = program.run_loud("run", file, lines="add 15:1000000000000000\nadd 5\n")
     expect((ended, said), (Ended("yes\nyes\n", 0), ""), "a run that adds the mark")
     ended, said = program.run_loud("run", file, lines="has 5\n")
-    expect((ended, said), (Ended("yes\n", 0), ""), "a run over the mark")
+    expect((ended, said), (Ended("yes\n", 0), f"lazyset: {file}: {ARE_TEXTS}\n"), "a run over the mark")
 
 
 def try_kills(program: Program, folder: str, kills: int) -> None:
@@ -215,6 +265,7 @@ def try_kills(program: Program, folder: str, kills: int) -> None:
 TRIALS = (
     ("starts over numbers and texts", try_starts),
     ("the mark of texts, as clients see it", try_texts),
+    ("texts that lines are served of", try_lines),
     ("copies of a file of texts", try_copies),
     ("damaged files, started with --text", try_damage),
     ("the words of --text and --numbers", try_words),

@@ -3,6 +3,7 @@
 from __future__ import annotations
 
 import os
+import re
 import signal
 import subprocess
 from dataclasses import dataclass
@@ -12,6 +13,14 @@ from trials.report import Wrong, expect
 
 # How long any command may take that has an end.
 PATIENCE = 60.0
+
+# What stands before a line of a log that has its time.
+TIME = re.compile(r"^\d{4}-\d\d-\d\dT\d\d:\d\d:\d\dZ ", re.M)
+
+
+def untimed(log: str) -> str:
+    """What a log says, without the times of its lines."""
+    return TIME.sub("", log)
 
 
 class Key(NamedTuple):

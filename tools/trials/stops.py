@@ -12,10 +12,11 @@ import subprocess
 import tempfile
 import threading
 import time
+from datetime import datetime, timezone
 from typing import IO, List, Sequence
 
 from trials.faults import needs_strace
-from trials.program import PATIENCE, Ended, Program, Service
+from trials.program import PATIENCE, TIME, Ended, Program, Service, untimed
 from trials.report import expect
 
 # With a thread for each pass, and with loops.
@@ -24,7 +25,7 @@ KINDS: Sequence[Sequence[str]] = ((), ("--connections", "20"), ("--connections",
 
 def lines_of(log: IO[str], file: str) -> List[str]:
     log.seek(0)
-    return [line.replace(f"{file}: ", "").rstrip("\n") for line in log]
+    return [line.replace(f"{file}: ", "") for line in untimed(log.read()).splitlines()]
 
 
 def control_of(file: str) -> str:
@@ -227,6 +228,37 @@ def try_ready(program: Program, folder: str) -> None:
             heard.settimeout(PATIENCE)
             with Service(program, file, 1, before=["env", f"NOTIFY_SOCKET={name}"]):
                 expect(heard.recv(100), b"READY=1", f"what is told to {name}")
+
+
+def try_times(program: Program, folder: str) -> None:
+    """The log of loops has the time of each line, in UTC, unless the journal reads it. That of threads has none."""
+    file = os.path.join(folder, "f")
+    program.make(file, 4)
+    for number, (passes, kind) in enumerate(((2, ()), (2, ("--connections", "4")), (None, ()), (None, ("--lines",)))):
+        for journal in (False, True):
+            with tempfile.TemporaryFile("w+") as log:
+                facts = os.fstat(log.fileno())
+                stream = f"{facts.st_dev}:{facts.st_ino if journal else facts.st_ino + 1}"
+                began = datetime.now(timezone.utc).replace(microsecond=0)
+                before = ["env", f"JOURNAL_STREAM={stream}", "TZ=America/New_York"]
+                words = (*kind, "--sessions", "1")
+                with Service(program, file, passes, *words, before=before, log=log) as service:
+                    for _ in range(passes if passes and not kind else 1):
+                        with socket.create_connection(("127.0.0.1", service.port), PATIENCE) as client:
+                            client.sendall(b"has 1\nquit\n")
+                            expect(client.makefile().read(), "no\n", "the reply")
+                    expect(service.wait(), 0, "the service's status")
+                ends = datetime.now(timezone.utc)
+                log.seek(0)
+                lines = log.read().splitlines()
+            found = [TIME.match(line) for line in lines]
+            what = f"that a line of {kind} has a time, where the journal reads {journal}"
+            expect([it is not None for it in found], [number > 0 and not journal] * len(lines), what)
+            expect(len(lines), 4, "how many lines there are")
+            for it in found:
+                if it is not None:
+                    moment = datetime.strptime(it[0], "%Y-%m-%dT%H:%M:%SZ ").replace(tzinfo=timezone.utc)
+                    expect(began <= moment <= ends, True, f"that {it[0]} is a moment of the service")
 
 
 def try_levels(program: Program, folder: str) -> None:

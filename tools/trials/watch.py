@@ -16,8 +16,9 @@ from lazyset import Halted, Lazyset
 from trials.faults import CAUSES, DEVICE_FAILED, failing, needs_strace
 from trials.files import put
 from trials.plain import held
-from trials.program import PATIENCE, Key, Program, Service
+from trials.program import PATIENCE, Ended, Key, Program, Service
 from trials.report import Skip, expect
+from trials.stops import lines_of
 
 THREADLESS = "no thread can be made: the one that starts the others serves in its place"
 
@@ -40,8 +41,7 @@ class Logged:
 
     def all_lines(self) -> List[str]:
         """The lines, without the file's name."""
-        self._log.seek(0)
-        return [line.replace(f"{self._file}: ", "").rstrip("\n") for line in self._log]
+        return lines_of(self._log, self._file)
 
     def lines(self) -> List[str]:
         """Those after the lines of the start."""
@@ -73,6 +73,9 @@ def try_lists(program: Program, folder: str) -> None:
         with logged(program, file, 1, "--buckets", str(buckets)) as service:
             wanted = [hint.format(advised)] if advised else []
             expect(service.lines(), wanted, f"the log over {members} members of format {form} in {buckets} lists")
+        told = f"lazyset: {file}: {hint.format(advised)}\n" if advised else ""
+        found = program.run_loud("run", file, "--buckets", str(buckets), lines="has 0\n")
+        expect(found, (Ended("yes\n", 0), told), f"a run over {members} members of format {form} in {buckets} lists")
 
 
 def try_full(program: Program, folder: str, *options: str) -> None:

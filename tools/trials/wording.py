@@ -3,8 +3,9 @@
 from __future__ import annotations
 
 import os
+import re
 import socket
-from typing import Optional, Tuple
+from typing import Optional, Sequence, Tuple
 
 from trials.faults import CAUSES, failing, needs_strace
 from trials.files import ONE_SLOT, RENEWED, SEVENTEEN, TWO_SLOTS, changed, of_format, put
@@ -65,6 +66,36 @@ RENEWALS: Tuple[Tuple[bytes, Optional[bytes], str, str, str, str], ...] = (
 )
 
 
+# The most slots of a file of the formats 1 and 2, and of any.
+MOST_FEW, MOST = 65_536, 16_777_216
+
+
+def roomier(words: Sequence[str]) -> str:
+    """What is said of the command that makes as many slots, where one would."""
+    if words[0] != "make" or not MOST_FEW < int(words[2]) <= MOST:
+        return ""
+    command = " ".join(("lazyset", *words[:3], "--format", "4", *words[5:]))
+    return f"lazyset: {command} would do, on a disk where a crash leaves each byte that was being written old or new\n"
+
+
+def try_roomier(program: Program, folder: str) -> None:
+    """More slots than format 2 has are refused, and the command that is told makes them."""
+    file = os.path.join(folder, "f")
+    for more, lines in (((), ""), (("--keys",), "17\n3:5\n"), (("--keys", "--text", "seen"), "a\nb\n")):
+        words = ("make", file, "65537")
+        for named in ((), ("--format", "2")):
+            ended, said = program.run_loud(*words, *named, *more, lines=lines)
+            expect((ended, len(said.splitlines())), (Ended("refused 2\n", 3), 2), f"a making {more} of too many slots")
+        told = said.splitlines()[1]
+        expect(told, roomier((*words, "--format", "2", *more)).rstrip("\n"), f"what is told of a making {more}")
+        command = re.findall(r"^lazyset: lazyset (.+) would do, ", told)[0].split()
+        expect(program.run(*command, lines=lines), Ended("made 65537\n", 0), f"the command that is told of a making {more}")
+        os.remove(file)
+    for slots, form in (("0", "2"), ("16777217", "2"), ("16777217", "4")):
+        ended, said = program.run_loud("make", file, slots, "--format", form)
+        expect((ended, len(said.splitlines())), (Ended("refused 2\n", 3), 1), f"a making of {slots} slots in format {form}")
+
+
 def try_refusals(program: Program, folder: str) -> None:
     """Each refusal has its words, and leaves no file where there was none."""
     file, new = os.path.join(folder, "file"), os.path.join(folder, "new")
@@ -73,7 +104,7 @@ def try_refusals(program: Program, folder: str) -> None:
         found = program.run_loud(*words, *({"run": (), "serve": ("0", "1")}.get(words[0], ())), lines=lines)
         named = " ".join(words if words[0] == "renew" else words[:2]).replace(f"{file} {new} ", f"{file} {new}\n").split("\n")[0]
         opening = f"{file}: opening\n" if words[0] == "serve" else ""
-        expect(found, (Ended(f"{line}\n", 3), f"{opening}lazyset: {named}: {line}: {why}\n"), " ".join(words))
+        expect(found, (Ended(f"{line}\n", 3), f"{opening}lazyset: {named}: {line}: {why}\n{roomier(words)}"), " ".join(words))
 
     for text, line, is_checked, why in OPENED:
         put(file, text)

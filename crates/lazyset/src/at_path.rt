@@ -1,31 +1,49 @@
-//! Sockets that listen at a path, for their owner alone.
+//! Sockets that listen at a path, for their owner alone where no other mode is named.
 use libc::net::{POLLIN, poll};
 use libc::types::pollfd;
 use mio::net::UnixStream;
-use std::fs::File;
+use std::fs::{File, Permissions};
 use std::io;
 use std::io::ErrorKind;
 use std::net::Net;
 use std::os::fd::{AsFd, AsRawFd};
-use std::os::unix::fs::{FileTypeExt, MetadataExt};
+use std::os::unix::fs::{FileTypeExt, MetadataExt, PermissionsExt};
 use std::os::unix::net::{SocketAddr, UnixListener};
 use std::rt::Files;
 
 // Its owner alone may connect.
 const MODE: u32 = 0o600;
 
-/// Listens at this path, where nobody does, with so many who may wait. What a service that was killed has left there is taken away.
-pub fn listen_at<R>(rt: &R, path: &str, backlog: i32) -> io::Result<UnixListener>
+/// Listens at this path, where nobody does, with so many who may wait. What a service that was killed has left there is taken away. The file
+/// has the mode that was named before anybody may connect.
+pub fn listen_at<R>(
+    rt: &R,
+    path: &str,
+    mode: Option<u32>,
+    backlog: i32,
+) -> io::Result<UnixListener>
 where
     R: Files<File = File> + Net,
 {
     take_away(rt, path)?;
     let socket = rt.unix_socket()?;
-    // The file gets the mode that the socket has before it.
+    // The file gets the mode that the socket has before it, less the umask.
     done(libc::fchmod(socket.as_raw_fd(), MODE))?;
     rt.bind_unix(socket.as_fd(), &SocketAddr::from_pathname(path)?)?;
+    if let Some(mode) = mode {
+        set_mode(rt, path, mode)?;
+    }
     done(libc::net::listen(socket.as_raw_fd(), backlog))?;
     Ok(UnixListener::from(socket))
+}
+
+// Gives the socket at this path its mode. Where it can't have that it is taken away.
+fn set_mode<R: Files<File = File>>(rt: &R, path: &str, mode: u32) -> io::Result<()> {
+    let set = rt.set_permissions(path, Permissions::from_mode(mode));
+    if set.is_err() {
+        let _ = rt.remove_file(path);
+    }
+    set
 }
 
 /// Whether somebody waits there to be accepted.

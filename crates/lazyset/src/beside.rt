@@ -3,14 +3,14 @@ ghost use Rattle.std.specs.Prelude.{◌≡◌, OnErr, OnOk};
 
 use crate::before::Before;
 use crate::fault::Fault;
-use crate::files::{no_file, take_lock};
+use crate::files::{no_file, open, take_lock};
 use lazyset_set_commands::{Shelf, Standing};
 use lz_disk::{DeviceFault, Disk, FileDisk, Lock};
 use std::fs::{File, Metadata, OpenOptions};
 use std::io;
 use std::io::ErrorKind;
 use std::os::unix::fs::{MetadataExt, OpenOptionsExt};
-use std::path::Path;
+use std::path::{Path, PathBuf};
 use std::rt::Files;
 
 // Until it has the mode of the other file, nobody else may look into the new one.
@@ -91,8 +91,32 @@ impl<R: Files<File = File>> Shelf for Name<'_, R> {
     }
 }
 
-/// What the system says of the file, where it is a regular one.
-pub fn facts_of<R: Files<File = File> + Eprint>(rt: &R, path: &str) -> Result<Metadata, Fault> {
+/// A file that another one is to replace, under a lock. Where a link was named it is the file itself.
+#[derive(Drop)]
+pub struct Replaced {
+    pub path: PathBuf,
+    /// What the system says of it.
+    pub facts: Metadata,
+    pub disk: FileDisk,
+}
+
+impl Replaced {
+    pub fn open<R>(rt: &R, file: &str) -> Result<Replaced, Fault>
+    where
+        R: Files<File = File> + Eprint + AllocGlobal,
+    {
+        let path = match rt.canonicalize(rt.alloc(), file) {
+            Ok(path) => path,
+            Err(error) => return Err(no_file(rt, file, error)),
+        };
+        let facts = facts_of(rt, path.as_str())?;
+        let disk = open(rt, path.as_str(), Lock::Exclusive)?;
+        Ok(Replaced { path, facts, disk })
+    }
+}
+
+// What the system says of the file, where it is a regular one.
+fn facts_of<R: Files<File = File> + Eprint>(rt: &R, path: &str) -> Result<Metadata, Fault> {
     match rt.metadata(path) {
         Ok(facts) if facts.is_file() => Ok(facts),
         Ok(_) => Err(no_file(rt, path, "it isn't a regular file")),

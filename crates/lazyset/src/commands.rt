@@ -4,20 +4,18 @@ ghost use Rattle.lz_slot.specs.Limits.{most_buckets, most_buckets_of, most_rehea
 ghost use Rattle.lazyset_arguments.specs.Requests.{IsWithin};
 
 use crate::control::ask_to_stop;
-use crate::copying::{Wish, copy};
+use crate::copying::copy;
 use crate::fault::Fault;
 use crate::files::{StandIns, open_for, open_source, read_front, say_cause};
 use crate::growing::grow;
-use crate::handed::handed;
 use crate::heard::Heard;
 use crate::held::is_held;
 use crate::new_files::{make, make_keys, renew};
 use crate::over_disk::run_over;
-use crate::service::{At, Until};
 use crate::source::Source;
 use crate::starting::serve_file;
-use crate::texts::wanted_by;
-use crate::words::words_of;
+use crate::told::Told;
+use crate::words::{Roomy, words_of};
 use lazyset_arguments::{Request, read};
 use lazyset_set_commands::{
     MOST_JUDGED, Shown, Status, check_of_on, judge_on, rehearse_on, survey_on, torn_slots,
@@ -63,6 +61,11 @@ fn say_why<R: Eprint>(rt: &R, request: Request<'_>, line: Option<&str>) {
     if let Some(words) = words_of(request, line) {
         let _ = eprintln!(rt; "lazyset: {request}: {line}: {words}");
     }
+    if let Some(command) = Roomy::of(request, line) {
+        let _ = eprintln!(rt;
+            "lazyset: {command} would do, on a disk where a crash leaves each byte that was being written old or new"
+        );
+    }
 }
 
 fn dispatch<R, W>(
@@ -78,83 +81,21 @@ where
     requires { IsWithin request }
 {
     match request {
-        Request::Make {
-            file,
-            slots,
-            format,
-        } => make(rt, writer, file, slots, format),
-        Request::MakeKeys {
-            file,
-            slots,
-            format,
-            texts_of,
-        } => make_keys(rt, writer, stands, file, slots, format, texts_of),
-        Request::Renew {
-            old,
-            new,
-            slots,
-            format,
-        } => renew(rt, writer, old, new, slots, format),
+        Request::Make(new) => make(rt, writer, new),
+        Request::MakeKeys(new, texts_of) => make_keys(rt, writer, stands, new, texts_of),
+        Request::Renew(old, new) => renew(rt, writer, old, new),
         Request::Grow {
             file,
             slots,
             format,
         } => grow(rt, writer, file, slots, format),
-        Request::Copy {
-            address,
-            file,
-            slots,
-            format,
-            replaces,
-        } => {
-            let wish = Wish {
-                file,
-                slots,
-                format,
-                replaces,
-            };
-            copy(rt, writer, address, wish)
-        }
-        // The others work on a file that is there, or on none.
-        _ => dispatch_other(rt, request, writer),
-    }
-}
-
-fn dispatch_other<R, W>(rt: &R, request: Request<'_>, writer: &mut W) -> Result<Status, Fault>
-where
-    R: Env + Files<File = File> + Input + Eprint + AllocGlobal,
-    R: Net<Listener = TcpListener, Stream = TcpStream> + Threads + Wait + Clock + Sync,
-    W: Write + Drop,
-    requires { IsWithin request }
-{
-    match request {
+        Request::Copy(wish) => copy(rt, writer, wish),
         Request::Run {
             file,
             buckets,
             no_lock,
         } => run_file(rt, writer, file, buckets, no_lock),
-        Request::Serve {
-            file,
-            options,
-            chosen,
-            socket,
-            control,
-            until_eof,
-            no_lock,
-            as_numbers,
-            adopts,
-        } => {
-            let until = Until { control, until_eof };
-            // Before anything else is opened, which might get its number.
-            let at = match socket {
-                Some(path) => At::Path(path),
-                None => At::Port(handed(rt)),
-            };
-            let wanted = wanted_by(options.loops, as_numbers, adopts);
-            serve_file(
-                rt, writer, file, options, chosen, until, at, no_lock, wanted,
-            )
-        }
+        Request::Serve(service) => serve_file(rt, writer, service),
         Request::Stop { path, within } => ask_to_stop(rt, path, within),
         Request::Info { file } => survey(rt, writer, file, Shown::Counts),
         Request::Check { file, of } => check(rt, writer, file, of),
@@ -165,8 +106,6 @@ where
             buckets,
             format,
         } => Ok(rehearse(rt, writer, slots, buckets, format)),
-        // They make files, and were dispatched before.
-        _ => Ok(Status::CommandLine),
     }
 }
 
@@ -182,8 +121,14 @@ where
     W: Write + Drop,
     requires { (1 ≤ buckets) × (buckets ≤ most_buckets) }
 {
-    let disk = open_for(rt, file, buckets, no_lock)?;
-    let (status, disk) = run_over(rt, &mut rt.reader(), writer, file, disk, buckets);
+    let (disk, header) = open_for(rt, file, buckets, no_lock)?;
+    let told = Told {
+        rt,
+        file,
+        buckets,
+        most_buckets: header.map_or(buckets, |header| header.format.most_buckets()),
+    };
+    let (status, disk) = run_over(rt, &mut rt.reader(), writer, &told, file, disk, buckets);
     say_cause(rt, file, disk.cause());
     Ok(status)
 }

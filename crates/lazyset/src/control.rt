@@ -37,10 +37,13 @@ pub struct Control {
 }
 
 impl Control {
-    /// Listens at this path, where nobody does. What a service that was killed has left there is taken away.
-    pub fn listen<R: Files<File = File> + Net>(rt: &R, path: &str) -> io::Result<Control> {
+    /// Listens at this path, where nobody does, with this mode. What a service that was killed has left there is taken away.
+    pub fn listen<R>(rt: &R, path: &str, mode: Option<u32>) -> io::Result<Control>
+    where
+        R: Files<File = File> + Net,
+    {
         Ok(Control {
-            listener: listen_at(rt, path, BACKLOG)?,
+            listener: listen_at(rt, path, mode, BACKLOG)?,
             is_closed: AtomicBool::new(false),
         })
     }

@@ -101,15 +101,21 @@ where
     Ok(disk)
 }
 
-/// The file as a disk. More buckets than its format allows are refused as the command line refuses a number that is out of range. In
-/// format 4 no write waits for a sync of another, so those of slots side by side are gathered: a kill of the process loses what no
-/// sync has covered, as a crash does.
-pub fn open_for<R>(rt: &R, file: &str, buckets: usize, no_lock: bool) -> Result<FileDisk, Fault>
+/// The file as a disk, and its format and slots, where its head tells them. More buckets than its format allows are refused as the command
+/// line refuses a number that is out of range. In format 4 no write waits for a sync of another, so those of slots side by side are
+/// gathered: a kill of the process loses what no sync has covered, as a crash does.
+pub fn open_for<R>(
+    rt: &R,
+    file: &str,
+    buckets: usize,
+    no_lock: bool,
+) -> Result<(FileDisk, Option<Header>), Fault>
 where
     R: Files<File = File> + Eprint + Clock + AllocGlobal,
 {
     let mut disk = open_alone(rt, file, no_lock)?;
-    if let Some(Header { format, .. }) = header_on(&mut disk) {
+    let header = header_on(&mut disk);
+    if let Some(Header { format, .. }) = header {
         if buckets > format.most_buckets() {
             let _ = eprintln!(rt;
                 "lazyset: {file}: a file of format 3 or 4 may have more buckets: renew it with --format 4"
@@ -122,7 +128,7 @@ where
         }
     }
     disk.watch();
-    Ok(disk)
+    Ok((disk, header))
 }
 
 /// Takes a lock on this file. Where the file system has no locks that is said, and it goes on without. The file has to stand at its path

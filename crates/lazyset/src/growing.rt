@@ -4,13 +4,14 @@ ghost use Rattle.lz_slot.specs.Limits.{last_room};
 ghost use Rattle.lz_slot.specs.Rooms.{last_room_of};
 ghost use Rattle.lz_vault.specs.Makes.{WritesNothing};
 
-use crate::beside::{Name, create_beside, facts_of};
+use crate::beside::{Name, Replaced, create_beside};
 use crate::fault::Fault;
-use crate::files::{header_on, no_file, open, say_cause};
+use crate::files::{header_on, say_cause};
 use crate::formats::{format_for, kept_format};
 use crate::over_disk::grow_over;
+use lazyset_arguments::New;
 use lazyset_set_commands::{Status, format_number};
-use lz_disk::{Disk, Lock};
+use lz_disk::Disk;
 use lz_slot::Format;
 use std::fs::File;
 use std::io::Write;
@@ -31,13 +32,9 @@ where
     W: Write + Drop,
     requires { IfSome format (λ f. last_room_of f ≡ last_room) }
 {
-    let itself = match rt.canonicalize(rt.alloc(), file) {
-        Ok(itself) => itself,
-        Err(error) => return Err(no_file(rt, file, error)),
-    };
-    let path = itself.as_str();
-    let facts = facts_of(rt, path)?;
-    let mut old = open(rt, path, Lock::Exclusive)?;
+    let Replaced { path, facts, disk } = Replaced::open(rt, file)?;
+    let path = path.as_str();
+    let mut old = disk;
     let format = match format {
         Some(format) => format,
         None => roomy_format(rt, file, &mut old, slots),
@@ -46,17 +43,12 @@ where
     let mut new = create_beside(rt, beside.as_str(), &facts)?;
     new.gather(rt.alloc());
     let mut name = Name::new(rt, path, beside.as_str());
-    let (status, old, new) = grow_over(
-        rt,
-        writer,
-        file,
-        old,
-        beside.as_str(),
-        new,
-        &mut name,
+    let made = New {
+        file: beside.as_str(),
         slots,
         format,
-    );
+    };
+    let (status, old, new) = grow_over(rt, writer, file, old, made, new, &mut name);
     say_cause(rt, file, old.cause());
     say_cause(rt, beside.as_str(), new.cause());
     name.end();

@@ -5,14 +5,19 @@ use crate::at_path::has_waiting;
 use crate::backlog::Backlog;
 use crate::gauge::Gauge;
 use crate::identity::run_of;
+use crate::latencies::Latencies;
 use crate::level::Level;
+use crate::long_lists::LongLists;
 use crate::many::Many;
+use crate::moment::Moment;
+use crate::rate::Rate;
 use crate::ready::Ready;
 use crate::seldom::Seldom;
 use crate::tally::Tally;
+use crate::texts::ARE_TEXTS;
 use crate::watched::Watched;
 use crate::way_out::WayOut;
-use lazyset_set_commands::Status;
+use lazyset_set_commands::{Heed, Status};
 use lz_disk::Cause;
 use lz_resp::Naming;
 use lz_serve::{Language, Listener, Observer, Serving, close_listener};
@@ -22,11 +27,8 @@ use std::sync::atomic::{AtomicBool, AtomicUsize, Ordering};
 use std::sync::{OnceLock, Wait};
 use std::time::{Clock, Duration};
 
-// From how many members in a list on a command takes long enough to be told.
-const LONG_LIST: usize = 64;
-
 /// An observer by which a service is asked to end.
-pub trait Stoppable: Observer {
+pub trait Stoppable: Observer + Heed {
     /// The service is to end: no further command is begun.
     fn stop(&self);
 
@@ -39,6 +41,8 @@ pub trait Stoppable: Observer {
 pub struct Surroundings {
     /// Each line has its level before it.
     pub has_levels: bool,
+    /// Each line that names the file has its time before it.
+    pub has_times: bool,
     /// What is said where it can't listen.
     pub way_out: WayOut,
     /// Who wants to know that the service is ready.
@@ -64,6 +68,8 @@ pub struct Log<'a, R: Eprint> {
     serving: OnceLock<Serving>,
     gauge: Gauge,
     tally: Tally,
+    rate: Rate,
+    latencies: Latencies,
     /// How many connections it serves at once, how many there are, and how many there were.
     places: AtomicUsize,
     guests: AtomicUsize,
@@ -103,6 +109,8 @@ where
             serving: OnceLock::new(),
             gauge: Gauge::new(),
             tally: Tally::new(),
+            rate: Rate::new(),
+            latencies: Latencies::new(),
             places: AtomicUsize::new(0),
             guests: AtomicUsize::new(0),
             sessions: AtomicUsize::new(0),
@@ -118,7 +126,12 @@ where
 
     fn say<W: fmt::Display + Drop>(&self, level: Level, words: W) {
         let file = self.file;
-        self.write(level, format_args!("{file}: {words}"));
+        if self.around.has_times {
+            let now = Moment::now(self.rt);
+            self.write(level, format_args!("{now} {file}: {words}"));
+        } else {
+            self.write(level, format_args!("{file}: {words}"));
+        }
     }
 
     fn write<W: fmt::Display + Drop>(&self, level: Level, line: W) {
@@ -188,14 +201,6 @@ where
         Some(now.saturating_sub(began))
     }
 
-    // The same in whole seconds.
-    fn seconds(&self) -> usize {
-        match self.age() {
-            Some(age) => age.as_secs() as usize,
-            None => 0,
-        }
-    }
-
     // Says how long the opening took.
     fn tell_opened(&self) {
         if let Some(took) = self.age() {
@@ -255,10 +260,15 @@ where
         self.around.backlog.at(self.rt.alloc(), listener.port()?)
     }
 
+    // What its clients speak, where it is served by loops.
+    fn language(&self) -> Option<Language> {
+        let loops = self.serving.get().and_then(|serving| serving.loops);
+        loops.map(|loops| loops.language)
+    }
+
     // How many marks its file has: one where its keys are texts.
     fn marks(&self) -> usize {
-        let loops = self.serving.get().and_then(|serving| serving.loops);
-        match loops.map(|loops| loops.language) {
+        match self.language() {
             Some(Language::Frames(Naming::Texts) | Language::Either(Naming::Texts)) => 1,
             _ => 0,
         }
@@ -283,14 +293,8 @@ where
 
     // Says that lists are long, where they are.
     fn tell_lists(&self, members: usize, buckets: usize) {
-        if members.checked_div(buckets).unwrap_or(0) > LONG_LIST {
-            let more = members.min(self.format.most_buckets());
-            self.say(
-                Level::Warning,
-                format_args!(
-                    "long lists make commands slow: give it --buckets {more} at the next start"
-                ),
-            );
+        if let Some(lists) = LongLists::of(members, buckets, self.format.most_buckets()) {
+            self.say(Level::Warning, lists);
         }
     }
 }
@@ -310,5 +314,17 @@ where
             Level::Error,
             format_args!("no thread can be made for {option}: it can't be asked to stop so"),
         );
+    }
+}
+
+impl<'a, R> Heed for Log<'a, R>
+where
+    R: Eprint + Clock + Wait + AllocGlobal,
+{
+    // Where frames are spoken the command line has said what the keys are.
+    fn found(&self, _members: usize, mark: bool) {
+        if mark && let None | Some(Language::Lines) = self.language() {
+            self.say(Level::Warning, ARE_TEXTS);
+        }
     }
 }

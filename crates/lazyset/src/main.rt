@@ -1,6 +1,7 @@
 //! The command line of the set service: it reads the words, opens the files, and hands over to the library of commands.
 #![tactic(auto)]
 
+mod asked;
 mod at_path;
 mod backlog;
 mod before;
@@ -20,12 +21,16 @@ mod handed;
 mod heard;
 mod held;
 mod identity;
+mod latencies;
 mod level;
 mod log;
+mod long_lists;
 mod making;
 mod many;
+mod moment;
 mod new_files;
 mod over_disk;
+mod rate;
 mod ready;
 mod seldom;
 mod service;
@@ -35,6 +40,7 @@ mod source;
 mod starting;
 mod tally;
 mod texts;
+mod told;
 mod watched;
 mod way_out;
 mod words;

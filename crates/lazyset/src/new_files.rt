@@ -9,6 +9,7 @@ use crate::fault::Fault;
 use crate::files::{StandIns, open, say_cause};
 use crate::making::Making;
 use crate::over_disk::{make_keys_over, make_over, renew_over};
+use lazyset_arguments::New;
 use lazyset_set_commands::{Lines, Status};
 use lz_disk::Lock;
 use lz_slot::Format;
@@ -18,19 +19,13 @@ use std::rt::Files;
 use std::time::Clock;
 
 /// Makes a file of the empty set.
-pub fn make<R, W>(
-    rt: &R,
-    writer: &mut W,
-    file: &str,
-    slots: u64,
-    format: Format,
-) -> Result<Status, Fault>
+pub fn make<R, W>(rt: &R, writer: &mut W, new: New<'_>) -> Result<Status, Fault>
 where
     R: Files<File = File> + Eprint + Clock + AllocGlobal,
     W: Write + Drop,
 {
-    let (making, disk) = Making::begin(rt, file, None)?;
-    let (status, disk) = make_over(rt, writer, file, disk, slots, format);
+    let (making, disk) = Making::begin(rt, new.file, None)?;
+    let (status, disk) = make_over(rt, writer, new, disk);
     Ok(making.end(rt, &disk, status))
 }
 
@@ -39,25 +34,23 @@ pub fn make_keys<R, W>(
     rt: &R,
     writer: &mut W,
     stands: &StandIns,
-    file: &str,
-    slots: u64,
-    format: Format,
+    new: New<'_>,
     texts_of: Option<&str>,
 ) -> Result<Status, Fault>
 where
     R: Files<File = File> + Input + Eprint + Clock + AllocGlobal,
     W: Write + Drop,
-    requires { IfSome texts_of (λ name. last_room_of format ≡ last_room) }
+    requires { IfSome texts_of (λ name. last_room_of new.format ≡ last_room) }
 {
     if stands.has_no_input() {
         return Err(Fault::NoRead);
     }
-    let (making, disk) = Making::begin(rt, file, None)?;
+    let (making, disk) = Making::begin(rt, new.file, None)?;
     let mut reader = Counted::new(rt.reader());
-    let lines = lines_of(texts_of, format);
-    let (status, disk) = make_keys_over(rt, &mut reader, writer, file, disk, slots, format, lines);
+    let lines = lines_of(texts_of, new.format);
+    let (status, disk) = make_keys_over(rt, &mut reader, writer, new, disk, lines);
     if status == Status::Done {
-        say_count(rt, file, reader.lines(), lines);
+        say_count(rt, new.file, reader.lines(), lines);
     }
     Ok(making.end(rt, &disk, status))
 }
@@ -84,22 +77,15 @@ fn say_count<R: Eprint>(rt: &R, file: &str, count: u64, lines: Lines<'_>) {
 }
 
 /// Makes a file of the keys of another one.
-pub fn renew<R, W>(
-    rt: &R,
-    writer: &mut W,
-    old: &str,
-    new: &str,
-    slots: u64,
-    format: Format,
-) -> Result<Status, Fault>
+pub fn renew<R, W>(rt: &R, writer: &mut W, old: &str, new: New<'_>) -> Result<Status, Fault>
 where
     R: Files<File = File> + Eprint + Clock + AllocGlobal,
     W: Write + Drop,
-    requires { last_room_of format ≡ last_room }
+    requires { last_room_of new.format ≡ last_room }
 {
     let old_disk = open(rt, old, Lock::Shared)?;
-    let (making, disk) = Making::begin(rt, new, Some(&old_disk))?;
-    let (status, old_disk, disk) = renew_over(rt, writer, old, old_disk, new, disk, slots, format);
+    let (making, disk) = Making::begin(rt, new.file, Some(&old_disk))?;
+    let (status, old_disk, disk) = renew_over(rt, writer, old, old_disk, new, disk);
     say_cause(rt, old, old_disk.cause());
     Ok(making.end(rt, &disk, status))
 }

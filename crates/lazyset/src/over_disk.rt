@@ -18,47 +18,38 @@ ghost use Rattle.lazyset_set_commands.specs.PlainReplies.{PassMayAnswer};
 ghost use Rattle.lazyset_set_commands.specs.Runs.{SessionOfSet};
 
 use crate::files::{bytes_of, shown};
+use lazyset_arguments::New;
 use lazyset_set_commands::{
-    Lines, Shelf, Standing, Status, copy_on, grow_on, make_keys_on, make_on, renew_on, run_on,
+    Heed, Lines, Shelf, Standing, Status, copy_on, grow_on, make_keys_on, make_on, renew_on, run_on,
 };
 use lz_disk::Disk;
-use lz_slot::Format;
 use std::fs::File;
 use std::io::{Read, Write};
 use std::rt::Files;
 use std::sync::Wait;
 use std::time::Clock;
 
-/// Makes a file on the disk of this path, and hands the disk back.
-pub fn make_over<R, W, D>(
-    rt: &R,
-    writer: &mut W,
-    path: &str,
-    disk: D,
-    slots: u64,
-    format: Format,
-) -> (Status, D)
+/// Makes the file on its disk, and hands the disk back.
+pub fn make_over<R, W, D>(rt: &R, writer: &mut W, new: New<'_>, disk: D) -> (Status, D)
 where
     R: Files<File = File> + Eprint + Clock,
     W: Write + Drop,
     D: Disk,
     ensures { IsTrue (D.device disk).honest
-        → LeavesOnly (D.device disk) (D.device result.1) (λ t. IsImage (D.device disk).medium t ⊎ IsUnmadeOrHolds format slots (members []) t) }
+        → LeavesOnly (D.device disk) (D.device result.1) (λ t. IsImage (D.device disk).medium t ⊎ IsUnmadeOrHolds new.entry.format new.entry.slots (members []) t) }
 {
-    let mut disk = shown(rt, path, disk, bytes_of(slots));
-    let status = make_on(writer, &mut disk, slots, format);
+    let mut disk = shown(rt, new.file, disk, bytes_of(new.slots));
+    let status = make_on(writer, &mut disk, new.slots, new.format);
     (status, disk.end())
 }
 
-/// Makes a file of the keys that the reader's lines name on the disk of this path, and hands the disk back.
+/// Makes the file of the keys that the reader's lines name on its disk, and hands the disk back.
 pub fn make_keys_over<R, I, W, D>(
     rt: &R,
     reader: &mut I,
     writer: &mut W,
-    path: &str,
+    new: New<'_>,
     disk: D,
-    slots: u64,
-    format: Format,
     lines: Lines<'_>,
 ) -> (Status, D)
 where
@@ -66,24 +57,23 @@ where
     I: Read,
     W: Write + Drop,
     D: Disk,
-    requires { HasPlaceFor format lines }
-    ensures { IsTrue (D.device disk).honest → LeavesListed format (named_by format lines.entry) slots (I.remaining reader.old) (D.device disk) (D.device result.1) }
+    requires { HasPlaceFor new.format lines }
+    ensures { IsTrue (D.device disk).honest → LeavesListed new.entry.format (named_by new.entry.format lines.entry) new.entry.slots (I.remaining reader.old) (D.device disk) (D.device result.1) }
 {
-    let mut disk = shown(rt, path, disk, bytes_of(slots));
+    let mut disk = shown(rt, new.file, disk, bytes_of(new.slots));
+    let (slots, format) = (new.slots, new.format);
     let status = make_keys_on(rt.alloc(), reader, writer, &mut disk, slots, format, lines);
     (status, disk.end())
 }
 
-/// Makes a file of the keys that a service tells on the disk of this path, and hands the disk back.
+/// Makes the file of the keys that a service tells on its disk, and hands the disk back.
 pub fn copy_over<R, I, A, W, D>(
     rt: &R,
     reader: &mut I,
     asker: &mut A,
     writer: &mut W,
-    path: &str,
+    new: New<'_>,
     disk: D,
-    slots: u64,
-    format: Format,
 ) -> (Status, D)
 where
     R: Files<File = File> + Eprint + Clock + AllocGlobal,
@@ -91,52 +81,50 @@ where
     A: Write,
     W: Write + Drop,
     D: Disk,
-    requires { last_room_of format ≡ last_room }
+    requires { last_room_of new.format ≡ last_room }
     ensures { IsTrue (D.device disk).honest
-        → LeavesCopy format slots (record { input = I.remaining reader.old; before = A.contents asker.old; after = A.contents asker.new }) (D.device disk) (D.device result.1) }
+        → LeavesCopy new.entry.format new.entry.slots (record { input = I.remaining reader.old; before = A.contents asker.old; after = A.contents asker.new }) (D.device disk) (D.device result.1) }
 {
-    let mut disk = shown(rt, path, disk, bytes_of(slots));
+    let mut disk = shown(rt, new.file, disk, bytes_of(new.slots));
+    let (slots, format) = (new.slots, new.format);
     let status = copy_on(rt.alloc(), reader, asker, writer, &mut disk, slots, format);
     (status, disk.end())
 }
 
-/// Renews the file on the disk of one path into that of another one, and hands both disks back.
+/// Renews the file on the disk of this path into another one on its disk, and hands both disks back.
 pub fn renew_over<R, W, O, N>(
     rt: &R,
     writer: &mut W,
     old_path: &str,
     old: O,
-    new_path: &str,
+    made: New<'_>,
     new: N,
-    slots: u64,
-    format: Format,
 ) -> (Status, O, N)
 where
     R: Files<File = File> + Eprint + Clock + AllocGlobal,
     W: Write + Drop,
     O: Disk,
     N: Disk,
-    requires { last_room_of format ≡ last_room }
+    requires { last_room_of made.format ≡ last_room }
     ensures { IsTrue (O.device old).honest → IsTrue (N.device new).honest → (n : ℕ) (S : Keys) → Holds (O.device old).medium.seen n S
-        → LeavesOnly (N.device new) (N.device result.2) (λ t. IsImage (N.device new).medium t ⊎ IsUnmadeOrHolds format slots S t) }
+        → LeavesOnly (N.device new) (N.device result.2) (λ t. IsImage (N.device new).medium t ⊎ IsUnmadeOrHolds made.entry.format made.entry.slots S t) }
 {
     let mut old = shown(rt, old_path, old, None);
-    let mut new = shown(rt, new_path, new, bytes_of(slots));
+    let mut new = shown(rt, made.file, new, bytes_of(made.slots));
+    let (slots, format) = (made.slots, made.format);
     let status = renew_on(rt.alloc(), writer, &mut old, &mut new, format, slots);
     (status, old.end(), new.end())
 }
 
-/// Grows the file on the disk of one path into that of another one, which takes the name that the shelf has, and hands both disks back.
+/// Grows the file on the disk of this path into another one on its disk, which takes the name that the shelf has, and hands both disks back.
 pub fn grow_over<R, W, O, N, P>(
     rt: &R,
     writer: &mut W,
     old_path: &str,
     old: O,
-    new_path: &str,
+    made: New<'_>,
     new: N,
     shelf: &mut P,
-    slots: u64,
-    format: Format,
 ) -> (Status, O, N)
 where
     R: Files<File = File> + Eprint + Clock + AllocGlobal,
@@ -144,22 +132,24 @@ where
     O: Disk,
     N: Disk,
     P: Shelf,
-    requires rooms { last_room_of format ≡ last_room }
+    requires rooms { last_room_of made.format ≡ last_room }
     requires stands { P.stands shelf.old ≡ Standing.Old }
     ensures { IsTrue (O.device old).honest → IsTrue (N.device new).honest → (n : ℕ) (S : Keys) → Holds (O.device old).medium.seen n S
-        → (t : List ℕ) → MayBeLeft (O.device old) (O.device result.1) (N.device result.2) (P.stands shelf.new) t → IsLeftOrHolds (O.device old) format slots S t }
+        → (t : List ℕ) → MayBeLeft (O.device old) (O.device result.1) (N.device result.2) (P.stands shelf.new) t → IsLeftOrHolds (O.device old) made.entry.format made.entry.slots S t }
 {
     let mut old = shown(rt, old_path, old, None);
-    let mut new = shown(rt, new_path, new, bytes_of(slots));
+    let mut new = shown(rt, made.file, new, bytes_of(made.slots));
+    let (slots, format) = (made.slots, made.format);
     let status = grow_on(rt.alloc(), writer, &mut old, &mut new, shelf, format, slots);
     (status, old.end(), new.end())
 }
 
 /// Serves a session over the disk of this path, and hands the disk back.
-pub fn run_over<R, I, W, D>(
+pub fn run_over<R, I, W, H, D>(
     rt: &R,
     reader: &mut I,
     writer: &mut W,
+    heed: &H,
     path: &str,
     disk: D,
     buckets: usize,
@@ -168,6 +158,7 @@ where
     R: Files<File = File> + Eprint + AllocGlobal + Wait + Clock,
     I: Read + Drop,
     W: Write + Drop,
+    H: Heed,
     D: Disk,
     requires buckets { (1 ≤ buckets) × (buckets ≤ most_buckets) }
     requires medium { MayOpen (D.device disk) }
@@ -176,6 +167,6 @@ where
         ⊎ FailedOpen result.0 (W.contents writer.old) (W.contents writer.new) (D.device disk) (D.device result.1) }
 {
     let disk = shown(rt, path, disk, None);
-    let (status, disk) = run_on(rt, reader, writer, disk, buckets);
+    let (status, disk) = run_on(rt, reader, writer, heed, disk, buckets);
     (status, disk.end())
 }

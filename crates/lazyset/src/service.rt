@@ -1,21 +1,23 @@
 //! The service of a file, until it is asked to stop.
-ghost use Rattle.std.specs.Prelude.{◌≡◌, ◌≤◌, option_map};
-ghost use Rattle.lz_slot.specs.Limits.{most_buckets, most_passes};
+ghost use Rattle.std.specs.Prelude.{◌≡◌, option_map};
 ghost use Rattle.lz_vault.specs.Opens.{MayOpen};
 ghost use Rattle.lazyset_set_commands.specs.Marks.{KeptService};
+ghost use Rattle.lazyset_set_commands.specs.Services.{IsServable};
 
 use crate::at_path::{SocketFile, listen_at};
 use crate::backlog::Backlog;
 use crate::control::{Control, tell_ended};
 use crate::ending::has_ended;
 use crate::fault::Fault;
-use crate::handed::is_of_six;
+use crate::files::shown;
+use crate::handed::{handed, is_of_six};
 use crate::level::is_journal;
 use crate::log::{Log, Stoppable, Surroundings};
 use crate::ready::Ready;
+use crate::texts::wanted_by;
 use crate::watched::Watched;
 use crate::way_out::WayOut;
-use lazyset_arguments::Chosen;
+use lazyset_arguments::Service;
 use lazyset_set_commands::{Listener, Place, ServeOptions, Status, Wanted, serve_kept_on};
 use lz_disk::{Disk, FileDisk};
 use std::fs::File;
@@ -37,29 +39,28 @@ const CONTROL: &str = "--control";
 
 const UNTIL_EOF: &str = "--until-eof";
 
-/// What a service is asked to stop by, besides signals.
-#[derive(Clone, Copy)]
-pub struct Until<'a> {
-    /// The path of its control socket.
-    pub control: Option<&'a str>,
-    /// The end of standard input.
-    pub until_eof: bool,
-}
-
 /// Where a service listens.
 #[derive(Drop)]
 pub enum At<'a> {
     /// On a port, or at the listener that was handed over in place of one.
     Port(Option<io::Result<TcpListener>>),
-    /// At the socket of this path.
-    Path(&'a str),
+    /// At the socket of this path, with this mode.
+    Path(&'a str, Option<u32>),
 }
 
 impl<'a> At<'a> {
+    /// Where the command line says. What was handed over is taken before anything is opened that might get its number.
+    pub fn of<R: Env + AllocGlobal>(rt: &R, service: Service<'a>) -> At<'a> {
+        match service.socket {
+            Some(path) => At::Path(path, service.mode),
+            None => At::Port(handed(rt)),
+        }
+    }
+
     fn is_of_six(&self) -> bool {
         match self {
             At::Port(handed) => is_of_six(handed),
-            At::Path(_) => false,
+            At::Path(..) => false,
         }
     }
 
@@ -67,7 +68,7 @@ impl<'a> At<'a> {
     fn way_out(&self, port: u16, is_chosen: bool) -> WayOut {
         match self {
             At::Port(None) if is_chosen => WayOut::Port(port),
-            At::Path(_) if is_chosen => WayOut::Path,
+            At::Path(..) if is_chosen => WayOut::Path,
             _ => WayOut::Unsaid,
         }
     }
@@ -83,8 +84,8 @@ impl<'a> At<'a> {
                 listener: Some(handed.map(Listener::Port)),
                 path: None,
             },
-            At::Path(path) => Place {
-                listener: Some(listen_at(rt, path, BACKLOG).map(Listener::Path)),
+            At::Path(path, mode) => Place {
+                listener: Some(listen_at(rt, path, mode, BACKLOG).map(Listener::Path)),
                 path: Some(path),
             },
         }
@@ -99,32 +100,30 @@ fn socket_of<'a, R: Files<File = File>>(rt: &R, place: &Place<'a>) -> Option<Soc
     }
 }
 
-/// Serves the set of this file there. Who asked for its end hears of it once the file is closed.
+/// Serves the set on this disk there. Who asked for its end hears of it once the file is closed.
 pub fn serve<R, W>(
     rt: &R,
     writer: &mut W,
-    file: &str,
     disk: FileDisk,
-    options: ServeOptions,
-    chosen: Chosen,
-    until: Until<'_>,
+    service: Service<'_>,
     at: At<'_>,
-    wanted: Wanted,
 ) -> Result<Status, Fault>
 where
     R: Env + Files<File = File> + Eprint + AllocGlobal,
     R: Net<Listener = TcpListener, Stream = TcpStream> + Threads + Wait + Clock + Sync,
     W: Write + Drop,
-    requires passes { (1 ≤ options.passes) × (options.passes ≤ most_passes) }
-    requires buckets { (1 ≤ options.buckets) × (options.buckets ≤ most_buckets) }
+    requires { IsServable service.options }
 {
-    let control = match control_of(rt, file, until, chosen.control) {
+    let control = match control_of(rt, service) {
         Ok(control) => control,
         Err(status) => return Ok(status),
     };
+    let Service { file, options, .. } = service;
+    let wanted = wanted_by(options.loops, service.as_numbers, service.adopts);
     let watched = File::open(rt, file).ok().and_then(Watched::new);
-    let around = surroundings_of(rt, &at, at.way_out(options.port, chosen.passes));
+    let around = surroundings_of(rt, &at, service);
     let place = at.place(rt);
+    let disk = shown(rt, file, disk, bytes_read(rt, file, wanted));
     let socket = socket_of(rt, &place);
     let log = Log::new(rt, file, watched, around);
     let Ended {
@@ -141,10 +140,11 @@ where
         place,
         wanted,
         control.as_ref(),
-        until.until_eof,
+        service.until_eof,
     );
+    let disk = disk.end();
     log.say_cause(disk.cause());
-    take_away_sockets(rt, until, socket);
+    take_away_sockets(rt, service.control, socket);
     log.ended();
     drop(disk);
     tell_ended(&waiting);
@@ -152,22 +152,17 @@ where
 }
 
 // The socket on which the service is asked to stop, where it has one. It doesn't serve without.
-fn control_of<R>(
-    rt: &R,
-    file: &str,
-    until: Until<'_>,
-    is_chosen: bool,
-) -> Result<Option<Control>, Status>
+fn control_of<R>(rt: &R, service: Service<'_>) -> Result<Option<Control>, Status>
 where
     R: Files<File = File> + Net + Eprint,
 {
-    let Some(path) = until.control else {
+    let Some(path) = service.control else {
         return Ok(None);
     };
-    match Control::listen(rt, path) {
+    match Control::listen(rt, path, service.mode) {
         Ok(control) => Ok(Some(control)),
         Err(error) => {
-            say_no_control(rt, file, path, is_chosen, &error);
+            say_no_control(rt, service.file, path, service.chosen.control, &error);
             Err(Status::Failed)
         }
     }
@@ -188,23 +183,38 @@ fn say_no_control<R: Eprint>(rt: &R, file: &str, path: &str, is_chosen: bool, er
     };
 }
 
-fn surroundings_of<R>(rt: &R, at: &At<'_>, way_out: WayOut) -> Surroundings
+// How many bytes of the file are read before it is served: all, and where it matters what the keys are all once more.
+fn bytes_read<R: Files>(rt: &R, file: &str, wanted: Wanted) -> Option<u64> {
+    let length = rt.metadata(file).ok()?.len();
+    Some(match wanted {
+        Wanted::Anything => length,
+        _ => length.saturating_mul(2),
+    })
+}
+
+// Where no journal has the time of each line, the log of loops has it.
+fn surroundings_of<R>(rt: &R, at: &At<'_>, service: Service<'_>) -> Surroundings
 where
     R: Env + Files<File = File> + AllocGlobal,
 {
+    let Service {
+        options, chosen, ..
+    } = service;
+    let has_levels = is_journal(rt);
     Surroundings {
-        way_out,
-        has_levels: is_journal(rt),
+        way_out: at.way_out(options.port, chosen.passes),
+        has_levels,
+        has_times: options.loops.is_some() && !has_levels,
         ready: Ready::new(rt),
         backlog: Backlog::new(rt, at.is_of_six()),
     }
 }
 
-fn take_away_sockets<R>(rt: &R, until: Until<'_>, socket: Option<SocketFile<'_>>)
+fn take_away_sockets<R>(rt: &R, control: Option<&str>, socket: Option<SocketFile<'_>>)
 where
     R: Files<File = File>,
 {
-    if let Some(path) = until.control {
+    if let Some(path) = control {
         let _ = rt.remove_file(path);
     }
     if let Some(socket) = socket {
@@ -239,8 +249,7 @@ where
     W: Write + Drop,
     O: Stoppable + Sync,
     D: Disk + Send + Drop,
-    requires passes { (1 ≤ options.passes) × (options.passes ≤ most_passes) }
-    requires buckets { (1 ≤ options.buckets) × (options.buckets ≤ most_buckets) }
+    requires options { IsServable options }
     requires medium { MayOpen (D.device disk) }
     ensures ran { KeptService D.device wanted options.buckets options.passes (option_map (λ p. p.now) place.entry.path) result.status (W.contents writer) (W.contents result.writer) disk result.disk }
 {
@@ -251,8 +260,7 @@ where
         thread::scope_env(),
         rt,
         move |scope| -> Ended<D, W>
-            requires passes { (1 ≤ options.passes) × (options.passes ≤ most_passes) }
-            requires buckets { (1 ≤ options.buckets) × (options.buckets ≤ most_buckets) }
+            requires options { IsServable options }
             requires medium { MayOpen (D.device disk) }
             ensures ran { KeptService D.device wanted options.buckets options.passes (option_map (λ p. p.now) place.entry.path) result.status (W.contents writer) (W.contents result.writer) disk result.disk }
         {

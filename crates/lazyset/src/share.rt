@@ -8,14 +8,14 @@ use std::time::Clock;
 // Standard error, as a file.
 const ERROR: &str = "/proc/self/fd/2";
 
-/// Says on standard error, where that is a terminal, which share of a file was read or written: once a second, from the first whole
-/// second on.
+/// Says on standard error, where that is a terminal, which share of a file was read or written, or of a service asked: once a second, from
+/// the first whole second on.
 #[derive(Drop)]
 pub struct Share<'a, 'b, R: Eprint + Clock> {
     rt: &'a R,
     file: &'b str,
     is_shown: bool,
-    /// How many bytes there are, and how many were moved.
+    /// How many bytes or slots there are, and how many were moved.
     total: u64,
     moved: u64,
     /// In which second it was looked at last, and whether something stands in the line.
@@ -37,12 +37,22 @@ impl<'a, 'b, R: Eprint + Clock> Share<'a, 'b, R> {
         }
     }
 
-    /// So many bytes were moved.
+    /// There are so many in all.
+    pub fn of_total(&mut self, total: u64) {
+        self.total = total;
+    }
+
+    /// So many more were moved.
     pub fn add(&mut self, count: usize) {
+        self.reach(self.moved.saturating_add(count as u64));
+    }
+
+    /// So many were moved in all.
+    pub fn reach(&mut self, moved: u64) {
         if !self.is_shown {
             return;
         }
-        self.moved = self.moved.saturating_add(count as u64);
+        self.moved = moved;
         if self.moved >= self.total {
             self.end();
             return;
@@ -64,7 +74,7 @@ impl<'a, 'b, R: Eprint + Clock> Share<'a, 'b, R> {
             .checked_div(self.total)
             .unwrap_or(0);
         let file = self.file;
-        self.stands = eprint!(self.rt; "\r{file}: {percent} %").is_ok();
+        self.stands = eprint!(self.rt; "\r{file}: {percent} %\u{1b}[K").is_ok();
     }
 
     /// The work is done: the line is empty again, and nothing more is said.

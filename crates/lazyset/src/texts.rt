@@ -1,4 +1,4 @@
-//! Whether the keys of a file are numbers or texts.
+//! Whether the keys of a file are numbers or texts, and what is said of that.
 use lazyset_set_commands::Wanted;
 use lz_resp::Naming;
 use lz_serve::{Language, Loops};
@@ -16,3 +16,6 @@ pub fn wanted_by(loops: Option<Loops>, as_numbers: bool, adopts: bool) -> Wanted
         Naming::Rooms => Wanted::Numbers,
     }
 }
+
+/// What is said of texts that are served as they stand.
+pub const ARE_TEXTS: &str = "its keys are texts, and are taken for numbers here";

@@ -1,6 +1,6 @@
 //! What the lines that refuse say in words, for standard error.
 
-use lazyset_arguments::Request;
+use lazyset_arguments::{New, Request, Service, Wish};
 use lz_slot::Format;
 use std::fmt;
 
@@ -66,11 +66,9 @@ fn plain_words_of(request: Request<'_>, line: &str) -> Option<&'static str> {
 // The format of the file that a command makes, if it makes one.
 fn made_format(request: Request<'_>) -> Option<Format> {
     match request {
-        Request::Make { format, .. }
-        | Request::MakeKeys { format, .. }
-        | Request::Renew { format, .. } => Some(format),
+        Request::Make(new) | Request::MakeKeys(new, _) | Request::Renew(_, new) => Some(new.format),
         // Where none is named, the one that has the most slots is taken at last.
-        Request::Grow { format, .. } | Request::Copy { format, .. } => {
+        Request::Grow { format, .. } | Request::Copy(Wish { format, .. }) => {
             Some(format.unwrap_or(Format::Four))
         }
         _ => None,
@@ -90,7 +88,7 @@ fn number_after(beginning: &str, line: &str) -> Option<u8> {
 // Why no file is made over a set.
 fn words_of_set(request: Request<'_>) -> &'static str {
     match request {
-        Request::Copy { .. } => "it is a set already: --replace puts the copy in its place",
+        Request::Copy(_) => "it is a set already: --replace puts the copy in its place",
         _ => "it is a set already",
     }
 }
@@ -101,6 +99,40 @@ fn words_of_making(number: u8, format: Format) -> Option<&'static str> {
         b'3' => Some("the device failed"),
         b'4' => Some("it is longer than the new file would be"),
         _ => None,
+    }
+}
+
+/// The command that makes a file of so many slots, in a format that has them.
+#[derive(Clone, Copy)]
+pub struct Roomy<'a> {
+    request: Request<'a>,
+    slots: u64,
+}
+
+impl<'a> Roomy<'a> {
+    /// That for a command that ended with this line, since the format that it was to make has no file of so many slots.
+    pub fn of(request: Request<'a>, line: &str) -> Option<Roomy<'a>> {
+        let (Request::Make(New { slots, .. }) | Request::MakeKeys(New { slots, .. }, _)) = request
+        else {
+            return None;
+        };
+        let is_many = slots > Format::Two.most_slots() && slots <= Format::Four.most_slots();
+        if !is_many || number_of_fault(line) != Some(b'2') {
+            return None;
+        }
+        Some(Roomy { request, slots })
+    }
+}
+
+impl fmt::Display for Roomy<'_> {
+    fn fmt<W: fmt::Write>(&self, f: &mut fmt::Formatter<W>) -> fmt::Result {
+        let (request, slots) = (self.request, self.slots);
+        write!(f, "lazyset {request} {slots} --format 4")?;
+        match request {
+            Request::MakeKeys(_, Some(name)) => write!(f, " --keys --text {name}"),
+            Request::MakeKeys(_, None) => f.write_str(" --keys"),
+            _ => Ok(()),
+        }
     }
 }
 
@@ -152,11 +184,11 @@ fn words_of_end(request: Request<'_>, line: &str) -> Option<&'static str> {
 // Why a service isn't copied.
 fn words_of_reply(request: Request<'_>) -> &'static str {
     match request {
-        Request::Copy { slots: None, .. } => {
-            "it doesn't tell its slots, or a page of keys: the service has to speak Redis's protocol (--resp beside PASSES), and be started without --text"
+        Request::Copy(Wish { slots: None, .. }) => {
+            "it doesn't tell its slots, or a page of keys: the service has to speak Redis's protocol (--resp beside PASSES), by release 1.17 or a later one"
         }
         _ => {
-            "a reply is no page of keys: the service has to speak Redis's protocol (--resp beside PASSES), and be started without --text"
+            "a reply is no page of keys: the service has to speak Redis's protocol (--resp beside PASSES), by release 1.17 or a later one"
         }
     }
 }
@@ -164,7 +196,7 @@ fn words_of_reply(request: Request<'_>) -> &'static str {
 // Why a service of texts is refused for the keys of its file.
 fn words_of_numbers(request: Request<'_>) -> &'static str {
     match request {
-        Request::Serve { adopts: true, .. } => {
+        Request::Serve(Service { adopts: true, .. }) => {
             "some of its keys are outside room 0, so it is no older file of texts: serve it without --text"
         }
         _ => {
@@ -176,8 +208,8 @@ fn words_of_numbers(request: Request<'_>) -> &'static str {
 // Why a read failed. Of a file the system's own reason was told.
 fn words_of_read(request: Request<'_>) -> Option<&'static str> {
     match request {
-        Request::MakeKeys { .. } | Request::Rehearse { .. } => Some("a read of the input failed"),
-        Request::Copy { .. } => Some("the connection failed, ended or was silent for a minute"),
+        Request::MakeKeys(..) | Request::Rehearse { .. } => Some("a read of the input failed"),
+        Request::Copy(_) => Some("the connection failed, ended or was silent for a minute"),
         _ => None,
     }
 }
@@ -185,11 +217,8 @@ fn words_of_read(request: Request<'_>) -> Option<&'static str> {
 // Why a line of the input is refused.
 fn words_of_line(request: Request<'_>) -> &'static str {
     match request {
-        Request::MakeKeys {
-            texts_of: Some(_),
-            ..
-        } => "a text has at most 512 bytes, and each line has its end",
-        Request::MakeKeys { .. } => "this line holds no key that the format has",
+        Request::MakeKeys(_, Some(_)) => "a text has at most 512 bytes, and each line has its end",
+        Request::MakeKeys(_, None) => "this line holds no key that the format has",
         _ => "this line doesn't read, or may not stand there",
     }
 }

@@ -13,15 +13,21 @@ AreWithin passes l = ((1 ≤ l.count) × (l.count ≤ most_threads)) × (l.count
 abbrev pub ArePasses : ℕ → Option Loops → Type 0
 ArePasses passes loops = ((1 ≤ passes) × (passes ≤ most_passes)) × (loops ≡ None → passes ≤ most_threads)
 
+-- the last mode of a file, in octal 777
+abbrev pub last_mode : ℕ
+last_mode = 511
+
 -- its numbers and its format are those with which the command may be run
 abbrev pub IsWithin : Request → Type 0
-IsWithin (MakeKeys file slots format texts_of) = IfSome texts_of (λ name. (last_room_of format ≡ last_room) × (length name.now ≤ most_argument))
-IsWithin (Renew old new slots format) = last_room_of format ≡ last_room
+IsWithin (MakeKeys new texts_of) = IfSome texts_of (λ name. (last_room_of new.format ≡ last_room) × (length name.now ≤ most_argument))
+IsWithin (Renew old new) = last_room_of new.format ≡ last_room
 IsWithin (Grow file slots format) = IfSome format (λ f. last_room_of f ≡ last_room)
-IsWithin (Copy address file slots format replaces) = IfSome format (λ f. last_room_of f ≡ last_room)
+IsWithin (Copy wish) = IfSome wish.format (λ f. last_room_of f ≡ last_room)
 IsWithin (Run file buckets no_lock) = (1 ≤ buckets) × (buckets ≤ most_buckets)
-IsWithin (Serve file options chosen socket control until_eof no_lock as_numbers adopts) =
+IsWithin (Serve service) =
+    let options = service.options in
     ArePasses options.passes options.loops × ((1 ≤ options.buckets) × (options.buckets ≤ most_buckets)) × IfSome options.loops (AreWithin options.passes)
+    × IfSome service.mode (λ m. m ≤ last_mode)
 IsWithin (Rehearse slots buckets format) =
     ((1 ≤ slots) × (slots ≤ most_rehearsed)) × (1 ≤ buckets) × (buckets ≤ most_buckets_of format)
 IsWithin request = Unit {0}

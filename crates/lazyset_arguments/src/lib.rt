@@ -13,5 +13,5 @@ mod words;
 
 pub use command::{MAJOR, MINOR};
 pub use refusal::{Refusal, too_many_buckets};
-pub use request::{Request, read};
-pub use service::Chosen;
+pub use request::{New, Request, Wish, read};
+pub use service::{Chosen, Service};

@@ -1,13 +1,15 @@
 //! Command lines that the table of words lets through, and that ask for nothing that can be done.
-use crate::refusal::{Refusal, bad_passes, long_name, no_mark, too_many_buckets, too_many_loops};
-use crate::service::beyond;
+use crate::refusal::{
+    Refusal, bad_mode, bad_passes, long_name, no_mark, no_socket, too_many_buckets, too_many_loops,
+};
+use crate::service::{StrayMode, beyond, stray_mode};
 use crate::values::{format_of, number};
 use clap::ArgMatches;
 use lz_slot::{Format, LAST_ROOM};
 use std::alloc::Global;
 
 /// The faults that the table of words doesn't show: texts need a mark and a name that a service takes, a format has its own most
-/// buckets, loops may have more passes than there are threads, and each loop needs a pass.
+/// buckets, loops may have more passes than there are threads, a mode is octal and some socket's, and each loop needs a pass.
 pub(crate) fn misfit(alloc: Global, matches: &ArgMatches<'_>) -> Refusal {
     match listed(matches) {
         Some(format) if format.last_room() != LAST_ROOM => return no_mark(alloc),
@@ -17,8 +19,12 @@ pub(crate) fn misfit(alloc: Global, matches: &ArgMatches<'_>) -> Refusal {
     if let Some((buckets, format)) = rehearsed(matches) {
         return too_many_buckets(alloc, buckets, format);
     }
-    match beyond(matches) {
-        Some((passes, most)) => bad_passes(alloc, passes, most),
+    if let Some((passes, most)) = beyond(matches) {
+        return bad_passes(alloc, passes, most);
+    }
+    match stray_mode(matches) {
+        Some(StrayMode::Unread(word)) => bad_mode(alloc, word),
+        Some(StrayMode::OfNone) => no_socket(alloc),
         None => too_many_loops(alloc),
     }
 }

@@ -44,6 +44,20 @@ pub fn too_many_loops(alloc: Global) -> Refusal {
     not_understood(format!(in alloc; "error: '--loops <L>' is more than '<PASSES>'\n"))
 }
 
+/// This is no mode of a socket.
+pub fn bad_mode(alloc: Global, mode: &str) -> Refusal {
+    not_understood(format!(in alloc;
+        "error: invalid value '{mode}' for '--socket-mode <MODE>': a mode is octal, 0 to 777, as 0660\n\nFor more information, try '--help'.\n"
+    ))
+}
+
+/// A mode was named, and no socket.
+pub fn no_socket(alloc: Global) -> Refusal {
+    not_understood(format!(in alloc;
+        "error: '--socket-mode <MODE>' needs '--socket <PATH>' or '--control <PATH>'\n"
+    ))
+}
+
 /// A file of format 1 has no room for the mark of texts.
 pub fn no_mark(alloc: Global) -> Refusal {
     not_understood(format!(in alloc;

@@ -9,38 +9,45 @@ use crate::command::command_line;
 use crate::given::Given;
 use crate::misfit::misfit;
 use crate::refusal::{Refusal, refusal_of};
-use crate::service::{Chosen, serve};
+use crate::service::{Service, serve};
 use crate::values::{format_of, format_with_rooms, named_format, number, number_within, text};
 use crate::words::TEXT_ID;
 use clap::ArgMatches;
 use lz_resp::MOST_ARGUMENT;
-use lz_serve::ServeOptions;
 use lz_slot::{Format, LAST_ROOM, MOST_BUCKETS, MOST_REHEARSED};
 use std::alloc::{AllocError, Global};
 use std::fmt;
 
+/// A file that is to be made.
+#[derive(Clone, Copy)]
+pub struct New<'a> {
+    pub file: &'a str,
+    pub slots: u64,
+    pub format: Format,
+}
+
+/// A copy of what a running service holds.
+#[derive(Clone, Copy)]
+pub struct Wish<'a> {
+    pub address: &'a str,
+    pub file: &'a str,
+    /// Where none are named, those of the service.
+    pub slots: Option<u64>,
+    /// Where none is named, one with all rooms and so many slots; that of the service where no slots are named.
+    pub format: Option<Format>,
+    /// It takes the place of a set.
+    pub replaces: bool,
+}
+
 /// A command, with its words.
 #[derive(Clone, Copy)]
 pub enum Request<'a> {
-    Make {
-        file: &'a str,
-        slots: u64,
-        format: Format,
-    },
-    /// A making of a file that holds the keys of standard input.
-    MakeKeys {
-        file: &'a str,
-        slots: u64,
-        format: Format,
-        /// Its lines are texts, members of the set of this name, and no keys.
-        texts_of: Option<&'a str>,
-    },
-    Renew {
-        old: &'a str,
-        new: &'a str,
-        slots: u64,
-        format: Format,
-    },
+    Make(New<'a>),
+    /// A making of a file that holds the keys of standard input. Where a name is given its lines are texts, members of the set of this name,
+    /// and no keys.
+    MakeKeys(New<'a>, Option<&'a str>),
+    /// A making of a file that holds the keys of the one that stands first.
+    Renew(&'a str, New<'a>),
     /// A renewal into a new file that takes the old one's place.
     Grow {
         file: &'a str,
@@ -48,41 +55,14 @@ pub enum Request<'a> {
         /// Where none is named, that of the file, or one with all rooms and so many slots.
         format: Option<Format>,
     },
-    /// A making of a file that holds the keys of a running service.
-    Copy {
-        address: &'a str,
-        file: &'a str,
-        /// Where none are named, those of the service.
-        slots: Option<u64>,
-        /// Where none is named, one with all rooms and so many slots; that of the service where no slots are named.
-        format: Option<Format>,
-        /// It takes the place of a set.
-        replaces: bool,
-    },
+    Copy(Wish<'a>),
     Run {
         file: &'a str,
         buckets: usize,
         /// It goes on where the file can't be locked.
         no_lock: bool,
     },
-    Serve {
-        file: &'a str,
-        options: ServeOptions,
-        /// What it takes as it finds it, in place of those of its options.
-        chosen: Chosen,
-        /// The path of the socket on which it listens, in place of a port.
-        socket: Option<&'a str>,
-        /// The path of the socket on which it is asked to stop.
-        control: Option<&'a str>,
-        /// It stops when standard input ends.
-        until_eof: bool,
-        /// It goes on where the file can't be locked.
-        no_lock: bool,
-        /// Its keys are taken for numbers, whatever the file says.
-        as_numbers: bool,
-        /// Its keys are texts, of a file from before there were marks of that.
-        adopts: bool,
-    },
+    Serve(Service<'a>),
     /// Asks the service with this control socket to stop, and waits for its end, up to so many seconds.
     Stop {
         path: &'a str,
@@ -113,12 +93,14 @@ pub enum Request<'a> {
 impl fmt::Display for Request<'_> {
     fn fmt<W: fmt::Write>(&self, f: &mut fmt::Formatter<W>) -> fmt::Result {
         match *self {
-            Request::Make { file, .. } | Request::MakeKeys { file, .. } => write!(f, "make {file}"),
-            Request::Renew { old, new, .. } => write!(f, "renew {old} {new}"),
+            Request::Make(New { file, .. }) | Request::MakeKeys(New { file, .. }, _) => {
+                write!(f, "make {file}")
+            }
+            Request::Renew(old, New { file, .. }) => write!(f, "renew {old} {file}"),
             Request::Grow { file, .. } => write!(f, "grow {file}"),
-            Request::Copy { address, file, .. } => write!(f, "copy {address} {file}"),
+            Request::Copy(Wish { address, file, .. }) => write!(f, "copy {address} {file}"),
             Request::Run { file, .. } => write!(f, "run {file}"),
-            Request::Serve { file, .. } => write!(f, "serve {file}"),
+            Request::Serve(Service { file, .. }) => write!(f, "serve {file}"),
             Request::Stop { path, .. } => write!(f, "stop {path}"),
             Request::Info { file } => write!(f, "info {file}"),
             Request::Check { file, .. } | Request::Keys { file } => write!(f, "check {file}"),
@@ -165,27 +147,19 @@ fn request_of<'a>(matches: &ArgMatches<'a>) -> Option<Request<'a>>
 fn make<'a>(words: &ArgMatches<'a>) -> Option<Request<'a>>
     ensures { IfSome result IsWithin }
 {
-    let file = text(words, "FILE")?;
-    let slots = number(words, "SLOTS")?;
-    let format = format_of(words)?;
-    Some(if words.get_flag("keys") {
-        let texts_of = match text(words, TEXT_ID) {
-            Some(name) => Some(name_of_texts(name, format)?),
-            None => None,
-        };
-        Request::MakeKeys {
-            file,
-            slots,
-            format,
-            texts_of,
-        }
-    } else {
-        Request::Make {
-            file,
-            slots,
-            format,
-        }
-    })
+    let new = New {
+        file: text(words, "FILE")?,
+        slots: number(words, "SLOTS")?,
+        format: format_of(words)?,
+    };
+    if !words.get_flag("keys") {
+        return Some(Request::Make(new));
+    }
+    let texts_of = match text(words, TEXT_ID) {
+        Some(name) => Some(name_of_texts(name, new.format)?),
+        None => None,
+    };
+    Some(Request::MakeKeys(new, texts_of))
 }
 
 // The name of a set of texts, where a file of this format can hold their mark.
@@ -202,12 +176,13 @@ fn name_of_texts(name: &str, format: Format) -> Option<&str>
 fn renew<'a>(words: &ArgMatches<'a>) -> Option<Request<'a>>
     ensures { IfSome result IsWithin }
 {
-    Some(Request::Renew {
-        old: text(words, "OLD")?,
-        new: text(words, "NEW")?,
+    let old = text(words, "OLD")?;
+    let new = New {
+        file: text(words, "NEW")?,
         slots: number(words, "SLOTS")?,
         format: format_with_rooms(words)?,
-    })
+    };
+    Some(Request::Renew(old, new))
 }
 
 fn grow<'a>(words: &ArgMatches<'a>) -> Option<Request<'a>>
@@ -225,13 +200,13 @@ fn copy<'a>(words: &ArgMatches<'a>) -> Option<Request<'a>>
     ensures { IfSome result IsWithin }
 {
     let format = named_format(words)?;
-    Some(Request::Copy {
+    Some(Request::Copy(Wish {
         address: text(words, "ADDRESS")?,
         file: text(words, "NEW")?,
         slots: number(words, "SLOTS"),
         format,
         replaces: words.get_flag("replace"),
-    })
+    }))
 }
 
 fn run<'a>(words: &ArgMatches<'a>) -> Option<Request<'a>>

@@ -5,9 +5,10 @@ ghost use Rattle.lz_serve.specs.Options.{most_connections};
 ghost use Rattle.lazyset_arguments.specs.Requests.{ArePasses, AreWithin, IsWithin};
 
 use crate::request::Request;
-use crate::values::{number, number_within, text};
+use crate::values::{named_mode, number, number_within, text};
 use crate::words::{
-    ADOPT, CONNECTIONS_ID, CONTROL_ID, LINES_ID, NUMBERS_ID, PASSES_ID, RESP_ID, SOCKET_ID, TEXT_ID,
+    ADOPT, CONNECTIONS_ID, CONTROL_ID, LINES_ID, NUMBERS_ID, PASSES_ID, RESP_ID, SOCKET_ID,
+    SOCKET_MODE_ID, TEXT_ID,
 };
 use clap::ArgMatches;
 use lz_resp::Naming;
@@ -46,21 +47,79 @@ impl Chosen {
     }
 }
 
+/// What a command line asks of a service.
+#[derive(Clone, Copy)]
+pub struct Service<'a> {
+    pub file: &'a str,
+    pub options: ServeOptions,
+    /// What it takes as it finds it, in place of those of its options.
+    pub chosen: Chosen,
+    /// The path of the socket on which it listens, in place of a port.
+    pub socket: Option<&'a str>,
+    /// The path of the socket on which it is asked to stop.
+    pub control: Option<&'a str>,
+    /// The mode of both sockets.
+    pub mode: Option<u32>,
+    /// It stops when standard input ends.
+    pub until_eof: bool,
+    /// It goes on where the file can't be locked.
+    pub no_lock: bool,
+    /// Its keys are taken for numbers, whatever the file says.
+    pub as_numbers: bool,
+    /// Its keys are texts, of a file from before there were marks of that.
+    pub adopts: bool,
+}
+
+/// A mode that no socket can have.
+#[derive(Clone, Copy)]
+pub(crate) enum StrayMode<'a> {
+    /// This is no mode in octal.
+    Unread(&'a str),
+    /// There is no socket.
+    OfNone,
+}
+
 pub(crate) fn serve<'a>(words: &ArgMatches<'a>) -> Option<Request<'a>>
     ensures { IfSome result IsWithin }
 {
     let options = serve_options(words)?;
-    Some(Request::Serve {
+    let mode = named_mode(words, SOCKET_MODE_ID)?;
+    if mode.is_some() && !has_socket(words) {
+        return None;
+    }
+    Some(Request::Serve(Service {
         file: text(words, "FILE")?,
         options,
         chosen: Chosen::by(words),
         socket: text(words, SOCKET_ID),
         control: text(words, CONTROL_ID),
+        mode,
         until_eof: words.get_flag("until-eof"),
         no_lock: words.get_flag("no-lock"),
         as_numbers: words.get_flag(NUMBERS_ID),
         adopts: words.get_str(TEXT_ID) == Some(ADOPT),
-    })
+    }))
+}
+
+// Whether it makes a socket at a path: one without PASSES makes that on which it is asked to stop.
+fn has_socket(words: &ArgMatches<'_>) -> bool {
+    let is_named = words.get_str(SOCKET_ID).is_some() || words.get_str(CONTROL_ID).is_some();
+    is_named || words.get_str(PASSES_ID).is_none()
+}
+
+/// The mode of a service's sockets that is none, or that no socket has.
+pub(crate) fn stray_mode<'a>(matches: &ArgMatches<'a>) -> Option<StrayMode<'a>> {
+    let ("serve", words) = matches.subcommand()? else {
+        return None;
+    };
+    let word = text(words, SOCKET_MODE_ID)?;
+    if named_mode(words, SOCKET_MODE_ID).is_none() {
+        Some(StrayMode::Unread(word))
+    } else if !has_socket(words) {
+        Some(StrayMode::OfNone)
+    } else {
+        None
+    }
 }
 
 /// The passes of a service that can't have them, and how many it may have.

@@ -2,7 +2,7 @@
 use crate::words::{
     ADDRESS, BUCKETS, CONNECTIONS, CONTROL, CONTROLLED, COPIED_FORMAT, COPIED_SLOTS, FILE, FORMAT,
     GROWN_FORMAT, HISTORY, IDLE, KEYS, LINES, LIST, LOOPS, NEW, NO_LOCK, NUMBERS, OF, OLD, PASSES,
-    PORT, REHEARSED, REPLACE, RESP, ROOMY_FORMAT, SERVED_BUCKETS, SESSIONS, SLOTS, SOCKET, TEXT,
+    PORT, REHEARSED, REPLACE, RESP, ROOMY_FORMAT, SERVED_BUCKETS, SESSIONS, SLOTS, SOCKET, SOCKET_MODE, TEXT,
     TEXTS_OF, UNTIL_EOF, WITHIN, Word,
 };
 
@@ -36,6 +36,7 @@ pub(crate) const SERVICE: &[Word] = &[
     SERVED_BUCKETS,
     SOCKET,
     CONTROL,
+    SOCKET_MODE,
     UNTIL_EOF,
     NO_LOCK,
 ];
@@ -63,7 +64,7 @@ pub const SHEETS: [Sheet; 11] = [
     Sheet {
         name: "copy",
         about: "Makes a file that holds the keys of a running service, which speaks Redis's protocol",
-        notes: "ADDRESS is a port of this machine, HOST:PORT, or the path of a socket; the service speaks Redis's protocol, and was started without --text. Prints `copied M`, `noread` where the connection failed, ended, or was silent for a minute, `noreply` where a reply is no page of keys, `refused N` with what `make` would say of NEW, or `refused 9 M S` where M keys have no room in S slots. Nothing is made then. An address where nobody listens is `nofile`, and so is a NEW that isn't empty and is no set's. Without SLOTS the service is asked for its slots and its format.\n\nWith --replace the copy is made beside NEW, as NEW.copy, and renamed: a crash at any moment leaves NEW as it was or the copy, whole.\n\nEach key is in it that was a member all the while, and none that was no member at any moment of it.\n\nExample: lazyset copy 7000 g, and the next day lazyset copy 7000 g --replace",
+        notes: "ADDRESS is a port of this machine, HOST:PORT, or the path of a socket; the service speaks Redis's protocol, by release 1.17 or a later one. Prints `copied M`, `noread` where the connection failed, ended, or was silent for a minute, `noreply` where a reply is no page of keys, `refused N` with what `make` would say of NEW, or `refused 9 M S` where M keys or more have no room in S slots. Nothing is made then. An address where nobody listens is `nofile`, and so is a NEW that isn't empty and is no set's. Without SLOTS the service is asked for its slots and its format.\n\nWith --replace the copy is made beside NEW, as NEW.copy, and renamed: a crash at any moment leaves NEW as it was or the copy, whole.\n\nEach key is in it that was a member all the while, and none that was no member at any moment of it.\n\nExample: lazyset copy 7000 g, and the next day lazyset copy 7000 g --replace",
         words: &[ADDRESS, NEW, COPIED_SLOTS, COPIED_FORMAT, REPLACE],
     },
     Sheet {

@@ -2,9 +2,13 @@
 ghost use Rattle.std.specs.Prelude.{◌≡◌, ◌≤◌, IfSome};
 ghost use Rattle.lz_slot.specs.Limits.{last_room};
 ghost use Rattle.lz_slot.specs.Rooms.{last_room_of};
+ghost use Rattle.lazyset_arguments.specs.Requests.{last_mode};
 
 use clap::ArgMatches;
 use lz_slot::{Format, LAST_ROOM};
+
+// The last mode of a file.
+const LAST_MODE: u32 = 0o777;
 
 // The format that the command line names.
 pub(crate) fn format_of(matches: &ArgMatches<'_>) -> Option<Format> {
@@ -57,4 +61,28 @@ pub(crate) fn number_within(matches: &ArgMatches<'_>, name: &str, most: usize) -
         return None;
     }
     Some(count)
+}
+
+// The mode that the command line names, or that it names none.
+pub(crate) fn named_mode(matches: &ArgMatches<'_>, name: &str) -> Option<Option<u32>>
+    ensures { IfSome result (λ named. IfSome named (λ mode. mode ≤ last_mode)) }
+{
+    match text(matches, name) {
+        Some(word) => Some(Some(mode_of(word)?)),
+        None => Some(None),
+    }
+}
+
+// The mode of a file that is written so, in octal.
+fn mode_of(word: &str) -> Option<u32>
+    ensures { IfSome result (λ mode. mode ≤ last_mode) }
+{
+    if word.starts_with('+') {
+        return None;
+    }
+    let mode = u32::from_str_radix(word, 8).ok()?;
+    if mode > LAST_MODE {
+        return None;
+    }
+    Some(mode)
 }

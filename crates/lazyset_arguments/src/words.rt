@@ -67,6 +67,9 @@ pub const SOCKET_ID: &str = "socket";
 /// What stands in the place of a port then.
 pub const NO_PORT: &[&str] = &["-"];
 
+/// The option for the mode of both sockets.
+pub const SOCKET_MODE_ID: &str = "socket-mode";
+
 /// The option by which names and members are texts, and what marks an older file of theirs.
 pub const TEXT_ID: &str = "text";
 
@@ -329,7 +332,7 @@ pub(crate) const SOCKET: Word = Word {
     form: Form::Text,
     default: None,
     beside: Beside::Anything,
-    help: "Listens on a Unix socket at this path, for its owner alone, in place of a port; PORT is - then",
+    help: "Listens on a Unix socket at this path, for its owner alone unless --socket-mode is given, in place of a port; PORT is - then",
 };
 
 pub(crate) const CONTROL: Word = Word {
@@ -339,6 +342,15 @@ pub(crate) const CONTROL: Word = Word {
     default: None,
     beside: Beside::Anything,
     help: "Makes a socket at this path, on which `lazyset stop PATH` asks the service to stop; without PASSES at FILE.control unless given",
+};
+
+pub(crate) const SOCKET_MODE: Word = Word {
+    id: SOCKET_MODE_ID,
+    value_name: Some("MODE"),
+    form: Form::Text,
+    default: None,
+    beside: Beside::Anything,
+    help: "Gives the sockets of --socket and --control this mode, in octal: 0660 lets their group in too. 0600, less the umask, unless given",
 };
 
 pub(crate) const UNTIL_EOF: Word = Word {

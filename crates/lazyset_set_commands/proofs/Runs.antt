@@ -5,3 +5,4 @@ pub mod ToldReplies
 pub mod ToldSessions
 pub mod HandedPass
 pub mod LeftSets
+pub mod LookedCalls

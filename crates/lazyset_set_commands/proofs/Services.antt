@@ -9,7 +9,7 @@ use Rattle.lz_disk.specs.Devices.{Device}
 use Rattle.lz_vault.specs.Vaults.{last_sync}
 use Rattle.lz_list.specs.{Traces.{Trace}, declared.layout.Sizes.{Sizes}}
 use Rattle.lz_machine.specs.{declared.event.Reply.{Reply, TheVariants.{Halted, Device as failed_device}}, Yards.{Shape}}
-use Rattle.lz_board.specs.{declared.{pass.Pass.{Pass}, view.Part.{Part}}, Notes.{Extends, shape_of_sizes, trace_of}, Plays.{knowing, parts_from}}
+use Rattle.lz_board.specs.{declared.{pass.Pass.{Pass}, view.{Note.{Note}, Part.{Part}}}, Notes.{Extends, shape_of_sizes, trace_of}, Plays.{knowing, parts_from}}
 use Rattle.lz_board.{specs.Seats.{BoardId, IsOf, part}, proofs.Walk.GlanceAnswer.{halt_since}}
 use Rattle.lz_refinement.specs.{Marks.{NoneIsCut, marks_in}, OwnCalls.{Ending, SeenCall, calls_of, ending_in, shown, told, unnumbered}}
 use Rattle.lz_refinement.proofs.Marks.CutCalls.{HasCut, IsCutIn, cut_in, is_cut}
@@ -27,12 +27,14 @@ pub all_new : (b : BoardId) (ps : List Pass) → AreNew b ps → length ps ≡ b
 all_new b ps new = sym (length-map ps (λ p. part p)) ∙ (ap (λ (l : List Part). length l) new.parts ∙ length_parts b.sizes b.opened b.sizes.passes 1)
 
 -- a new pass has made no call
-pub new_calm : (b : BoardId) (ps : List Pass) → AreNew b ps → All IsCalm (parts_of ps)
-new_calm b ps new = All-map IsCalm (λ p. part p) ps (λ k d low. subst IsCalm (sym (new.new k d low).1) (All-from_recursion (λ call. was_cut call.1 ≡ false) [] tt))
-
--- none has
 pub new_unused : (b : BoardId) (ps : List Pass) → AreNew b ps → AreUnused (map (λ p. part p) ps)
 new_unused b ps new = All-map (λ (h : Part). h.steps ≡ []) (λ p. part p) ps (λ k d low. ap (λ (h : Part). h.steps) (new.new k d low).1)
+
+-- and none was cut off of passes that have made none
+pub unused_calm : (parts : List Part) → AreUnused parts → All IsCalm parts
+unused_calm parts unused = λ k d low.
+    let h = get_or parts k d in
+    subst (λ (l : List Note). All (λ call. was_cut call.1 ≡ false) (told (shape_of_sizes h.sizes) l)) (sym (unused k d low)) (All-from_recursion (λ call. was_cut call.1 ≡ false) [] tt)
 
 -- calls that a history shows as these of a pass's own, none of which was cut off, show none that was
 none_own : (i : ℕ) (calls : List SeenCall) (own : List (Command × Option Reply)) → map unnumbered calls ≡ map shown own → AllByRecursion (λ call. was_cut call.1 ≡ false) own → HasCut i calls → ⊥

@@ -1,4 +1,5 @@
 pub mod Founds
+pub mod Looks
 pub mod PlainReplies
 pub mod Marks
 pub mod Runs

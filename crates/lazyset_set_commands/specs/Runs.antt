@@ -1,35 +1,39 @@
 -- What a run of commands does, by the one pass of a set, and what it leaves of the disk.
 use Rattle.lz_proto.specs.declared.end.End.TheVariants as ends
-use Rattle.std.specs.{Prelude.{◌≡◌, ◌⊎◌, ℕ, ◌≤◌, ◌<◌, false, Option, Result, Ok, List, [], ◌∷◌, ◌++◌}, Io.KnownBytes.{Appends}}
+use Rattle.std.specs.{Prelude.{◌≡◌, ◌⊎◌, ℕ, ◌≤◌, ◌<◌, Bool, false, Option, Result, Ok, List, [], ◌∷◌, ◌++◌}, Io.KnownBytes.{Appends}}
 use Rattle.lz_slot.specs.{Sets.{Keys}, Bytes.{Holds}, declared.format.Format.{Format}}
 use Rattle.lz_disk.specs.{Images.{Medium, IsImage}, Devices.{Device, LeavesOnly}}
 use Rattle.lz_vault.specs.Vaults.{last_sync}
 use Rattle.lz_proto.specs.{Lines.{Items}, declared.{item.Item.{Item}, request.Request.{Request}, reply.Reply.{Reply, TheVariants.{Halted}}, end.End.{End}}}
 use Rattle.lz_proto.specs.{declared.fault.SessionFault.{SessionFault}, Sessions.{IsInput, Serves, SessionTells, Writes, session_text}}
 use Rattle.lz_yard.specs.Filling.{OpensYard}
-use Rattle.lz_board.specs.{declared.{pass.Pass.{Pass}, view.Note.{Note}}, Opened.{opened_by}, Seats.{BoardId, IsNew, part}}
+use Rattle.lz_board.specs.{declared.{pass.Pass.{Pass}, view.Note.{Note}}, Notes.{Extends, trace_of}, Opened.{opened_by}, Seats.{BoardId, IsNew, part}}
 use Rattle.lz_refinement.specs.{Holds.{sizes_of}, Sessions.{TellsAlone}}
 use Rattle.lz_set.specs.{Blanks.{BlankOver}, Left.{IsLeft}}
 use Rattle.lz_serve.specs.Replies.{SeatAnswers}
-use Rattle.lazyset_file_commands.specs.{Ends.{session_status}, declared.status.Status.{Status}}
-use Rattle.lazyset_set_commands.specs.PlainReplies.{PassAnswers}
+use Rattle.lazyset_file_commands.specs.{Ends.{session_status}, Marks.{texts_mark}, declared.status.Status.{Status}}
+use Rattle.lazyset_set_commands.specs.{Looks.{HasLooked}, PlainReplies.{PassAnswers}}
 
 -- each image of the disk is a file of N slots that holds the set S
 abbrev pub EachHolds : Medium → ℕ → Keys → Type 0
 EachHolds disk N S = (t : List ℕ) → IsImage disk t → Holds t N S
 
--- A new pass of a set served a session, whose end gives the status. What is left of the disk tells a history, since the disk was
--- like `first`: in a set of one pass, of the pass's own calls alone. It halts only where the device failed since, or has made its
--- last sync.
+-- A new pass of a set has looked for the mark of texts, and then served a session, whose end gives the status. What is left of the disk
+-- tells a history, of which the pass has seen a beginning, since the disk was like `first`: in a set of one pass, of the pass's own calls
+-- alone. It halts only where the device failed since, or has made its last sync.
 pub record ServedSeat (b : BoardId) (first : Device) (F : Format) (status : Status) (input rest before after : Option (List ℕ)) (disk : Device) : Type 0 where
   pub begun : Pass
   pub fresh : IsNew b begun
+  pub mark : Bool
+  pub looked : Pass
+  pub looks : HasLooked texts_mark mark (part begun) (part looked)
   pub done : Pass
   pub ended : Result End SessionFault
   pub status_is : status ≡ session_status ended
-  pub tells : Writes before after (λ written. SessionTells (SeatAnswers b F false) input rest begun done written ended)
+  pub tells : Writes before after (λ written. SessionTells (SeatAnswers b F false) input rest looked done written ended)
   pub notes : List Note
   pub left : IsLeft b first notes disk
+  pub since : Extends (trace_of b.opened notes) (part done).known
   pub alone : b.sizes.passes ≡ 1 → TellsAlone b notes (part done)
   pub halts : ended ≡ Ok ends.Halted → (last_sync ≤ left.yard.vault.syncs) ⊎ (first.faults < disk.faults)
 

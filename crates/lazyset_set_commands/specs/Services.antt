@@ -1,13 +1,19 @@
 -- What a service of a set does: its passes are served, each by a thread, or by loops.
 use Rattle.std.specs.{Prelude.{◌≡◌, ◌⊎◌, ◌≤◌, ◌<◌, ℕ, All, List, [], ◌∷◌, ◌++◌, codes, decimal, length, Option, None, Some, Result, Ok, Err}, List.{Any}}
+use Rattle.lz_slot.specs.Limits.{most_buckets, most_passes}
 use Rattle.lz_disk.specs.Devices.{Device}
 use Rattle.lz_vault.specs.{Opens.{IsRefusedFor}, Vaults.{last_sync}, declared.opening.OpenFault.{OpenFault}}
 use Rattle.lz_yard.specs.Filling.{OpensYard}
 use Rattle.lz_board.specs.{declared.view.{Note.{Note}, Part.{Part}}, Notes.{shape_of_sizes}, Opened.{opened_by}, Seats.{BoardId}}
 use Rattle.lz_refinement.specs.{Holds.{sizes_of}, Marks.{NoneIsCut, marks_in}}
 use Rattle.lz_set.specs.{Blanks.{BlankOver}, Left.{IsLeft, IsLeftWith}}
+use Rattle.lz_serve.specs.declared.options.ServeOptions.{ServeOptions}
 use Rattle.lazyset_file_commands.specs.{Ends.{open_status}, Refusals.{refusal_text}, Tellings.{Tells}, declared.status.Status.{Status, TheVariants.{Done, Failed}}}
 use Rattle.lz_proto.specs.{Steps.{SendTells}, declared.fault.SessionFault.{SessionFault, TheVariants.{Write}}}
+
+-- a set of so many passes and buckets may be served
+abbrev pub IsServable : ServeOptions → Type 0
+IsServable options = ((1 ≤ options.passes) × (options.passes ≤ most_passes)) × (1 ≤ options.buckets) × (options.buckets ≤ most_buckets)
 
 -- each pass of the set is among these
 abbrev pub AreAllPasses : BoardId → List Part → Type 0

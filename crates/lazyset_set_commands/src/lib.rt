@@ -3,6 +3,7 @@
 #![tactic(auto)]
 
 mod found;
+mod looking;
 mod marks;
 mod running;
 mod serving;
@@ -13,6 +14,7 @@ pub use lazyset_file_commands::{
     format_number, grow_on, judge_on, make_keys_on, make_on, rehearse_on, renew_on, survey_on,
     tell, torn_slots,
 };
+pub use looking::{Heed, NoHeed};
 pub use lz_serve::{Listener, ServeOptions};
 pub use marks::{Wanted, serve_kept_on};
 pub use running::run_on;

@@ -1,16 +1,16 @@
 //! Marks: keys of room 15 that say what a file is for. A service of texts has one before its first key.
 ghost use Rattle.std.specs.Prelude.{◌≡◌, ◌⊎◌, ◌≤◌, ℕ, IfErr, IfOk, IsTrue, OnOk, codes, true, option_map};
 ghost use Rattle.lz_slot.specs.Bytes.{Holds};
-ghost use Rattle.lz_slot.specs.Limits.{most_buckets, most_passes};
 ghost use Rattle.lz_slot.specs.Sets.{Keys};
 ghost use Rattle.lz_vault.specs.Opens.{MayOpen};
 ghost use Rattle.lz_vault.specs.Renewals.{OnlySyncs};
 ghost use Rattle.lazyset_set_commands.specs.Marks.{HoldsSome, IsFit, KeptService, MarkFailed, NotBegun, marked, step_for};
 ghost use Rattle.lazyset_set_commands.specs.Runs.{EachHolds};
-ghost use Rattle.lazyset_set_commands.specs.Services.{RefusedService};
+ghost use Rattle.lazyset_set_commands.specs.Services.{IsServable, RefusedService};
 ghost use Rattle.lazyset_file_commands.specs.Tellings.{Tells};
 
 use crate::found::found_keys;
+use crate::looking::{Heed, NoHeed};
 use crate::running::run_on;
 use crate::serving::{Place, serve_on};
 use lazyset_file_commands::{Status, refuse, tell};
@@ -72,10 +72,9 @@ where
     R: Net<Listener = TcpListener, Stream = TcpStream>,
     R: Threads + Wait + Clock + AllocGlobal + Sync,
     W: Write + Drop,
-    O: Observer + Sync,
+    O: Observer + Heed + Sync,
     D: Disk + Send,
-    requires passes { (1 ≤ options.passes) × (options.passes ≤ most_passes) }
-    requires buckets { (1 ≤ options.buckets) × (options.buckets ≤ most_buckets) }
+    requires options { IsServable options }
     requires medium { MayOpen (D.device disk) }
     ensures { KeptService D.device wanted options.buckets options.passes (option_map (λ p. p.now) place.entry.path) result.0 (W.contents writer.old) (W.contents writer.new) disk result.1 }
 {
@@ -185,7 +184,7 @@ where
 {
     let mut line = MARK_LINE;
     let mut told: Vec<u8> = Vec::new(rt.alloc());
-    let (status, disk) = run_on(rt, &mut line, &mut told, disk, 1);
+    let (status, disk) = run_on(rt, &mut line, &mut told, &NoHeed, disk, 1);
     if status == Status::Done && is_yes(&told) {
         return Ok(disk);
     }

@@ -12,6 +12,7 @@ ghost use Rattle.lazyset_set_commands.specs.PlainReplies.{PassMayAnswer};
 ghost use Rattle.lazyset_file_commands.specs.Refusals.{FailedOpen, RefusedOpen};
 ghost use Rattle.lazyset_set_commands.specs.Runs.{RanSeat, RepliesOfPass, ServedSeat, SessionOfSet};
 
+use crate::looking::{Heed, has_mark};
 use lazyset_file_commands::{Status, refuse};
 use lz_disk::Disk;
 use lz_proto::{End, SessionFault, session};
@@ -25,11 +26,13 @@ use std::sync::Wait;
 use std::time::Clock;
 
 /// Opens the set that the disk holds, over so many buckets, and answers each line of the input with one line, until the input
-/// ends. A refused open says `refused N` with the fault's number, and its slots where it has any. The disk is handed back.
-pub fn run_on<Rt, R, W, D>(
+/// ends. A refused open says `refused N` with the fault's number, and its slots where it has any. Before the first line it is heeded
+/// how many keys there are, and whether they are texts. The disk is handed back.
+pub fn run_on<Rt, R, W, H, D>(
     rt: &Rt,
     reader: &mut R,
     writer: &mut W,
+    heed: &H,
     disk: D,
     buckets: usize,
 ) -> (Status, D)
@@ -37,6 +40,7 @@ where
     Rt: Wait + Clock + AllocGlobal,
     R: Read + Drop,
     W: Write + Drop,
+    H: Heed,
     D: Disk,
     requires buckets { (1 ≤ buckets) × (buckets ≤ most_buckets) }
     requires medium { MayOpen (D.device disk) }
@@ -58,7 +62,7 @@ where
         → RepliesOfPass (format_of (D.device disk).medium.seen) N S (R.remaining reader.old) (W.contents writer.old) (W.contents writer.new) (D.device result.1).medium }
 {
     match Set::open(rt.alloc(), disk, NoGate, buckets, 1) {
-        Ok(blank) => run_blank::<Rt, R, W, D, Brand>(rt, reader, writer, blank),
+        Ok(blank) => run_blank::<Rt, R, W, H, D, Brand>(rt, reader, writer, heed, blank),
         Err(refused) => {
             let Refused { disk, fault } = refused;
             (refuse(writer, fault), disk)
@@ -67,33 +71,38 @@ where
 }
 
 // Serves a session by the one pass of the set.
-fn run_blank<Rt, R, W, D, N>(
+fn run_blank<Rt, R, W, H, D, N>(
     rt: &Rt,
     reader: &mut R,
     writer: &mut W,
+    heed: &H,
     blank: Blank<D, NoGate>,
 ) -> (Status, D)
 where
     Rt: Wait + Clock + AllocGlobal,
     R: Read + Drop,
     W: Write + Drop,
+    H: Heed,
     D: Disk,
     N: Named,
     requires named { MayBeNamed D.device N.board N.first N.format blank }
     requires one { N.board.sizes.passes ≡ 1 }
     ensures { ServedSeat N.board N.first N.format result.0 (R.remaining reader.old) (R.remaining reader.new) (W.contents writer.old) (W.contents writer.new) (D.device result.1) }
 {
+    let members = blank.members();
     let (set, passes) = blank.start::<N>();
     let mut passes = passes;
     let pass = passes.remove(0);
-    run_pass(rt, reader, writer, set, pass)
+    run_pass(rt, reader, writer, heed, members, set, pass)
 }
 
-// Serves a session by a new pass, and ends the set's life after it.
-fn run_pass<Rt, R, W, D, N>(
+// Serves a session by a new pass, which has looked for the mark of texts before, and ends the set's life after it.
+fn run_pass<Rt, R, W, H, D, N>(
     rt: &Rt,
     reader: &mut R,
     writer: &mut W,
+    heed: &H,
+    members: usize,
     set: Set<D, NoGate, N>,
     pass: Pass,
 ) -> (Status, D)
@@ -101,12 +110,16 @@ where
     Rt: Wait + Clock + AllocGlobal,
     R: Read + Drop,
     W: Write + Drop,
+    H: Heed,
     D: Disk,
     N: Named,
     requires new { IsNew N.board pass }
     requires may_call { MayCall N.board pass }
     ensures { ServedSeat N.board N.first N.format result.0 (R.remaining reader.old) (R.remaining reader.new) (W.contents writer.old) (W.contents writer.new) (D.device result.1) }
 {
+    let mut pass = pass;
+    let mark = has_mark(&set, &mut pass);
+    heed.found(members, mark);
     let mut seated = Seated::new(rt, &set, pass);
     let ended = session(rt.alloc(), reader, writer, &mut seated);
     let mut pass = seated.into_pass();

@@ -1,14 +1,15 @@
 //! The command that serves a set over the network.
-ghost use Rattle.std.specs.Prelude.{◌≡◌, ◌⊎◌, ◌≤◌, ◌==◌, ◌∷◌, ◌++◌, [], ℕ, All, Ok, Err, true, false, option_map};
+ghost use Rattle.std.specs.Prelude.{◌≡◌, ◌⊎◌, ◌≤◌, ◌==◌, ◌∷◌, ◌++◌, [], ℕ, All, Ok, Err, length, map, true, false, option_map};
 ghost use Rattle.std.specs.List.{list_any};
-ghost use Rattle.lz_slot.specs.Limits.{most_buckets, most_passes};
 ghost use Rattle.lz_vault.specs.Opens.{MayOpen};
-ghost use Rattle.lz_set.specs.Blanks.{AreNew, MayBeNamed};
+ghost use Rattle.lz_board.specs.Seats.{part};
+ghost use Rattle.lz_set.specs.Blanks.{MayBeNamed};
 ghost use Rattle.lz_set.specs.Names.{MayCall};
 ghost use Rattle.lz_proto.specs.Steps.{SendTells};
 ghost use Rattle.lz_serve.specs.Services.{Serves, parts_of};
-ghost use Rattle.lazyset_set_commands.specs.Services.{HadNoPlace, HadPlace, RanService, RefusedService, ServedPasses, TellsPlace, TellsPort, path_text};
+ghost use Rattle.lazyset_set_commands.specs.Services.{AreUnused, HadNoPlace, HadPlace, IsServable, RanService, RefusedService, ServedPasses, TellsPlace, TellsPort, path_text};
 
+use crate::looking::{Heed, first_sees_mark};
 use crate::sorting::AllProcessors;
 use lazyset_file_commands::{Status, refuse, send_line, tell};
 use lz_disk::Disk;
@@ -38,7 +39,7 @@ pub struct Place<'a> {
 
 /// Opens the set that the disk holds and serves it at the listener that was given, or else on a port of 127.0.0.1, with a thread for
 /// each pass, each of which serves one connection after the other, or with loops, each of which serves many connections. The observer is
-/// told once the service stands, and where the device failed. Says `listening P` before the first connection, where P is the port or the
+/// told once the service stands, whether the set's keys are texts, and where the device failed. Says `listening P` before the first connection, where P is the port or the
 /// path, `refused N` of a refused open as a run does, and `noport` where it can't listen there. It serves nobody where `listening P` can't
 /// be written. It ends when each pass,
 /// or loop, has served its sessions, and hands the disk back: Failed where a call was answered that the set is halted or that the device
@@ -55,10 +56,9 @@ where
     R: Net<Listener = TcpListener, Stream = TcpStream>,
     R: Threads + Wait + Clock + AllocGlobal + Sync,
     W: Write + Drop,
-    O: Observer + Sync,
+    O: Observer + Heed + Sync,
     D: Disk + Send,
-    requires passes { (1 ≤ options.passes) × (options.passes ≤ most_passes) }
-    requires buckets { (1 ≤ options.buckets) × (options.buckets ≤ most_buckets) }
+    requires options { IsServable options }
     requires medium { MayOpen (D.device disk) }
     // Either the passes of the set that was opened were served, or there was no place to listen, or the open was refused.
     ensures ran { RanService D.device options.buckets options.passes (option_map (λ p. p.now) place.entry.path) result.0 (W.contents writer.old) (W.contents writer.new) disk result.1
@@ -96,7 +96,7 @@ where
     R: Net<Listener = TcpListener, Stream = TcpStream>,
     R: Threads + Wait + Clock + AllocGlobal + Sync,
     W: Write + Drop,
-    O: Observer + Sync,
+    O: Observer + Heed + Sync,
     D: Disk + Send,
     N: Named + Send + Sync,
     requires { MayBeNamed D.device N.board N.first N.format blank }
@@ -110,7 +110,7 @@ where
         loops: options.loops,
     };
     let Place { listener, path } = place;
-    let (set, passes) = blank.start::<N>();
+    let (set, fresh) = blank.start::<N>();
     let (listener, port) = match listen(rt, options.port, listener) {
         Ok(taken) => taken,
         Err(error) => {
@@ -119,13 +119,16 @@ where
         }
     };
     observer.serving(serving, &listener);
+    let mut passes = fresh;
+    let mark = first_sees_mark(&set, passes.as_mut_slice());
+    observer.found(serving.members, mark);
     if !tell_place(writer, path, port) {
         return (Status::Failed, set.close());
     }
     serve_passes(rt, observer, &listener, set, passes, options)
 }
 
-// Serves the new passes, and ends the set's life after them.
+// Serves the passes, of which none has made a call, and ends the set's life after them.
 fn serve_passes<R, O, D, N>(
     rt: &R,
     observer: &O,
@@ -140,7 +143,8 @@ where
     D: Disk + Send,
     N: Named + Send + Sync,
     requires may_call { All (MayCall N.board) passes.items }
-    requires new { AreNew N.board passes.items }
+    requires count { length passes.items ≡ N.board.sizes.passes }
+    requires unused { AreUnused (map (λ p. part p) passes.items) }
     ensures { ServedPasses N.board N.first result.0 (D.device result.1) }
 {
     let given = passes.len();

@@ -3,7 +3,7 @@ ghost use Rattle.std.specs.Prelude.{IfOk};
 ghost use Rattle.lz_disk.specs.Records.{device_of};
 ghost use Rattle.lz_vault.specs.Opens.{MayOpen};
 
-use lazyset_set_commands::{make_on, run_on};
+use lazyset_set_commands::{NoHeed, make_on, run_on};
 use lz_disk::MemoryDisk;
 use lz_slot::Format;
 use lz_vault::suit;
@@ -49,7 +49,7 @@ pub fn run<R: Wait + Clock + AllocGlobal>(rt: &R, disk: MemoryDisk, lines: &[u8]
     let mut printed: Vec<u8> = Vec::new(rt.alloc());
     let mut disk = disk;
     suit(&mut disk);
-    let (status, disk) = run_on(rt, &mut input, &mut printed, disk, 1);
+    let (status, disk) = run_on(rt, &mut input, &mut printed, &NoHeed, disk, 1);
     Ran {
         code: status.code(),
         printed,

@@ -5,7 +5,7 @@ ghost use Rattle.lz_disk.specs.Images.{IsImage};
 ghost use Rattle.lz_vault.specs.Makes.{IsUnmadeOrHolds};
 
 use crate::commands::{HELD, Ran, TWO_SLOTS, disk_with};
-use lazyset_set_commands::{Status, make_on, run_on};
+use lazyset_set_commands::{NoHeed, Status, make_on, run_on};
 use lz_disk::{Disk, FileDisk, MemoryDisk, Pick};
 use lz_slot::Format;
 use lz_vault::suit;
@@ -41,7 +41,7 @@ fn run<R: Wait + Clock + AllocGlobal>(rt: &R, file: MemoryDisk, lines: &[u8]) ->
     let mut printed: Vec<u8> = Vec::new(rt.alloc());
     let mut file = file;
     suit(&mut file);
-    let (status, disk) = run_on(rt, &mut input, &mut printed, FileDisk::over(file), 1);
+    let (status, disk) = run_on(rt, &mut input, &mut printed, &NoHeed, FileDisk::over(file), 1);
     Ran {
         code: status.code(),
         printed,

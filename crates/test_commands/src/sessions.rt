@@ -1,6 +1,6 @@
 //! Where a reader or a writer of a run fails, or is interrupted.
 use crate::commands::{TWO_SLOTS, disk_with};
-use lazyset_set_commands::run_on;
+use lazyset_set_commands::{NoHeed, run_on};
 use std::alloc::AllocError;
 use std::io;
 use std::io::{ErrorKind, Read, Write};
@@ -33,7 +33,7 @@ fn a_failed_read_ends_the_run(rt: HostRuntime) -> Result<(), Fail> {
             };
             let mut output: Vec<u8> = Vec::new(rt.alloc());
             let disk = disk_with(rt.alloc(), &TWO_SLOTS)?;
-            let (status, _disk) = run_on(&rt, &mut reader, &mut output, disk, 1);
+            let (status, _disk) = run_on(&rt, &mut reader, &mut output, &NoHeed, disk, 1);
             let is_told = REPLIES.get(lines).copied() == Some(output.as_slice());
             assert!(rt; status.code() == 1 && is_told, "after {count} bytes");
         }
@@ -49,7 +49,7 @@ fn a_failed_write_ends_the_run(rt: HostRuntime) -> Result<(), Fail> {
         let mut input = b"add 17\nadd 18\nadd 19\n".as_slice();
         let mut writer = Narrow::new(rt.alloc(), room);
         let disk = disk_with(rt.alloc(), &TWO_SLOTS)?;
-        let (status, disk) = run_on(&rt, &mut input, &mut writer, disk, 1);
+        let (status, disk) = run_on(&rt, &mut input, &mut writer, &NoHeed, disk, 1);
         assert_eq!(rt; status.code(), 1);
         assert_eq!(rt; Some(writer.taken.as_slice()), replies.get(..room));
         assert_eq!(rt; disk.bytes().len(), 48);
@@ -140,7 +140,7 @@ fn ends_when_interrupted<R: Wait + Clock + AllocGlobal>(
         fault: write_fault,
     };
     let disk = disk_with(rt.alloc(), &TWO_SLOTS)?;
-    let (status, _disk) = run_on(rt, &mut reader, &mut writer, disk, 1);
+    let (status, _disk) = run_on(rt, &mut reader, &mut writer, &NoHeed, disk, 1);
     Ok((status.code(), writer.taken))
 }
 

@@ -7,12 +7,12 @@ use Rattle.lz_machine.{specs.Yards.{Yard}, proofs.Open.FirstPoint.{one_set}}
 use Rattle.lz_board.specs.{declared.view.{Note.{Note}, Part.{Part}}, Notes.{shape_of_sizes}, Seats.{BoardId, part}}
 use Rattle.lz_list.specs.declared.layout.Sizes.{Sizes}
 use Rattle.lz_serve.specs.Replies.{SeatAnswers}
-use Rattle.lz_refinement.specs.{Moments.{ExplainsBegun}, OwnCalls.{told}, RunningSets.{members_of}, Sessions.{IsSession, marks_alone}}
+use Rattle.lz_refinement.specs.{Moments.{ExplainsBegun}, OwnCalls.{told}, RunningSets.{members_of}, Sessions.{AnsweredCalls, IsSession, Served, marks_alone}}
 use Rattle.lz_refinement.proofs.{Sessions.SessionMoments.{moments_are_plain}, Start.{FirstSets.{same_set_explains}, OpenedYard.{opened_sizes}}}
 use Rattle.lazyset_set_commands.specs.{PlainReplies.{PassMayAnswer}, Runs.{RanSeat, RepliesOfPass, ServedSeat, SessionOfSet}}
 use Rattle.lazyset_set_commands.proofs.{Openings.{opening_leaves, unwritten}, Runs.{PlainRows.{same_is}, SessionCalls.{none_made}, ToldReplies.{asked_and_told}}}
-use Rattle.lazyset_set_commands.proofs.Runs.ToldSessions.{told_session, told_plain, told_moment}
-use Rattle.lazyset_file_commands.specs.declared.status.Status.{Status}
+use Rattle.lazyset_set_commands.proofs.Runs.{LookedCalls.{FromFirst, from_first}, ToldSessions.{told_session, told_plain, told_moment}}
+use Rattle.lazyset_file_commands.specs.{Marks.{texts_mark}, declared.status.Status.{Status}}
 
 module _ {D : Type 0} (device : D → Device) (buckets : ℕ) (state : Status) (input rest before later : Option (List ℕ)) (old new : D) (ran : RanSeat device buckets state input rest before later old new) where
   abbrev b : BoardId
@@ -41,6 +41,13 @@ module _ {D : Type 0} (device : D → Device) (buckets : ℕ) (state : Status) (
 
   no_steps : (part seat.begun).steps ≡ []
   no_steps = ap (λ (h : Part). h.steps) seat.fresh.1
+
+  -- the calls after its look are those of a pass that has done nothing before
+  from : (calls : AnsweredCalls) → Served b.sizes F0 calls (part seat.looked) (part seat.done) → FromFirst b F0 seat.notes calls (part seat.begun)
+  from =
+      let at_hand = seat.fresh.0.2 in
+      from_first b F0 seat.notes seat.left.yard (device new) seat.left.locked one (part seat.begun) (part seat.looked) (part seat.done) at_hand.numbered.0 at_hand.numbered.1
+      known texts_mark seat.mark seat.looks seat.since (seat.alone one)
 
   pub seat_honest : (device new).honest ≡ (device old).honest
   seat_honest = seat.left.honest ∙ ran.opens.vault.honest
@@ -95,7 +102,7 @@ module _ {D : Type 0} (device : D → Device) (buckets : ℕ) (state : Status) (
     -- some first ones of the replies
     pub seat_set : IsTimely (device old) → SessionOfSet (PassMayAnswer (format_of seen) N) N S state input rest before later (device old) (device new)
     seat_set timely =
-        let (first, told) = asked_and_told (SeatAnswers b F0 false) input rest seat.begun seat.done seat.ended seat.tells.0 seat.tells.2 in
+        let (first, told) = asked_and_told (SeatAnswers b F0 false) input rest seat.looked seat.done seat.ended seat.tells.0 seat.tells.2 in
         let opening = opening_leaves (device old) mid timely (inr (ran.opens.vault.medium honest)) (ran.opens.vault.time honest) in
         let was = unwritten (device old) mid timely (inr (ran.opens.vault.medium honest)) in
         of_file (λ F n T. SessionOfSet (PassMayAnswer F n) n T state input rest before later (device old) (device new)) (record {
@@ -107,7 +114,7 @@ module _ {D : Type 0} (device : D → Device) (buckets : ℕ) (state : Status) (
           told = told;
           each = λ t image.
               let e = seat.left.now still t image in
-              (e.found, told_session (λ p. p) b F0 seat.notes seat.begun seat.done one known no_steps (seat.alone one) t e input rest seat.ended seat.tells.0 seat.tells.2, e.holds);
+              (e.found, told_session (λ p. p) b F0 seat.notes seat.looked seat.done one (part seat.begun) known no_steps from t e input rest seat.ended seat.tells.0 seat.tells.2, e.holds);
           any_moment = (
             first.text,
             first.known,
@@ -115,11 +122,11 @@ module _ {D : Type 0} (device : D → Device) (buckets : ℕ) (state : Status) (
               first.items,
               first.its,
               leaves_then (device old) mid (device new) _ (leaves_more _ _ _ _ (λ t image. inl image) opening)
-                  (leaves_more _ _ _ _ (λ t either. ⊎_elim (λ image. inl (was t image)) (λ text. inr (told_moment (λ p. p) b F0 seat.notes seat.begun seat.done one known no_steps (seat.alone one) input first t text)) either) (seat.left.ever still)),
+                  (leaves_more _ _ _ _ (λ t either. ⊎_elim (λ image. inl (was t image)) (λ text. inr (told_moment (λ p. p) b F0 seat.notes seat.looked seat.done one (part seat.begun) known no_steps from input first t text)) either) (seat.left.ever still)),
             ),
           );
         })
 
     pub seat_plain : status.Done ≡ state → RepliesOfPass (format_of seen) N S input before later (device new).medium
     seat_plain is = of_file (λ F n T. RepliesOfPass F n T input before later (device new).medium)
-        (told_plain (λ p. p) b F0 seat.notes seat.begun seat.done one known no_steps (seat.alone one) (device new).medium (seat.left.now still) input rest before later seat.ended (is ∙ seat.status_is) seat.tells)
+        (told_plain (λ p. p) b F0 seat.notes seat.looked seat.done one (part seat.begun) known no_steps from (device new).medium (seat.left.now still) input rest before later seat.ended (is ∙ seat.status_is) seat.tells)

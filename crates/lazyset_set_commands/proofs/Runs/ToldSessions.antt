@@ -9,10 +9,10 @@ use Rattle.lz_proto.{specs.Sessions.{Answered, CutOff, SessionTells, Whole, Writ
 use Rattle.lz_board.specs.{declared.{pass.Pass.{Pass}, view.{Note.{Note}, Part.{Part}}}, Seats.{BoardId, part}}
 use Rattle.lz_list.specs.declared.layout.Sizes.{Sizes}
 use Rattle.lz_refinement.specs.{Moments.{ExplainsBegun}, RunningSets.{members_of, Explains}}
-use Rattle.lz_refinement.specs.Sessions.{AnsweredCalls, Served, PlainRun, NoneCut, CutLast, IsSession, TellsAlone}
+use Rattle.lz_refinement.specs.Sessions.{AnsweredCalls, Served, PlainRun, NoneCut, CutLast, IsSession}
 use Rattle.lz_refinement.proofs.Sessions.{SessionEnd.{session_is_held, session_is_plain}, SessionMoments.{moments_are_plain}}
 use Rattle.lazyset_set_commands.{specs.{PlainReplies.{PassMayAnswer}, Runs.{FoundAfter, RepliesOfPass}}, proofs.Runs.FoundSets.{found_of_more}}
-use Rattle.lazyset_set_commands.proofs.Runs.SessionCalls.{answers, made}
+use Rattle.lazyset_set_commands.proofs.Runs.{LookedCalls.{FromFirst}, SessionCalls.{answers, made}}
 use Rattle.lazyset_file_commands.specs.Ends.{session_status}
 
 -- calls were made, and then others
@@ -30,19 +30,19 @@ run_then : (F : Format) (N : ℕ) (done more : AnsweredCalls) (S T : Keys) → P
 run_then F N [] more S T run = (S, λ k. refl, run)
 run_then F N (call ∷ done) more S T (U, answer, later) = let (M, first, then) = run_then F N done more U T later in (M, (U, answer, first), then)
 
-module _ {X : Type 0} (pass_of : X → Pass) (b : BoardId) (F : Format) (ns : List Note) (old new : X) (one : b.sizes.passes ≡ 1)
-    (known : (part (pass_of old)).known ≡ b.opened) (none : (part (pass_of old)).steps ≡ []) (tells : TellsAlone b ns (part (pass_of new))) where
+module _ {X : Type 0} (pass_of : X → Pass) (b : BoardId) (F : Format) (ns : List Note) (old new : X) (one : b.sizes.passes ≡ 1) (fresh : Part) (known : fresh.known ≡ b.opened) (none : fresh.steps ≡ [])
+    (from : (calls : AnsweredCalls) → Served b.sizes F calls (part (pass_of old)) (part (pass_of new)) → FromFirst b F ns calls fresh) where
   abbrev N : ℕ
   N = b.sizes.slots
 
   abbrev S0 : Keys
   S0 = members_of b.opened
 
-  session : (calls : AnsweredCalls) → Served b.sizes F calls (part (pass_of old)) (part (pass_of new)) → CutLast calls → IsSession b F ns calls (part (pass_of old)) (part (pass_of new))
-  session calls served cut = record { alone = one; known = known; no_steps = none; served = served; cut = cut; tells = tells }
+  session : (calls : AnsweredCalls) (served : Served b.sizes F calls (part (pass_of old)) (part (pass_of new))) → CutLast calls → IsSession b F ns calls fresh (from calls served).last
+  session calls served cut = let since = from calls served in record { alone = one; known = known; no_steps = none; served = since.served; cut = cut; tells = since.tells }
 
   held_run : (calls : AnsweredCalls) → Served b.sizes F calls (part (pass_of old)) (part (pass_of new)) → CutLast calls → (t : List ℕ) (e : Explains b ns t) → PlainRun F N calls S0 e.found
-  held_run calls served cut t e = (session_is_held b F ns calls (part (pass_of old)) (part (pass_of new)) (session calls served cut) t e).0
+  held_run calls served cut t e = (session_is_held b F ns calls fresh (from calls served).last (session calls served cut) t e).0
 
   module _ (t : List ℕ) (e : Explains b ns t) where
     -- the replies to all the items
@@ -91,7 +91,7 @@ module _ {X : Type 0} (pass_of : X → Pass) (b : BoardId) (F : Format) (ns : Li
   told_moment input first t begun =
       let m = made pass_of b F one first.done first.replies old new first.served in
       found_of_more (PassMayAnswer F N) N S0 first.items first.done first.rest first.replies t first.whole
-      (m.moment S0 t (moments_are_plain b F ns m.calls (part (pass_of old)) (part (pass_of new)) (session m.calls m.served m.cut) t begun))
+      (m.moment S0 t (moments_are_plain b F ns m.calls fresh (from m.calls m.served).last (session m.calls m.served m.cut) t begun))
 
   module _ (medium : Medium) (explains : (t : List ℕ) → IsImage medium t → Explains b ns t) where
     told_whole : (input before later : Option (List ℕ)) (written : List ℕ) (ended : End) → Whole (answers pass_of b F one) input old new written ended → ended ≢ ends.Halted → Appends before later written
@@ -101,7 +101,8 @@ module _ {X : Type 0} (pass_of : X → Pass) (b : BoardId) (F : Format) (ns : Li
         let m = made pass_of b F one whole.items answered.replies old new answered.served in
         let goes : end_of whole.items answered.replies ≢ ends.Halted = λ is. unhalted (sym answered.ends ∙ is) in
         let made_so = session m.calls m.served m.cut in
-        let last = members_of (part (pass_of new)).known in
+        let done = (from m.calls m.served).last in
+        let last = members_of done.known in
         record {
           text = whole.text;
           known = whole.known;
@@ -109,11 +110,11 @@ module _ {X : Type 0} (pass_of : X → Pass) (b : BoardId) (F : Format) (ns : Li
           its = whole.its;
           replies = answered.replies;
           last = last;
-          served = m.whole goes S0 last (session_is_plain b F ns m.calls (part (pass_of old)) (part (pass_of new)) made_so);
+          served = m.whole goes S0 last (session_is_plain b F ns m.calls fresh done made_so);
           written = subst (λ (t : List ℕ). Appends before later t) answered.text appends;
           held = λ t image.
               let e = explains t image in
-              holds_same_set t N e.found last ((session_is_held b F ns m.calls (part (pass_of old)) (part (pass_of new)) made_so t e).1 (m.none goes)) e.holds;
+              holds_same_set t N e.found last ((session_is_held b F ns m.calls fresh done made_so t e).1 (m.none goes)) e.holds;
         }
 
     pub told_plain : (input after before later : Option (List ℕ)) (r : Result End SessionFault) → status.Done ≡ session_status r → Writes before later (λ written. SessionTells (answers pass_of b F one) input after old new written r)

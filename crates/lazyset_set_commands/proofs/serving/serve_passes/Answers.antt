@@ -2,7 +2,7 @@ use Rattle.lazyset_set_commands.proofs.serving.serve_passes.Goals as goal
 use Rattle.std.{proofs.Common.{◌≡◌, ◌≤◌, ◌∙◌, All, ℕ, List, length, map, rules, subst, sym, true, false}, specs.{Prelude.{◌==◌}, List.{Any, list_any}}}
 use Rattle.lz_board.specs.{declared.pass.Pass.{Pass}, Seats.{IsOf, part}}
 use Rattle.lz_serve.specs.Halts.{IsCalm, SawHalt}
-use Rattle.lazyset_set_commands.{specs.Services.{AreUnused}, proofs.Services.{all_new, new_calm, new_unused, served_passes}}
+use Rattle.lazyset_set_commands.{specs.Services.{AreUnused}, proofs.Services.{served_passes, unused_calm}}
 
 pub close_with-disk-requires : goal.close_with-disk-requires
 close_with-disk-requires g c = record { passes = subst (All (IsOf g.N.Named.board)) (sym c.as_mut_slice.ensures.value) (λ k d low. (c.serve_set-passes.ensures.may_call k d low).0) }
@@ -16,14 +16,14 @@ returns g c =
     let status = c.status_of_service.ensures in
     let found = c.has_each-all.ensures in
     let of = subst (All (IsOf b)) same (λ k d low. (served.may_call k d low).0) in
-    let new = all_new b c.args.passes.items c.requires.new in
+    let count = c.requires.count in
     let given : c.len-given.result ≡ b.sizes.passes = search rules in
     let long : length ps ≡ b.sizes.passes = search rules in
     let looked = c.deref.ensures.value ∙ same in
     served_passes b g.N.Named.first _ ps of _ c.close_with-disk.ensures.left c.serve_set-passes.result.halted c.serve_set-passes.result.unserved c.has_each-all.result long
     (λ is. subst (Any SawHalt) same (served.halted is))
-    (λ is. subst (All (λ p. IsCalm (part p))) same (λ k d low. served.calm is k d low (new_calm b c.args.passes.items c.requires.new)))
-    (λ is. subst (λ (l : List Pass). AreUnused (map (λ p. part p) l)) (sym (served.unserved is) ∙ same) (new_unused b c.args.passes.items c.requires.new))
+    (λ is. subst (All (λ p. IsCalm (part p))) same (λ k d low. served.calm is k d low (unused_calm (map (λ p. part p) c.args.passes.items) c.requires.unused)))
+    (λ is. subst (λ (l : List Pass). AreUnused (map (λ p. part p) l)) (sym (served.unserved is) ∙ same) c.requires.unused)
     c.status_of_service.result
     (λ is k low high. subst (λ (l : List Pass). list_any (λ (p : Pass). p.number == k) l ≡ true) looked (found.each is k low (subst (λ (n : ℕ). k ≤ n) (sym given) high)))
     (λ is. let none = found.not_each is in
