@@ -23,7 +23,7 @@ COMPLETIONS = $(PREFIX)/share/bash-completion/completions
 UNITS = $(PREFIX)/lib/systemd/system
 PARTS = lazyset@.service lazyset@.socket
 # Those for operators name others, and these further ones.
-PAGES = $(notdir $(wildcard docs/*.md docs/*.svg))
+PAGES = README.md CHANGELOG.md CONTRIBUTING.md $(wildcard docs/*.md docs/*.svg)
 
 .PHONY: all install uninstall check gate bench
 
@@ -44,12 +44,12 @@ install:
 	install -D -m 755 "$(PROGRAM)" "$(DESTDIR)$(BIN)/lazyset"
 	install -D -m 755 clients/shell/ask "$(DESTDIR)$(LIB)/ask"
 	install -D -m 644 docs/lazyset.1 "$(DESTDIR)$(MAN)/lazyset.1"
-	install -D -m 644 -t "$(DESTDIR)$(DOC)" $(PAGES:%=docs/%)
+	install -D -m 644 -t "$(DESTDIR)$(DOC)" $(PAGES)
 	install -D -m 644 contrib/lazyset.bash "$(DESTDIR)$(COMPLETIONS)/lazyset"
 	install -D -m 644 -t "$(DESTDIR)$(UNITS)" $(PARTS:%=contrib/%)
 	sed -i 's|/usr/local/|$(PREFIX)/|' $(PARTS:%="$(DESTDIR)$(UNITS)/%")
 
 uninstall:
-	rm -f "$(DESTDIR)$(BIN)/lazyset" "$(DESTDIR)$(LIB)/ask" "$(DESTDIR)$(MAN)/lazyset.1" $(PAGES:%="$(DESTDIR)$(DOC)/%")
+	rm -f "$(DESTDIR)$(BIN)/lazyset" "$(DESTDIR)$(LIB)/ask" "$(DESTDIR)$(MAN)/lazyset.1" $(patsubst %,"$(DESTDIR)$(DOC)/%",$(notdir $(PAGES)))
 	rm -f "$(DESTDIR)$(COMPLETIONS)/lazyset" $(PARTS:%="$(DESTDIR)$(UNITS)/%")
 	rmdir "$(DESTDIR)$(LIB)" "$(DESTDIR)$(DOC)" 2> /dev/null || true

@@ -93,6 +93,7 @@ class Told(AgainstAFake):
     def test_each_error_carries_the_replies_and_its_command(self) -> None:
         rows: List[Tuple[bytes, type, List[Reply]]] = [
             (b"yes\nno\nhalted\n", lazyset.Halted, [Reply.YES, Reply.NO]),
+            (b"yes\nstopping\nstopping\nstopping\nstopping\n", lazyset.Stopping, [Reply.YES]),
             (b"yes\nfull\nno", lazyset.LostConnection, [Reply.YES, Reply.FULL]),
             (b"", lazyset.LostConnection, []),
             (b"yes\nworn\noldfile\nbad 3\nyes\n", lazyset.Bad, [Reply.YES, Reply.WORN, Reply.OLD_FILE]),

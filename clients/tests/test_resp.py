@@ -127,6 +127,11 @@ class Answers(AgainstAFake):
         error = self.raised(b"-HALTED the device failed\r\n")
         self.assertIs(type(error), lazyset.Halted)
 
+    def test_a_service_that_stops(self) -> None:
+        error = self.raised(b"-ERR stopping; nothing was done\r\n")
+        assert isinstance(error, lazyset.Stopping)
+        self.assertEqual((error.replies, error.command), ([], Command.has(1)))
+
     def test_a_page_that_is_none(self) -> None:
         for replies in (b":1\r\n", b"*1\r\n:1\r\n", b"*2\r\n:1\r\n*0\r\n", b"*2\r\n$1\r\n0\r\n*1\r\n$1\r\nx\r\n"):
             with self.assertRaises(lazyset.BadReply):

@@ -142,6 +142,14 @@ class OverAFake(Asking, AgainstAFake):
         self.assertEqual((said.status, said.replies), (1, ["yes", "halted"]))
         self.assertIn("line 2", said.message)
 
+    def test_a_service_that_stops(self) -> None:
+        said = self.ask(str(self.fake(answers(b"yes\nstopping\nstopping\n")).port), "has 1", "has 2", "has 3")
+        self.assertEqual((said.status, said.replies), (1, ["yes", "stopping", "stopping"]))
+        self.assertIn("line 2 was answered stopping", said.message)
+        said = self.ask(str(self.fake(answers(b":1\r\n-ERR stopping; nothing was done\r\n+OK\r\n")).port), "EXISTS 1", "EXISTS 2")
+        self.assertEqual(said.status, 1)
+        self.assertIn("line 2 was answered ERR stopping", said.message)
+
     def test_the_same_by_redis_protocol(self) -> None:
         for replies in (b":1\r\n", b":1\r\n$5\r\nhel", b":1\r\n*2\r\n:1\r\n"):
             said = self.ask(str(self.fake(answers(replies)).port), "EXISTS 1", "EXISTS 2")

@@ -12,7 +12,7 @@ from typing import Dict, Iterable, List, Sequence
 
 from trials.copies import NO_READ, NO_REPLY, answering, copied, endless, told
 from trials.faults import needs_strace
-from trials.files import TWO_SLOTS, bytes_in, changed, put
+from trials.files import TWO_SLOTS, bytes_in, changed, put, said_of_others
 from trials.frames import by_frames
 from trials.growing import CALLS, form_of, slots_of
 from trials.plain_frames import bulk
@@ -24,7 +24,7 @@ MANY = 65_537
 
 # What a service tells of its file, as a scripted one tells it, and a scan of its one page.
 ROWS = b"# Lazyset\r\nlazyset_version:1.17\r\nformat:3\r\nslots:70\r\nmembers:2\r\n"
-PAGES = (told(0, 17, 5), *[told(0)] * 15)
+PAGES = (told(0, 17, 5),)
 
 # What isn't told so, or no whole row of it.
 NO_ROWS = (
@@ -68,9 +68,6 @@ def try_shapes(program: Program, folder: str) -> None:
             expect(copy(program, service.port, new, *options), copied(2), what)
         expect((shape(program, new), program.members(new)), (wanted, [Key(0, 5), Key(0, 17)]), f"what it makes: {what}")
     put(new, None)
-    with Service(program, file, 2, *by_frames(4), "--text=adopt") as service:
-        expect(copy(program, service.port, new), NO_REPLY, "a copy of a service of texts")
-    expect(os.path.exists(new), False, "whether there is a file")
 
 
 def try_told(program: Program, folder: str) -> None:
@@ -89,7 +86,7 @@ def try_told(program: Program, folder: str) -> None:
     for text in (*map(bulk, NO_ROWS), *others):
         with endless([text, *PAGES]) as port:
             ended, said = program.run_loud("copy", str(port), new)
-        why = "it doesn't tell its slots, or a page of keys: the service has to speak Redis's protocol (--resp beside PASSES), and be started without --text"
+        why = "it doesn't tell its slots, or a page of keys: the service has to speak Redis's protocol (--resp beside PASSES), by release 1.17 or a later one"
         expect((ended, said), (NO_REPLY, f"lazyset: copy {port} {new}: noreply: {why}\n"), f"a service that tells {text[:60]!r} of its file")
         expect(os.path.exists(new), False, "whether there is a file")
     whole = bulk(ROWS)
@@ -104,10 +101,10 @@ def try_others(program: Program, folder: str) -> None:
     file, new = os.path.join(folder, "f"), os.path.join(folder, "new")
     made(program, file, NEWER)
     with Service(program, file, 2, *by_frames(8)) as service:
-        for text in (b"mine\n", bytes(48), changed(TWO_SLOTS, 7, 0x39), b"x" * 1_000):
+        for text in (b"x", b"mine\n", bytes(48), changed(TWO_SLOTS, 7, 0x39), b"x" * 1_000):
             for options in ((), ("--replace",), ("9",), ("9", "--replace")):
                 put(new, text)
-                said = f"lazyset: {new}: its {len(text)} bytes are no set's: give another name, or move it away\n"
+                said = said_of_others(new, text)
                 expect(program.run_loud("copy", str(service.port), new, *options), (Ended("nofile\n", 3), said), f"a copy over {text[:16]!r}")
                 expect(bytes_in(new), text, "what is left")
         for text in (b"", b"\0", changed(TWO_SLOTS, 0, 0), changed(TWO_SLOTS, 0, 0)[:20]):

@@ -16,10 +16,10 @@ from typing import Iterator, List, Sequence, Tuple
 
 from trials.at_path import socket_of
 from trials.changing import changing
-from trials.frames import by_frames
+from trials.frames import by_frames, replies
 from trials.hostile import tell
 from trials.makings import NO_FILE, NOT_MADE
-from trials.plain_frames import bulk
+from trials.plain_frames import array, bulk
 from trials.program import PATIENCE, Ended, Key, Program, Service
 from trials.report import expect
 from trials.scans import added
@@ -138,16 +138,16 @@ def told(next_one: int, *keys: int) -> bytes:
 
 def try_cut_off(program: Program, folder: str) -> None:
     """Wherever replies end nothing is made, and what is no page is told."""
-    whole = told(4096, 17, 5) + told(0, 17) + told(0) * 15
+    whole = told(4096, 17, 3 * 10**18 + 5) + told(0, 17)
     with answering(whole) as port:
         expect(copy(program, port, os.path.join(folder, "whole"), 2), copied(2), "a whole scan")
-    expect(program.members(os.path.join(folder, "whole")), [Key(0, 5), Key(0, 17)], "what it makes")
+    expect(program.members(os.path.join(folder, "whole")), [Key(0, 17), Key(3, 5)], "what it makes")
     new = os.path.join(folder, "new")
     for count in range(0, len(whole), 7):
         with answering(whole[:count]) as port:
             expect(copy(program, port, new, 2), NO_READ, f"a scan that ends after {count} bytes")
         expect(os.path.exists(new), False, "whether there is a file")
-    for reply in (b"-ERR no\r\n", b"bad 2\n", b"+OK\r\n", b"*3\r\n", b"*2\r\n$2\r\n00\r\n", told(0, 10**18), b"*2\r\n$" + b"1" * 100_000):
+    for reply in (b"-ERR no\r\n", b"bad 2\n", b"+OK\r\n", b"*3\r\n", b"*2\r\n$2\r\n00\r\n", told(0, 16 * 10**18), b"*2\r\n$" + b"1" * 100_000):
         with answering(told(1, 7) + reply) as port:
             expect(copy(program, port, new, 2), NO_REPLY, f"a scan that is told {reply[:40]!r}")
         expect(os.path.exists(new), False, "whether there is a file")
@@ -173,8 +173,11 @@ def endless(pages: Sequence[bytes]) -> Iterator[int]:
 
 
 def try_endless(program: Program, folder: str) -> None:
-    """A cursor that stands still or goes back is no page of a scan: the copy ends, and makes nothing."""
+    """A cursor that stands still or goes back is no page of a scan, and a copy takes no more keys than slots: it ends, and makes nothing."""
     new = os.path.join(folder, "new")
+    with endless([told(at, at) for at in range(1, 1 << 14)]) as port:
+        expect(program.run("copy", str(port), new, "10", patience=10.0), Ended("refused 9 11 10\n", 3), "a copy of more keys than slots, whose pages lead on")
+    expect(os.path.exists(new), False, "whether there is a file")
     for pages in ([told(5, 1)], [told(5, 1), told(7, 2)], [told(5)], [told(4096, 1), told(256, 2)]):
         with endless(pages) as port:
             expect(program.run("copy", str(port), new, "10", patience=10.0), NO_REPLY, f"a copy of {len(pages)} pages without an end")
@@ -184,7 +187,7 @@ def try_endless(program: Program, folder: str) -> None:
 def try_words(program: Program, folder: str) -> None:
     """Standard error says in words why nothing was made."""
     new = os.path.join(folder, "new")
-    kind = "a reply is no page of keys: the service has to speak Redis's protocol (--resp beside PASSES), and be started without --text"
+    kind = "a reply is no page of keys: the service has to speak Redis's protocol (--resp beside PASSES), by release 1.17 or a later one"
     for reply, ended, why in ((b"+OK\r\n", NO_REPLY, kind), (b"", NO_READ, "the connection failed, ended or was silent for a minute")):
         with answering(reply) as port:
             line = ended.text.rstrip("\n")
@@ -199,13 +202,25 @@ def try_refused(program: Program, folder: str) -> None:
         free = listener.getsockname()[1]
     for address in (free, f"127.0.0.1:{free}", os.path.join(folder, "absent"), "x", "0", "70000"):
         expect(copy(program, address, new, 10), NO_SERVICE, f"a copy from {address}")
-    for options in (["--connections", "4"], [*by_frames(4), "--text"]):
-        with Service(program, file, 4, *options) as service:
-            expect(copy(program, service.port, new, 10), NO_REPLY, f"a copy of a service with {options}")
-            for slots in (0, 16_777_217):
-                expect(copy(program, service.port, new, slots), Ended("refused 2\n", 3), f"a copy with {slots} slots")
-            expect(copy(program, service.port, new, 65_537, "--format", "2"), Ended("refused 2\n", 3), "a copy into a format that has fewer slots")
+    with Service(program, file, 4, "--connections", "4") as service:
+        expect(copy(program, service.port, new, 10), NO_REPLY, "a copy of a service of lines")
+        for slots in (0, 16_777_217):
+            expect(copy(program, service.port, new, slots), Ended("refused 2\n", 3), f"a copy with {slots} slots")
+        expect(copy(program, service.port, new, 65_537, "--format", "2"), Ended("refused 2\n", 3), "a copy into a format that has fewer slots")
     expect(sorted(os.listdir(folder)), ["f"], "what is left")
+
+
+def try_of_texts(program: Program, folder: str) -> None:
+    """A copy of a service of texts has the mark and the texts' keys, and is served with `--text` in turn."""
+    file, new, text = os.path.join(folder, "f"), os.path.join(folder, "new"), (*by_frames(4), "--text")
+    program.make(file, 10)
+    with Service(program, file, 4, *text) as service:
+        expect(replies(service.port, array(b"SADD", b"seen", b"evt_1", b"evt_2")), b":2\r\n", "the reply to two texts")
+        expect(program.run("copy", str(service.port), new), copied(3), "a copy of a service of texts")
+    expect(program.members(new), program.members(file), "what it holds")
+    with Service(program, new, 4, *text) as service:
+        asked = array(b"SMISMEMBER", b"seen", b"evt_1", b"evt_3", b"evt_2")
+        expect(replies(service.port, asked), b"*3\r\n:1\r\n:0\r\n:1\r\n", "what the copy's service tells")
 
 
 def try_killed(program: Program, folder: str, kills: int, seed: int) -> None:
@@ -257,6 +272,7 @@ TRIALS = (
     ("copies while others change the set", try_meanwhile),
     ("copies that are cut off", try_cut_off),
     ("copies of what isn't such a service", try_refused),
+    ("copies of a service of texts", try_of_texts),
     ("copies of pages without an end", try_endless),
     ("words for a copy that isn't made", try_words),
 )

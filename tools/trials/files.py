@@ -67,6 +67,12 @@ def bytes_in(file: str) -> bytes:
         return found.read()
 
 
+def said_of_others(path: str, text: bytes) -> str:
+    """What a command says that takes no other file's bytes away, where these stand at the path, and are no set's."""
+    which = "its 1 byte is" if len(text) == 1 else f"its {len(text)} bytes are"
+    return f"lazyset: {path}: {which} no set's: give another name, or move it away\n"
+
+
 # A file of so many bytes or none, the slots and the format that are asked for, what is printed, and the bytes that are left.
 MAKINGS: Tuple[Tuple[Optional[bytes], str, str, str, bytes], ...] = (
     (None, "2", "1", "made 2\n", TWO_SLOTS),

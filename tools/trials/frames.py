@@ -294,7 +294,7 @@ def try_at_path(program: Program, folder: str) -> None:
 
 def stopped_within(program: Program, file: str, members: int) -> Optional[int]:
     """Stops a service while a client adds so many members by each of its frames, and gives how many additions it was told of: none at all
-    where the connection was reset, since the service had not read all that was sent."""
+    where the connection was reset, since the service had not read all that was sent. What it was told after them is that nothing was done."""
     keys = [b"%d" % number for number in range(MANY)]
     frames = b"".join(array(b"SADD", b"0", *keys[start : start + members]) for start in range(0, MANY, members))
     with Service(program, file, PASSES, "--control", control_of(file), *by_frames(2)) as service, connect(service.port) as client:
@@ -308,8 +308,9 @@ def stopped_within(program: Program, file: str, members: int) -> Optional[int]:
             told = first + received(client)
         except ConnectionResetError:
             return None
-    expect(re.sub(rb":%d\r\n" % members, b"", told), b"", "other replies than that all of a frame's members were added")
-    return members * told.count(b"\n")
+    rest = re.sub(rb"^(:%d\r\n)*" % members, b"", told)
+    expect(re.sub(rb"-ERR stopping; nothing was done\r\n", b"", rest), b"", "other replies than that all of a frame's members were added, and then none")
+    return members * told.count(b":%d\r\n" % members)
 
 
 def send_all(client: socket.socket, text: bytes) -> None:
@@ -318,7 +319,7 @@ def send_all(client: socket.socket, text: bytes) -> None:
 
 
 def try_stop(program: Program, folder: str) -> None:
-    """A service that is asked to stop carries out nothing that it doesn't tell of, but for members of one frame, some of which were added."""
+    """A service that is asked to stop carries out nothing that it doesn't tell of, and each frame whole or not at all."""
     for members in (1, 10):
         for number in range(TRIES):
             file = os.path.join(folder, f"f{members}-{number}")
@@ -329,7 +330,7 @@ def try_stop(program: Program, folder: str) -> None:
         else:
             raise Wrong(f"a connection was reset at each of {TRIES} stops")
         added = len(program.members(file))
-        if not told <= added < told + members or added == MANY:
+        if added != told or added == MANY:
             raise Wrong(f"{added} members were added, and the client was told of {told}")
 
 

@@ -12,7 +12,7 @@ import subprocess
 from typing import Dict, List
 
 from trials.faults import needs_strace
-from trials.files import TWO_SLOTS, bytes_in, changed, put
+from trials.files import TWO_SLOTS, bytes_in, changed, put, said_of_others
 from trials.plain import FORMATS, MOST_SLOTS
 from trials.program import PATIENCE, Ended, Program
 from trials.report import Wrong, expect
@@ -154,9 +154,9 @@ def try_beside(program: Program, folder: str) -> None:
     file, other = os.path.join(folder, "f"), os.path.join(folder, "other")
     copy, beside = made(program, file), os.path.join(folder, "f.grow")
     put(other, b"mine\n")
-    for text in (b"mine\n", bytes(48), changed(TWO_SLOTS, 7, 0x39), b"x" * 1000):
+    for text in (b"x", b"mine\n", bytes(48), changed(TWO_SLOTS, 7, 0x39), b"x" * 1000):
         put(beside, text)
-        said = f"lazyset: {beside}: its {len(text)} bytes are no set's: give another name, or move it away\n"
+        said = said_of_others(beside, text)
         expect(program.run_loud(*words(file)), (Ended("nofile\n", 3), said), f"a growth beside {text[:16]!r}")
         expect((bytes_in(beside), expect_whole(program, file, copy, "the file")), (text, OLD_SLOTS), "what is left")
     os.remove(beside)

@@ -38,7 +38,6 @@ PACKED = [
     "usr/lib/lazyset/ask",
     *(f"usr/lib/python3/dist-packages/lazyset/{name}" for name in MODULES),
     "usr/share/bash-completion/completions/lazyset",
-    "usr/share/doc/lazyset/NEWS.md.gz",
     "usr/share/doc/lazyset/changelog.gz",
     "usr/share/doc/lazyset/copyright",
     "usr/share/doc/lazyset/examples/webhook_receiver.py",
@@ -74,7 +73,7 @@ def modes_in(folder: str) -> Dict[str, int]:
 
 def pages_of(top: str) -> List[str]:
     """The pages and their pictures."""
-    return [name for name in os.listdir(os.path.join(top, "docs")) if name.endswith((".md", ".svg"))]
+    return ["README.md", "CHANGELOG.md", "CONTRIBUTING.md", *(name for name in os.listdir(os.path.join(top, "docs")) if name.endswith((".md", ".svg")))]
 
 
 def expect_named_pages(folder: str) -> None:
@@ -84,6 +83,7 @@ def expect_named_pages(folder: str) -> None:
     for page in sorted(name for name in there if name.endswith(".md")):
         text = bytes_of(os.path.join(folder, page)).decode()
         named = re.findall(r"\bdocs/(\w+\.md)", text) + re.findall(r"\]\((\w[\w-]*\.svg)\)", text)
+        named += [f"{word}.md" for word in re.findall(r"(?<![\w/])(README|CHANGELOG|CONTRIBUTING)\b", text)]
         expect(sorted(set(named) - there), [], f"what {page} names and isn't there")
 
 

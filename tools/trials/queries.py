@@ -13,8 +13,10 @@ from typing import Dict
 
 from trials.at_path import served, socket_of
 from trials.beside_redis import free_port, framed, needs_package, python_with, started
+from trials.faults import needs_strace
 from trials.frames import AT_ONCE, by_frames, replies, sent
 from trials.guests import PATIENCE, connect
+from trials.loop_faults import slow
 from trials.plain_frames import PONG, array, bulk, integer
 from trials.program import Key, Program, Service
 from trials.real_clients import output
@@ -27,7 +29,9 @@ SYNTAX = b"-ERR syntax error\r\n"
 SECTIONS = {
     "Server": ["redis_version", "redis_mode", "process_id", "run_id", "uptime_in_seconds"],
     "Clients": ["connected_clients", "maxclients"],
-    "Stats": ["total_connections_received", "total_commands_processed"],
+    "Memory": ["used_memory", "maxmemory"],
+    "Stats": ["total_connections_received", "total_commands_processed", "instantaneous_ops_per_sec"],
+    "Latencystats": ["latency_percentiles_usec_reply"],
     "Keyspace": ["db0"],
     "Lazyset": ["lazyset_version", "format", "slots", "members", "free", "buckets", "passes", "loops", "adds", "removes", "lookups", "full"],
 }
@@ -72,8 +76,8 @@ def values(client: socket.socket) -> Dict[str, str]:
 
 
 def timeless(text: str) -> str:
-    """The same without the seconds."""
-    return re.sub(r"(?<=uptime_in_seconds:)\d+", "", text)
+    """The same without what time changes."""
+    return re.sub(r"(?<=uptime_in_seconds:)\d+|(?<=ops_per_sec:)\d+", "", text)
 
 
 # Frames that are sent together, and their replies.
@@ -136,9 +140,12 @@ def try_info(program: Program, folder: str) -> None:
         run = told_first.pop("run_id")
         expect((len(run), set(run) <= set("0123456789abcdef"), values(client)["run_id"]), (40, True, run), "the number of its run")
         expect(int(told_first.pop("uptime_in_seconds")) in (0, 1), True, "for how long it has run")
+        # What `try_load` looks at.
+        for name in ("instantaneous_ops_per_sec", "latency_percentiles_usec_reply"):
+            told_first.pop(name)
         numbers = {
             **{"process_id": service.process.pid, "connected_clients": 2, "maxclients": 7},
-            **{"total_connections_received": 2, "total_commands_processed": 14},
+            **{"total_connections_received": 2, "total_commands_processed": 14, "used_memory": 80, "maxmemory": 80},
             **{"format": 2, "slots": 5, "members": 5, "free": 0, "buckets": 4, "passes": 3, "loops": 2, "adds": 6, "removes": 1, "lookups": 3, "full": 2},
         }
         texts = {"redis_version": "7.0.0", "redis_mode": "standalone", "db0": "keys=5,expires=0,avg_ttl=0"}
@@ -148,14 +155,44 @@ def try_info(program: Program, folder: str) -> None:
             expect(timeless(bulk_of(client, b"INFO", name.upper().encode())), section.rstrip() + "\r\n", f"the section {name}")
         for word in (b"default", b"ALL", b"everything"):
             expect(list(lines_by_section(bulk_of(client, b"info", word))), list(SECTIONS), "all sections")
-        expect(bulk_of(client, b"INFO", b"memory"), "", "a section that isn't there")
+        expect(bulk_of(client, b"INFO", b"persistence"), "", "a section that isn't there")
         expect(replies(service.port, array(b"INFO", b"server", b"stats")), b"-ERR wrong number of arguments for 'info' command\r\n", "two sections")
         with Service(program, other, 1, *by_frames(2)) as another, connect(another.port) as its:
             time.sleep(1.1)
             told_there = values(its)
             expect(told_there["run_id"] != run, True, "that another service has another number")
             expect((told_there["format"], told_there["loops"], "db0" in told_there), ("1", "1", False), "what a service of no members tells")
+            expect((told_there["used_memory"], told_there["latency_percentiles_usec_reply"]), ("0", "p50=0,p99=0"), "what one tells that answered nothing")
             expect(int(told_there["uptime_in_seconds"]) in (1, 2), True, "for how long it has run")
+
+
+def try_load(program: Program, folder: str) -> None:
+    """How many commands a service answers in a second, and how long replies take, is as its client measures it, where syncs are slow too."""
+    file = os.path.join(folder, "f")
+    needs_strace()
+    program.make(file, 200)
+    for first, seconds in ((0, 0.0), (100, 0.02)):
+        times, before = [], slow(file, seconds) if seconds else ()
+        with Service(program, file, 4, *by_frames(4), before=before) as service, connect(service.port) as client:
+            time.sleep(1.1)
+            asked = time.monotonic()
+            values(client)
+            told = time.monotonic()
+            for key in range(200):
+                start = time.monotonic()
+                client.sendall(array(b"SADD" if key % 2 else b"SREM", b"0", b"%d" % (first + key // 2)))
+                client.recv(64)
+                times.append(1e6 * (time.monotonic() - start))
+            time.sleep(1.1)
+            later = time.monotonic()
+            text = values(client)
+            rate, least, most = int(text["instantaneous_ops_per_sec"]), 200 / (time.monotonic() - asked), 200 / (later - told)
+            expect(least - 1 <= rate <= most, True, f"that {rate} commands a second are between {least:.1f} and {most:.1f}")
+            expect(values(client)["instantaneous_ops_per_sec"], str(rate), "the same within a second")
+            half, nearly = re.fullmatch(r"p50=(\d+),p99=(\d+)", text["latency_percentiles_usec_reply"]).groups()
+            times.sort()
+            bounds = (1.25 * times[99] + 1, 1.25 * times[197] + 1)
+            expect(1e6 * seconds <= int(nearly) <= bounds[1] and int(half) <= bounds[0], True, f"that p50 and p99, {half} and {nearly}, are below {bounds}")
 
 
 def client_of(path: str) -> socket.socket:
@@ -251,6 +288,7 @@ def try_exporter(program: Program, folder: str) -> None:
 TRIALS = (
     ("members as they are counted", try_size),
     ("what a service tells of itself", try_info),
+    ("what a service tells of its load", try_load),
     ("an end that a client asks for", try_shutdown),
     ("an end that a client over a port asks for", try_refused),
     ("redis-cli and redis-py on what a service tells", try_clients),

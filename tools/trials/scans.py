@@ -1,4 +1,4 @@
-"""Scans of a room of a service that speaks Redis's protocol (SSCAN): page by page, while others change it."""
+"""Scans of a room (SSCAN) and of all rooms (LZ.SCAN) of a service that speaks Redis's protocol: page by page, while others change it."""
 
 from __future__ import annotations
 
@@ -6,7 +6,7 @@ import os
 import random
 import socket
 import threading
-from typing import BinaryIO, Iterator, List, NamedTuple, Sequence, Set
+from typing import BinaryIO, Iterator, List, NamedTuple, Optional, Sequence, Set
 
 from trials.beside_redis import framed, needs_package, python_with
 from trials.changing import Changes, changing, number
@@ -53,12 +53,13 @@ def page(stream: BinaryIO) -> Page:
     return Page(cursor, [word(stream) for _ in range(number(stream, b"*"))])
 
 
-def asked(room: int, cursor: int, count: int = 0) -> bytes:
-    """A frame that asks for a page; a count of 0 stands for none."""
-    return array(b"SSCAN", b"%d" % room, b"%d" % cursor, *((b"COUNT", b"%d" % count) if count else ()))
+def asked(room: Optional[int], cursor: int, count: int = 0) -> bytes:
+    """A frame that asks for a page of a room, or of all; a count of 0 stands for none."""
+    words = [b"LZ.SCAN"] if room is None else [b"SSCAN", b"%d" % room]
+    return array(*words, b"%d" % cursor, *((b"COUNT", b"%d" % count) if count else ()))
 
 
-def pages(client: socket.socket, room: int, count: int = 0, cursor: int = 0) -> Iterator[Page]:
+def pages(client: socket.socket, room: Optional[int], count: int = 0, cursor: int = 0) -> Iterator[Page]:
     """The pages of one scan, or of its rest from a cursor."""
     with client.makefile("rb") as stream:
         while True:
@@ -101,12 +102,16 @@ def try_pages(program: Program, folder: str) -> None:
                         expect(sorted(keys_of(scan)), sorted(keys), f"what a scan by {count} tells of room {room}")
                         expect(all(len(told.keys) <= min(count or 10, MOST_KEYS) for told in scan), True, f"the lengths of pages by {count}")
                 expect(list(pages(client, 5)) != [], True, "a scan of a room of no members")
+                ranks = sorted(room * 10**18 + key for room, keys in rooms.items() for key in keys)
+                for count in (0, 1, 1_000):
+                    expect(sorted(keys_of(list(pages(client, None, count)))), ranks, f"what a scan of all rooms by {count} tells")
             with connect(service.port) as client, client.makefile("rb") as stream:
                 client.sendall(asked(0, 0, 300))
                 first = page(stream)
             others = [asked(0, slots), asked(0, 1 << 24), asked(0, (1 << 24) + 1), array(b"SSCAN", b"0", b"x"), asked(16, 0)]
             others += [array(b"SSCAN", b"0", b"0", *more) for more in ([b"MATCH", b"1*"], [b"COUNT"], [b"COUNT", b"0"], [b"COUNT", b"x"])]
-            told = NO_PAGE * 2 + CURSOR * 2 + NO_ROOM + SYNTAX * 3 + NO_NUMBER
+            others += [array(b"LZ.SCAN", b"x"), array(b"LZ.SCAN", b"0", b"COUNT"), array(b"LZ.SCAN", b"0", b"0")]
+            told = NO_PAGE * 2 + CURSOR * 2 + NO_ROOM + SYNTAX * 3 + NO_NUMBER + CURSOR + SYNTAX * 2
             expect(replies(service.port, *others), told, "what no scan comes to")
         with Service(program, file, 4, "--buckets", "5", *by_frames(4)) as service, connect(service.port) as client:
             rest = keys_of(list(pages(client, 0, 1_000, first.cursor)))

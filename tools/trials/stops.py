@@ -41,7 +41,9 @@ def try_stops(program: Program, folder: str) -> None:
     try_leftover(program, os.path.join(folder, "leftover"))
     try_slow(program, os.path.join(folder, "slow"))
     missing = os.path.join(folder, "missing")
-    expect(program.run("stop", missing), Ended("nofile\n", 3), "a stop where nobody listens")
+    absent, hint = "No such file or directory (os error 2)", ": PATH is the control socket, as FILE.control"
+    for path, way_out in ((missing, ""), ("7000", hint), ("7000.control", "")):
+        expect(program.run_loud("stop", path), (Ended("nofile\n", 3), f"lazyset: {path}: {absent}{way_out}\n"), f"a stop by {path}, where nobody listens")
 
 
 def try_idle(program: Program, file: str, *kind: str) -> None:

@@ -97,6 +97,25 @@ def try_full(program: Program, folder: str, *options: str) -> None:
         expect(service.lines(), [*shares, full, full], "the log after it was full again")
 
 
+def try_one(program: Program, folder: str) -> None:
+    """What there is one of is told so: a member, a slot, a place, and a connection that waits."""
+    file = os.path.join(folder, "one")
+    program.make(file, 1)
+    with logged(program, file, 1, "--sessions", "2") as service:
+        with socket.create_connection(("127.0.0.1", service.port), PATIENCE) as first:
+            first.sendall(b"add 1\n")
+            expect(first.recv(4), b"yes\n", "a reply")
+            with socket.create_connection(("127.0.0.1", service.port), PATIENCE) as second:
+                time.sleep(2.5)
+                said = ["95 % full: 1 member in 1 slot", "the only place is taken, 1 connection waits"]
+                expect(service.lines(), said, "the log while one waits")
+                first.close()
+                second.sendall(b"has 1\nquit\n")
+                expect(second.recv(4), b"yes\n", "the reply to the one who waited")
+        expect(service.service.wait(), 0, "the status")
+        expect(service.lines(), [*said, "ended: sessions 2, members 1 of 1 slot"], "the log at the end")
+
+
 def replaces(file: str) -> None:
     shutil.copy(file, f"{file}.copy")
     os.replace(f"{file}.copy", file)

@@ -28,7 +28,6 @@ OPENED: Tuple[Tuple[bytes, str, bool, str], ...] = (
 # How many slots a file may have.
 FEW = "a file has 1 to 65536 slots; with --format 3 or 4 it has up to 16777216"
 MILLIONS = "a file of format 3 has 1 to 16777216 slots"
-NO_ROOM = "so many keys have no room in so many slots"
 
 # A file's bytes or none, the slots and the format that are asked for, what is printed, and the words.
 MADE: Tuple[Tuple[Optional[bytes], str, str, str, str], ...] = (
@@ -49,7 +48,7 @@ LISTED: Tuple[Tuple[str, str, str, str, str], ...] = (
     ("1\n1:1\n", "2", "1", "line 2", "this line holds no key that the format has"),
     ("1", "2", "2", "line 1", "this line holds no key that the format has"),
     ("1\n0:1\n", "2", "2", "twice 2", "this line's key stands in a line above"),
-    ("1\n2\n3\n", "2", "2", "refused 9 3 2", NO_ROOM),
+    ("1\n2\n3\n", "2", "2", "refused 9 3 2", "3 keys have no room in 2 slots"),
     ("1\n", "65537", "2", "refused 2", FEW),
     ("1\n", "16777217", "3", "refused 2", MILLIONS),
 )
@@ -61,8 +60,8 @@ RENEWALS: Tuple[Tuple[bytes, Optional[bytes], str, str, str, str], ...] = (
     (RENEWED, RENEWED, "2", "2", "refused new 1", "it is a set already"),
     (RENEWED, None, "0", "2", "refused new 2", FEW),
     (RENEWED, None, "16777217", "3", "refused new 2", MILLIONS),
-    (RENEWED, b"", "1", "2", "refused 9 2 1", NO_ROOM),
-    (RENEWED, None, "1", "3", "refused 9 2 1", NO_ROOM),
+    (RENEWED, b"", "1", "2", "refused 9 2 1", "2 keys have no room in 1 slot"),
+    (RENEWED, None, "1", "3", "refused 9 2 1", "2 keys have no room in 1 slot"),
     (b"", None, "2", "2", "refused old 1", "it isn't a set: never made, or its head is damaged"),
 )
 
@@ -168,6 +167,8 @@ NO_SET, NEARLY = "were written over, which were no set", "were written over, a s
 OVERWRITTEN: Tuple[Tuple[Optional[bytes], str], ...] = (
     (None, ""),
     (b"", ""),
+    (b"\0", ""),
+    (b"x", "1 byte was written over, which was no set"),
     (b"mine\n", f"5 bytes {NO_SET}"),
     (b"not a set at all" * 2, f"32 bytes {NO_SET}"),
     (changed(TWO_SLOTS, 0, 0), f"48 bytes {NEARLY}"),
@@ -189,7 +190,7 @@ def try_overwritten(program: Program, folder: str) -> None:
         put(file, text)
         expect(program.run_loud("make", file, "2", "--keys"), (Ended("made 2\n", 0), f"lazyset: make {file}: 0 keys\n{said}"), f"a list over {text!r}")
         put(file, text)
-        expect(NO_SET in program.run_loud("make", file, "0")[1], False, "whether a making that wasn't done says so")
+        expect("written over" in program.run_loud("make", file, "0")[1], False, "whether a making that wasn't done says so")
 
 
 def try_port(program: Program, folder: str) -> None:
@@ -208,6 +209,19 @@ def try_command_line(program: Program) -> None:
     expect(ended.status, 2, "the status")
     expect(said, f"lazyset: {ended.text.splitlines()[0]}\n", "what it says on standard error")
     expect("--kyes" in said, True, "whether that names the word")
+
+
+def try_buckets(program: Program, folder: str) -> None:
+    """More buckets than the file's format has are refused, with the word that makes a file which has more."""
+    file = os.path.join(folder, "file")
+    for form, most, way_out in ((2, 4_096, True), (4, 1_048_576, False)):
+        put(file, of_format(form, TWO_SLOTS))
+        for words in (("run", file), ("serve", file, "0", "2")):
+            ended, said = program.run_loud(*words, "--buckets", str(most + 1))
+            lines = said.splitlines()
+            expect((ended.status, lines[-1]), (2, f"lazyset: {ended.text.splitlines()[0]}"), f"{most + 1} buckets of format {form}")
+            named = f"lazyset: {file}: a file of format 3 or 4 may have more buckets: renew it with --format 4"
+            expect(lines[:-1], [named] if way_out else [], f"the way out of {words[0]} over format {form}")
 
 
 def try_reads(program: Program, folder: str) -> None:

@@ -26,6 +26,7 @@ class Reply(enum.Enum):
     OLD_FILE = "oldfile"
     WORN = "worn"
     HALTED = "halted"
+    STOPPING = "stopping"
 
 
 @dataclass(frozen=True)

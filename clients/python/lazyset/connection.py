@@ -23,6 +23,7 @@ from .errors import (
     LostConnection,
     NoConnection,
     OldFile,
+    Stopping,
     TimedOut,
     Unfinished,
     Worn,
@@ -292,6 +293,8 @@ class Lazyset:
             raise BadReply(f"no reply of a set service: {word!r}") from error
         if reply is Reply.HALTED:
             raise Halted("the service's device failed")
+        if reply is Reply.STOPPING:
+            raise Stopping("the service is stopping, and nothing was done")
         self._has_a_pass = True
         return reply
 

@@ -8,6 +8,7 @@
         NotServed           the child of `Lazyset.open` didn't serve its file, or ended badly, and why
         Unfinished          the connection is closed; `replies` and `command` say how far the call came
             Halted          the service's device failed
+            Stopping        the service ends; nothing was done
             Bad, BadReply   this is no service of this protocol
             LostConnection  the connection ended
                 TimedOut    no reply came in time
@@ -104,6 +105,11 @@ class Unfinished(LazysetError):
 class Halted(Unfinished):
     """The service's device failed. `command` may have been done or not, and opening the file decides it; none after it was
     done. The service carries out nothing more until it is started again."""
+
+
+class Stopping(Unfinished):
+    """The service ends, and has begun neither `command` nor those after it. **None of them was done, and none will be.** Ask again once it is
+    started again."""
 
 
 class Bad(Unfinished):

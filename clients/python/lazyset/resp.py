@@ -9,13 +9,16 @@ from typing import IO, Any, Iterator, List, Optional, Sequence, Type, Union
 
 from .commands import Command, Verb
 from .connection import CONNECT_TIMEOUT, REPLY_TIMEOUT
-from .errors import BadReply, Closed, Full, Halted, LostConnection, NoConnection, OldFile, TimedOut, Unfinished, Worn
+from .errors import BadReply, Closed, Full, Halted, LostConnection, NoConnection, OldFile, Stopping, TimedOut, Unfinished, Worn
 
 # How many keys a page of a room has at most: a service gives no more.
 PAGE = 256
 
 _WORDS = {Verb.ADD: "SADD", Verb.REMOVE: "SREM", Verb.HAS: "SISMEMBER"}
 _REFUSED = {"FULL": Full, "OLDFILE": OldFile, "WORN": Worn}
+
+# The error of a service that ends and has begun nothing of what was asked.
+_STOPPING = "ERR stopping"
 
 
 class ErrorReply(str):
@@ -129,6 +132,8 @@ class RespKeys:
             if kind in _REFUSED:
                 raise _REFUSED[kind](command)
             self.close()
+            if reply.startswith(_STOPPING):
+                raise Stopping(reply, (), command)
             raise Halted(reply, (), command) if kind == "HALTED" else BadReply(reply, (), command)
         return reply
 

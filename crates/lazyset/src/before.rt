@@ -39,6 +39,11 @@ impl Before {
     pub fn see_free<R: Eprint>(self, rt: &R, path: &str) -> Result<(), Fault> {
         match self {
             Before::Nothing | Before::Set(_) => Ok(()),
+            Before::Others(1) => Err(no_file(
+                rt,
+                path,
+                "its 1 byte is no set's: give another name, or move it away",
+            )),
             Before::Others(size) => Err(no_file(
                 rt,
                 path,

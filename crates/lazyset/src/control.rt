@@ -4,6 +4,7 @@ use crate::fault::Fault;
 use crate::files::no_file;
 use crate::log::Stoppable;
 use lazyset_set_commands::Status;
+use lz_slot::read_number;
 use std::fs::File;
 use std::io::{ErrorKind, Read, Write};
 use std::net::{Net, Shutdown};
@@ -24,6 +25,9 @@ const BACKLOG: i32 = 16;
 
 // For how many milliseconds one is heard, and how long it is waited where none can be.
 const PATIENCE_MS: u64 = 1_000;
+
+// What is said where a port is given in place of that socket.
+const NO_PORT_HINT: &str = "PATH is the control socket, as FILE.control";
 
 /// A socket on which the service is asked to stop.
 #[derive(Drop)]
@@ -122,6 +126,9 @@ where
 {
     let mut stream = match UnixStream::connect(rt, path) {
         Ok(stream) => stream,
+        Err(error) if read_number(path.as_bytes(), 0, u64::MAX).is_some() => {
+            return Err(no_file(rt, path, format_args!("{error}: {NO_PORT_HINT}")));
+        }
         Err(error) => return Err(no_file(rt, path, error)),
     };
     let patience = Duration::from_millis(within.saturating_mul(1_000).max(1));

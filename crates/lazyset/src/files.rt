@@ -118,7 +118,7 @@ where
     if let Some(Header { format, .. }) = header {
         if buckets > format.most_buckets() {
             let _ = eprintln!(rt;
-                "lazyset: {file}: a file of format 3 or 4 may have more buckets: renew it with --format 3"
+                "lazyset: {file}: a file of format 3 or 4 may have more buckets: renew it with --format 4"
             );
             let refusal = too_many_buckets(rt.alloc(), buckets as u64, format);
             return Err(Fault::of_refusal(refusal));

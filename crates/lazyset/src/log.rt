@@ -5,9 +5,12 @@ use crate::at_path::has_waiting;
 use crate::backlog::Backlog;
 use crate::gauge::Gauge;
 use crate::identity::run_of;
+use crate::latencies::Latencies;
 use crate::level::Level;
 use crate::long_lists::LongLists;
+use crate::many::Many;
 use crate::moment::Moment;
+use crate::rate::Rate;
 use crate::ready::Ready;
 use crate::seldom::Seldom;
 use crate::tally::Tally;
@@ -65,6 +68,8 @@ pub struct Log<'a, R: Eprint> {
     serving: OnceLock<Serving>,
     gauge: Gauge,
     tally: Tally,
+    rate: Rate,
+    latencies: Latencies,
     /// How many connections it serves at once, how many there are, and how many there were.
     places: AtomicUsize,
     guests: AtomicUsize,
@@ -104,6 +109,8 @@ where
             serving: OnceLock::new(),
             gauge: Gauge::new(),
             tally: Tally::new(),
+            rate: Rate::new(),
+            latencies: Latencies::new(),
             places: AtomicUsize::new(0),
             guests: AtomicUsize::new(0),
             sessions: AtomicUsize::new(0),
@@ -150,12 +157,13 @@ where
             return;
         }
         let sessions = self.sessions.load(Ordering::SeqCst);
-        let (members, slots) = (self.members(), self.gauge.slots());
+        let members = self.members();
+        let slots = Many::new(self.gauge.slots(), "slot", "slots");
         let is_asked = self.stops() && !self.lacks_loop.load(Ordering::SeqCst);
         let how = if is_asked { "stopped" } else { "ended" };
         self.say(
             Level::Notice,
-            format_args!("{how}: sessions {sessions}, members {members} of {slots} slots"),
+            format_args!("{how}: sessions {sessions}, members {members} of {slots}"),
         );
     }
 
@@ -193,14 +201,6 @@ where
         Some(now.saturating_sub(began))
     }
 
-    // The same in whole seconds.
-    fn seconds(&self) -> usize {
-        match self.age() {
-            Some(age) => age.as_secs() as usize,
-            None => 0,
-        }
-    }
-
     // Says how long the opening took.
     fn tell_opened(&self) {
         if let Some(took) = self.age() {
@@ -224,14 +224,26 @@ where
         let places = self.places.load(Ordering::SeqCst);
         match self.waiting_at(listener) {
             Some(0) => self.crowded.again(second),
-            Some(waiting) => self.say(
+            Some(waiting) => {
+                let waiting = Many::new(waiting as usize, "connection waits", "connections wait");
+                self.say_taken(places, waiting);
+            }
+            None => self.say_taken(places, "further connections wait"),
+        }
+    }
+
+    // Says that all places are taken, and who waits.
+    fn say_taken<W: fmt::Display + Drop>(&self, places: usize, who: W) {
+        if places == 1 {
+            self.say(
                 Level::Warning,
-                format_args!("all {places} places are taken, {waiting} connections wait"),
-            ),
-            None => self.say(
+                format_args!("the only place is taken, {who}"),
+            );
+        } else {
+            self.say(
                 Level::Warning,
-                format_args!("all {places} places are taken, further connections wait"),
-            ),
+                format_args!("all {places} places are taken, {who}"),
+            );
         }
     }
 

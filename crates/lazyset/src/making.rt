@@ -77,6 +77,9 @@ impl<'a> Making<'a> {
                     "lazyset: {path}: {size} bytes were written over, a set's but for the first one"
                 )
             }
+            Before::Others(1) => {
+                eprintln!(rt; "lazyset: {path}: 1 byte was written over, which was no set")
+            }
             Before::Others(size) => {
                 eprintln!(rt; "lazyset: {path}: {size} bytes were written over, which were no set")
             }

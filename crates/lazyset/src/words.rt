@@ -11,8 +11,47 @@ const REFUSED_OLD: &str = "refused old ";
 
 const REFUSED_NEW: &str = "refused new ";
 
+// What stands before the numbers of keys and of slots, where keys have no room.
+const NO_ROOM: &str = "refused 9 ";
+
+/// What a line says in words.
+#[derive(Clone, Copy)]
+pub enum Words<'a> {
+    Plain(&'static str),
+    /// So many keys have no room in so many slots.
+    NoRoom { keys: &'a str, slots: &'a str },
+}
+
+impl fmt::Display for Words<'_> {
+    fn fmt<W: fmt::Write>(&self, f: &mut fmt::Formatter<W>) -> fmt::Result {
+        match *self {
+            Words::Plain(words) => f.write_str(words),
+            Words::NoRoom { keys, slots } => {
+                let noun = if slots == "1" { "slot" } else { "slots" };
+                write!(f, "{keys} keys have no room in {slots} {noun}")
+            }
+        }
+    }
+}
+
 /// The words for a line with which a command has ended, where it has any.
-pub fn words_of(request: Request<'_>, line: &str) -> Option<&'static str> {
+pub fn words_of<'a>(request: Request<'_>, line: &'a str) -> Option<Words<'a>> {
+    if let Some(words) = words_of_no_room(line) {
+        return Some(words);
+    }
+    match plain_words_of(request, line) {
+        Some(words) => Some(Words::Plain(words)),
+        None => None,
+    }
+}
+
+// The words for a line that tells how many keys have no room in how many slots.
+fn words_of_no_room(line: &str) -> Option<Words<'_>> {
+    let (keys, slots) = line.strip_prefix(NO_ROOM)?.split_once(' ')?;
+    Some(Words::NoRoom { keys, slots })
+}
+
+fn plain_words_of(request: Request<'_>, line: &str) -> Option<&'static str> {
     if let Some(number) = number_after(REFUSED_OLD, line) {
         return words_of_opening(number);
     }
@@ -59,7 +98,6 @@ fn words_of_making(number: u8, format: Format) -> Option<&'static str> {
         b'2' => Some(words_of_slots(format)),
         b'3' => Some("the device failed"),
         b'4' => Some("it is longer than the new file would be"),
-        b'9' => Some("so many keys have no room in so many slots"),
         _ => None,
     }
 }
@@ -147,10 +185,10 @@ fn words_of_end(request: Request<'_>, line: &str) -> Option<&'static str> {
 fn words_of_reply(request: Request<'_>) -> &'static str {
     match request {
         Request::Copy(Wish { slots: None, .. }) => {
-            "it doesn't tell its slots, or a page of keys: the service has to speak Redis's protocol (--resp beside PASSES), and be started without --text"
+            "it doesn't tell its slots, or a page of keys: the service has to speak Redis's protocol (--resp beside PASSES), by release 1.17 or a later one"
         }
         _ => {
-            "a reply is no page of keys: the service has to speak Redis's protocol (--resp beside PASSES), and be started without --text"
+            "a reply is no page of keys: the service has to speak Redis's protocol (--resp beside PASSES), by release 1.17 or a later one"
         }
     }
 }

@@ -64,7 +64,7 @@ pub const SHEETS: [Sheet; 11] = [
     Sheet {
         name: "copy",
         about: "Makes a file that holds the keys of a running service, which speaks Redis's protocol",
-        notes: "ADDRESS is a port of this machine, HOST:PORT, or the path of a socket; the service speaks Redis's protocol, and was started without --text. Prints `copied M`, `noread` where the connection failed, ended, or was silent for a minute, `noreply` where a reply is no page of keys, `refused N` with what `make` would say of NEW, or `refused 9 M S` where M keys have no room in S slots. Nothing is made then. An address where nobody listens is `nofile`, and so is a NEW that isn't empty and is no set's. Without SLOTS the service is asked for its slots and its format.\n\nWith --replace the copy is made beside NEW, as NEW.copy, and renamed: a crash at any moment leaves NEW as it was or the copy, whole.\n\nEach key is in it that was a member all the while, and none that was no member at any moment of it.\n\nExample: lazyset copy 7000 g, and the next day lazyset copy 7000 g --replace",
+        notes: "ADDRESS is a port of this machine, HOST:PORT, or the path of a socket; the service speaks Redis's protocol, by release 1.17 or a later one. Prints `copied M`, `noread` where the connection failed, ended, or was silent for a minute, `noreply` where a reply is no page of keys, `refused N` with what `make` would say of NEW, or `refused 9 M S` where M keys or more have no room in S slots. Nothing is made then. An address where nobody listens is `nofile`, and so is a NEW that isn't empty and is no set's. Without SLOTS the service is asked for its slots and its format.\n\nWith --replace the copy is made beside NEW, as NEW.copy, and renamed: a crash at any moment leaves NEW as it was or the copy, whole.\n\nEach key is in it that was a member all the while, and none that was no member at any moment of it.\n\nExample: lazyset copy 7000 g, and the next day lazyset copy 7000 g --replace",
         words: &[ADDRESS, NEW, COPIED_SLOTS, COPIED_FORMAT, REPLACE],
     },
     Sheet {
@@ -82,7 +82,7 @@ pub const SHEETS: [Sheet; 11] = [
     Sheet {
         name: "stop",
         about: "Stops a service in order: it begins no further command, and answers those that are under way",
-        notes: "Ends when the service has ended. Where that takes more than SECONDS the service goes on stopping, and the status is 1.\n\nExample: lazyset stop f.control, where the service was started with --control f.control",
+        notes: "Ends once the service's file and port are free. Where that takes more than SECONDS the service goes on stopping, and the status is 1.\n\nExample: lazyset stop f.control, where the service was started with --control f.control",
         words: &[CONTROLLED, WITHIN],
     },
     Sheet {

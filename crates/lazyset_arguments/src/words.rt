@@ -386,5 +386,5 @@ pub(crate) const WITHIN: Word = Word {
     form: Form::Within(0, 86_400),
     default: Some("30"),
     beside: Beside::Anything,
-    help: "How long it waits for the service's end",
+    help: "How long it waits until the service's file and port are free",
 };

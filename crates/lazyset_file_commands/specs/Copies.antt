@@ -3,7 +3,7 @@ use Rattle.std.specs.Prelude.{◌≡◌, ◌≢◌, ◌⊎◌, ◌↔◌, ◌≤
 use Rattle.std.specs.Prelude.{length}
 use Rattle.lz_slot.specs.{Sets.{members}, declared.format.Format.{Format}}
 use Rattle.lz_disk.specs.{Images.{IsImage}, Devices.{Device, LeavesOnly}}
-use Rattle.lz_scan_client.specs.{Scanning.{IsScan}, declared.fault.ScanFault.{ScanFault, TheVariants.{Connection, Reply, Memory}}}
+use Rattle.lz_scan_client.specs.{Scanning.{HasTold, IsScan}, declared.fault.ScanFault.{ScanFault, TheVariants.{Connection, Reply, Memory}}}
 use Rattle.lz_vault.specs.Makes.{IsBadCount, IsMakeFaultOf, IsRenewed, IsUnmadeOrHolds, MayBeMade, make_fault_number}
 use Rattle.lz_vault.specs.declared.making.MakeFault.TheVariants.{BadCount}
 use Rattle.lazyset_file_commands.specs.{Ends.{make_status}, Makings.{refused_text, room_text}, Tellings.{memory_text, unread_text}}
@@ -26,6 +26,10 @@ MakesCopy format slots passed before after m =
     (keys : List ℕ) × IsScannedAs passed keys × (length keys ≡ m)
     × (IsTrue before.honest → IsRenewed after.medium format slots keys × MayBeMade before.medium.seen slots)
 
+-- so many keys were told, and perhaps more are to come
+abbrev pub HasToldSoMany : Passed → ℕ → Type 0
+HasToldSoMany passed m = HasTold passed.input passed.before passed.after m
+
 -- a whole scan told so many keys
 abbrev pub TellsSoMany : Passed → ℕ → Type 0
 TellsSoMany passed m = (keys : List ℕ) × IsScannedAs passed keys × (length keys ≡ m)
@@ -34,7 +38,7 @@ TellsSoMany passed m = (keys : List ℕ) × IsScannedAs passed keys × (length k
 -- slots is made.
 abbrev pub IsCopyFaultOf : Format → ℕ → Passed → Device → Device → CopyFault → Type 0
 IsCopyFaultOf format slots passed before after (OfScan fault) = Unit {0}
-IsCopyFaultOf format slots passed before after (TooMany m n) = (n ≡ slots) × (slots < m) × TellsSoMany passed m
+IsCopyFaultOf format slots passed before after (TooMany m n) = (n ≡ slots) × (slots < m) × HasToldSoMany passed m
 IsCopyFaultOf format slots passed before after (OfMaking fault) =
     IsMakeFaultOf before after format slots fault × (fault ≢ BadCount → (m : ℕ) × (m ≤ slots) × TellsSoMany passed m)
 

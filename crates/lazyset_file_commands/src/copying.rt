@@ -14,7 +14,7 @@ use crate::refusal::send_line;
 use crate::status::Status;
 use crate::telling::{NO_MEMORY, NO_READ, status_sent, tell};
 use lz_disk::Disk;
-use lz_scan_client::{ScanFault, Shape, ask_shape, scan_rooms};
+use lz_scan_client::{ScanFault, Shape, ToldKeys, ask_shape, scan_rooms};
 use lz_slot::Format;
 use lz_vault::{MakeFault, make_with};
 use std::alloc::Global;
@@ -27,14 +27,14 @@ const NO_REPLY: &[u8] = b"noreply\n";
 #[derive(Clone, Copy)]
 pub enum CopyFault {
     OfScan(ScanFault),
-    /// There are so many keys, and the file would have only so many slots.
+    /// There are so many keys, or more, and the file would have only so many slots.
     TooMany(u64, u64),
     OfMaking(MakeFault),
 }
 
 /// Makes a file of this format with so many slots, of which the first hold the keys that a service tells to a scan of all its rooms, and
 /// says so: `copied M`, or why not, by the first of these: `refused 2` where no file has so many slots, before anything is asked;
-/// `noread` where the connection failed or ended, `noreply` where a reply is no page of keys; `refused 9 M S` where M keys have no room
+/// `noread` where the connection failed or ended, `noreply` where a reply is no page of keys; `refused 9 M S` where M keys or more have no room
 /// in S slots; and `refused N` with the fault of a making. Failed where a device failed or the connection did, or there was no
 /// memory, with `nomemory`, and where the line could not be written. The connection is one that is read from and asked over.
 pub fn copy_on<R: Read, A: Write, W: Write + Drop, D: Disk>(
@@ -104,14 +104,12 @@ fn make_copy<R: Read, A: Write, D: Disk>(
     if slots == 0 || slots > format.most_slots() {
         return Err(CopyFault::OfMaking(MakeFault::BadCount));
     }
-    let keys = match scan_rooms(alloc, reader, asker) {
-        Ok(keys) => keys,
+    let keys = match scan_rooms(alloc, reader, asker, slots) {
+        Ok(ToldKeys::All(keys)) => keys,
+        Ok(ToldKeys::More(count)) => return Err(CopyFault::TooMany(count, slots)),
         Err(fault) => return Err(CopyFault::OfScan(fault)),
     };
     let count = keys.len() as u64;
-    if slots < count {
-        return Err(CopyFault::TooMany(count, slots));
-    }
     match make_with(disk, format, slots, &keys) {
         Ok(()) => Ok(count),
         Err(fault) => Err(CopyFault::OfMaking(fault)),

@@ -2,7 +2,7 @@
 use Rattle.std.proofs.Common.{◌≡◌, ℕ, zero, suc, ◌≤◌, List, [], ◌∷◌, ◌++◌, length, Bool, true, false, nat_le, decimal, Option, Some, None, Ok, Err, refl, sym}
 use Rattle.std.proofs.{Common.{ap, ◌∙◌, arith, append_assoc}, lemmas.{Bool.{cond_both, Decides.{nat_tests}}, Fmt.{length-decimal-le}}}
 use Rattle.std.specs.{Prelude.{◌==◌, if◌then◌else◌}, Fmt.{digits}, List.{flat_map, list_all}}
-use Rattle.lz_slot.{specs.{Limits.{largest_number, most_slots}, Numerals.{number_in}}, proofs.Texts.Numerals.{decimal_read, number_told_of}}
+use Rattle.lz_slot.{specs.{Limits.{largest_key, most_slots}, Numerals.{number_in}}, proofs.Texts.Numerals.{decimal_read, number_told_of}}
 use Rattle.lz_slot.proofs.Texts.Spellings.{decimal_lacks}
 use Rattle.lz_resp.specs.{Frames.{bulk, star}, Limits.{most_argument, most_arguments}, Pages.{FaultsHaveNoPage, IsPage, PagesAreRead, PagesAreSpelled, counted}}
 use Rattle.lz_resp.specs.Pages.{count_at, heading_at, members_at, number_at, number_text, numbers_at, page_at, page_of, parts_at, told_text}
@@ -14,15 +14,15 @@ heading_read : (n : ℕ) (more : List ℕ) → n ≤ most_arguments → heading_
 heading_read n more few = grind (arith, decimal, decimal_lacks, line_read, decimal_read)
 
 -- a number that a page may have is short
-number_short : (n : ℕ) → n ≤ largest_number → length (decimal n) ≤ most_argument
-number_short n small = let short : length (decimal n) ≤ 18 = length-decimal-le 18 n (omega arith) (omega arith) (omega arith) in omega (arith, short)
+number_short : (n : ℕ) → n ≤ largest_key → length (decimal n) ≤ most_argument
+number_short n small = let short : length (decimal n) ≤ 20 = length-decimal-le 20 n (omega arith) (omega arith) (omega arith) in omega (arith, short)
 
-number_read : (high n : ℕ) (more : List ℕ) → high ≤ largest_number → n ≤ high → number_at high (number_text n ++ more) ≡ given n more
+number_read : (high n : ℕ) (more : List ℕ) → high ≤ largest_key → n ≤ high → number_at high (number_text n ++ more) ≡ given n more
 number_read high n more within small = grind (arith, argument_read, decimal, number_short, decimal_read, small)
 
-numbers_read : (numbers more : List ℕ) → list_all (λ number. nat_le number largest_number) numbers ≡ true → numbers_at (length numbers) (flat_map number_text numbers ++ more) ≡ given numbers more
-numbers_read = many_read number_text (λ number. nat_le number largest_number) (number_at largest_number) numbers_at (λ text. refl) (λ n text. refl)
-    (λ n rest small. number_read largest_number n rest (omega arith) (grind (arith, nat_tests)))
+numbers_read : (numbers more : List ℕ) → list_all (λ number. nat_le number largest_key) numbers ≡ true → numbers_at (length numbers) (flat_map number_text numbers ++ more) ≡ given numbers more
+numbers_read = many_read number_text (λ number. nat_le number largest_key) (number_at largest_key) numbers_at (λ text. refl) (λ n text. refl)
+    (λ n rest small. number_read largest_key n rest (omega arith) (grind (arith, nat_tests)))
 
 -- the parts of a page's text
 regroup : (a b c rest : List ℕ)
@@ -59,9 +59,9 @@ number_spelled high text n rest h =
     let argument = argument_spelled text t.x t.rest t.first in
     (told.0, argument.whole ∙ ap (λ (w : List ℕ). bulk w ++ t.rest) told.1 ∙ ap (λ (r : List ℕ). number_text n ++ r) told.2)
 
-numbers_spelled : (n : ℕ) (text numbers rest : List ℕ) → numbers_at n text ≡ given numbers rest → AreMany number_text (λ number. nat_le number largest_number) n text numbers rest
-numbers_spelled = many_spelled number_text (λ number. nat_le number largest_number) (number_at largest_number) numbers_at (λ text. refl) (λ n text. refl) (λ text n rest h.
-    let its = number_spelled largest_number text n rest h in
+numbers_spelled : (n : ℕ) (text numbers rest : List ℕ) → numbers_at n text ≡ given numbers rest → AreMany number_text (λ number. nat_le number largest_key) n text numbers rest
+numbers_spelled = many_spelled number_text (λ number. nat_le number largest_key) (number_at largest_key) numbers_at (λ text. refl) (λ n text. refl) (λ text n rest h.
+    let its = number_spelled largest_key text n rest h in
     (grind (arith, nat_tests, its.0), its.1))
 
 -- the cursor and the members of a page, and what follows them
@@ -70,7 +70,7 @@ record AreParts (text : List ℕ) (next : ℕ) (numbers rest : List ℕ) : Type 
   pub page : IsPage next numbers
 
 members_spelled : (text numbers rest : List ℕ) → members_at text ≡ given numbers rest
-    → (length numbers ≤ most_arguments) × (list_all (λ number. nat_le number largest_number) numbers ≡ true) × (text ≡ 42 ∷ (decimal (length numbers) ++ 13 ∷ 10 ∷ (flat_map number_text numbers ++ rest)))
+    → (length numbers ≤ most_arguments) × (list_all (λ number. nat_le number largest_key) numbers ≡ true) × (text ≡ 42 ∷ (decimal (length numbers) ++ 13 ∷ 10 ∷ (flat_map number_text numbers ++ rest)))
 members_spelled text numbers rest h =
     let t = then_value (heading_at text) numbers_at numbers rest h in
     let first = heading_spelled text t.x t.rest t.first in
@@ -125,7 +125,7 @@ stays_number high = stays_then argument_at (λ argument rest. counted (number_in
 stays_numbers : (n : ℕ) → Stays (numbers_at n)
 stays_numbers zero = stays_given []
 stays_numbers (suc n) =
-    stays_then (number_at largest_number) (λ number rest. and_then (numbers_at n rest) (λ numbers after. Ok (Some (number ∷ numbers, after)))) (stays_number largest_number)
+    stays_then (number_at largest_key) (λ number rest. and_then (numbers_at n rest) (λ numbers after. Ok (Some (number ∷ numbers, after)))) (stays_number largest_key)
     (λ number. stays_then (numbers_at n) (λ numbers after. Ok (Some (number ∷ numbers, after))) (stays_numbers n) (λ numbers. stays_given (number ∷ numbers)))
 
 stays_members : Stays members_at

@@ -1,16 +1,17 @@
 -- Worked queries.
 use Rattle.std.{proofs.Common.{◌≡◌, ◌≢◌, true, false, [], ◌∷◌, ◌++◌, refl, codes}, specs.Fmt.{digits}}
 use Rattle.lz_resp.specs.{Commands.{bad_syntax, item_of}, Frames.{bulk}}
-use Rattle.lz_resp.specs.Queries.{clients_text, ends_service, info_text, keyspace_text, lazyset_text, query_text, server_text, stats_text, version_text}
+use Rattle.lz_resp.specs.Queries.{clients_text, ends_service, info_text, keyspace_text, latency_text, lazyset_text, memory_text, query_text, server_text, stats_text, version_text}
 use Rattle.lz_resp.specs.declared.{figures.Figures.{Figures}, naming.Selected.TheVariants.{Room}, item.Item.TheVariants.{Says, Tells}}
-use Rattle.lz_resp.specs.declared.query.{Query.TheVariants.{Size, Info, Shutdown}, Sections.TheVariants.{All, Server, Clients, Missing}}
+use Rattle.lz_resp.specs.declared.query.{Query.TheVariants.{Size, Info, Shutdown}, Sections.TheVariants.{All, Server, Clients, Latencies, Memory, Missing}}
 
 asked :
     (item_of (Room 3) (codes "DbSize" ∷ []) ≡ Tells Size) × (item_of (Room 3) (codes "DBSIZE" ∷ codes "3" ∷ []) ≡ Says (codes "-ERR wrong number of arguments for 'dbsize' command\r\n"))
     × (item_of (Room 0) (codes "info" ∷ []) ≡ Tells (Info All)) × (item_of (Room 0) (codes "INFO" ∷ codes "Everything" ∷ []) ≡ Tells (Info All))
-    × (item_of (Room 0) (codes "INFO" ∷ codes "SERVER" ∷ []) ≡ Tells (Info Server)) × (item_of (Room 0) (codes "INFO" ∷ codes "memory" ∷ []) ≡ Tells (Info Missing))
+    × (item_of (Room 0) (codes "INFO" ∷ codes "SERVER" ∷ []) ≡ Tells (Info Server)) × (item_of (Room 0) (codes "INFO" ∷ codes "persistence" ∷ []) ≡ Tells (Info Missing))
+    × (item_of (Room 0) (codes "INFO" ∷ codes "memory" ∷ []) ≡ Tells (Info Memory)) × (item_of (Room 0) (codes "INFO" ∷ codes "LatencyStats" ∷ []) ≡ Tells (Info Latencies))
     × (item_of (Room 0) (codes "INFO" ∷ codes "server" ∷ codes "clients" ∷ []) ≡ Says (codes "-ERR wrong number of arguments for 'info' command\r\n"))
-asked = (refl, refl, refl, refl, refl, refl, refl)
+asked = (refl, refl, refl, refl, refl, refl, refl, refl, refl)
 
 shut_down :
     (item_of (Room 0) (codes "SHUTDOWN" ∷ []) ≡ Tells Shutdown) × (item_of (Room 0) (codes "SHUTDOWN" ∷ codes "nosave" ∷ []) ≡ Tells Shutdown)
@@ -30,12 +31,17 @@ seen = record {
   most_clients = 100;
   sessions = 9;
   answered = 14;
+  rate = 7;
+  median_us = 96;
+  p99_us = 1280;
   adds = 5;
   removes = 2;
   lookups = 4;
   full = 1;
   format = 2;
   slots = 10;
+  used_bytes = 48;
+  most_bytes = 160;
   members = 3;
   marks = 0;
   buckets = 16;
@@ -50,10 +56,12 @@ size = (refl, λ e. cc)
 
 told :
     info_text All seen ≡ codes "# Server\r\nredis_version:7.0.0\r\nredis_mode:standalone\r\nprocess_id:4711\r\nrun_id:0000000000000000000000001795810000123456\r\nuptime_in_seconds:60\r\n\r\n"
-    ++ codes "# Clients\r\nconnected_clients:2\r\nmaxclients:100\r\n\r\n# Stats\r\ntotal_connections_received:9\r\ntotal_commands_processed:14\r\n\r\n"
+    ++ codes "# Clients\r\nconnected_clients:2\r\nmaxclients:100\r\n\r\n# Memory\r\nused_memory:48\r\nmaxmemory:160\r\n\r\n"
+    ++ codes "# Stats\r\ntotal_connections_received:9\r\ntotal_commands_processed:14\r\ninstantaneous_ops_per_sec:7\r\n\r\n"
+    ++ codes "# Latencystats\r\nlatency_percentiles_usec_reply:p50=96,p99=1280\r\n\r\n"
     ++ codes "# Keyspace\r\ndb0:keys=3,expires=0,avg_ttl=0\r\n\r\n# Lazyset\r\nlazyset_version:1.8\r\nformat:2\r\nslots:10\r\nmembers:3\r\nfree:7\r\nbuckets:16\r\npasses:4\r\nloops:1\r\n"
     ++ codes "adds:5\r\nremoves:2\r\nlookups:4\r\nfull:1\r\n"
-unfolding digits server_text clients_text stats_text keyspace_text lazyset_text version_text
+unfolding digits server_text clients_text memory_text stats_text latency_text keyspace_text lazyset_text version_text
 told = refl
 
 sections :

@@ -6,7 +6,7 @@ use Rattle.lz_slot.specs.{Limits.{most_slots}, Numerals.{largest_read, number_in
 use Rattle.lz_proto.specs.{declared.request.Request.{Request, TheVariants.{Add, Remove, Has}}, Lines.{carriage_return, line_feed}}
 use Rattle.lz_resp.specs.{Limits.{few_listed, most_listed, most_value}, Frames.{bulk, line_end}, Keys.{Subset, key_of, of_name, room_of, unnamed}}
 use Rattle.lz_resp.specs.{Names.{command_of, is_name, name_of, sections_of, subcommand_of, subname_of, subtakes, takes}, declared.command.Command.{Command}}
-use Rattle.lz_resp.specs.declared.command.Command.TheVariants.{Sadd, Srem, Sismember, Smismember, Sscan, Exists, Del, Unlink, Setnx, Set, Select, Ping, Echo}
+use Rattle.lz_resp.specs.declared.command.Command.TheVariants.{Sadd, Srem, Sismember, Smismember, Sscan, LzScan, Exists, Del, Unlink, Setnx, Set, Select, Ping, Echo}
 use Rattle.lz_resp.specs.declared.command.Command.TheVariants.{Quit, Reset, Hello, Client, Catalog, Config, Dbsize, Info as AskInfo, Multi, Exec, Discard, Shutdown}
 use Rattle.lz_resp.specs.declared.subcommand.Subcommand.{Subcommand, TheVariants.{Getname, Setname, Setinfo, NoEvict, NoTouch, Count, Docs, Info, Get}}
 use Rattle.lz_resp.specs.declared.{form.Form.{Form, TheVariants.{Added, Removed, Found, Each, Stored}}, naming.Selected.{Selected}}
@@ -167,7 +167,7 @@ subtext_of Setname = ok_text
 subtext_of Setinfo = ok_text
 subtext_of NoEvict = ok_text
 subtext_of NoTouch = ok_text
-subtext_of Count = codes ":25\r\n"
+subtext_of Count = codes ":26\r\n"
 subtext_of Docs = no_arguments_text
 subtext_of Info = no_arguments_text
 subtext_of Get = no_arguments_text
@@ -192,26 +192,30 @@ is_saving argument = is_name (codes "nosave") argument || is_name (codes "save")
 abbrev pub may_shut_down : List (List ℕ) → Bool
 may_shut_down arguments = (length arguments == 1) || ((length arguments == 2) && is_saving (argument arguments 1))
 
--- a page of a room from a slot on, with so many keys at most
-abbrev pub page_of : ℕ → ℕ → Option ℕ → Item
+-- a page of a room, or of all, from a slot on, with so many keys at most
+abbrev pub page_of : Option ℕ → ℕ → Option ℕ → Item
 page_of room from None = Says no_number
 page_of room from (Some most) = if most == 0 then Says bad_syntax else Lists (record { room = room; from = from; most = min most most_listed })
 
--- the same, as many as the frame asks for, if it does
-abbrev pub page_from : ℕ → Option ℕ → List (List ℕ) → Item
-page_from room None arguments = Says bad_cursor
-page_from room (Some from) arguments =
-    if length arguments == 3 then page_of room from (Some few_listed)
-    else (if (length arguments == 5) && is_name (codes "count") (argument arguments 3) then page_of room from (number_in 0 largest_read (argument arguments 4)) else Says bad_syntax)
+-- the same, as many as the arguments after the cursor ask for, if they do
+abbrev pub page_from : Option ℕ → Option ℕ → List (List ℕ) → Item
+page_from room None options = Says bad_cursor
+page_from room (Some from) options =
+    if length options == 0 then page_of room from (Some few_listed)
+    else (if (length options == 2) && is_name (codes "count") (argument options 0) then page_of room from (number_in 0 largest_read (argument options 1)) else Says bad_syntax)
 
 abbrev pub page_in : Option ℕ → List (List ℕ) → Item
 page_in None arguments = Says no_room
-page_in (Some room) arguments = page_from room (number_in 0 most_slots (argument arguments 2)) arguments
+page_in (Some room) arguments = page_from (Some room) (number_in 0 most_slots (argument arguments 2)) (drop 3 arguments)
 
 -- what is asked of a room's members, one page after the other; a cursor is a slot
 abbrev pub scan_of : Selected → List (List ℕ) → Item
 scan_of (Room n) arguments = page_in (room_of (argument arguments 1)) arguments
 scan_of Nameless arguments = Says no_texts
+
+-- the same of the members of all rooms, whatever is selected
+abbrev pub scan_all_of : List (List ℕ) → Item
+scan_all_of arguments = page_from None (number_in 0 most_slots (argument arguments 1)) (drop 2 arguments)
 
 -- what a client is told that selects this room: texts are in database 0
 abbrev pub select_of : Selected → Option ℕ → Item
@@ -227,6 +231,7 @@ item_by Srem selected arguments = in_named Removed selected arguments
 item_by Sismember selected arguments = in_named Found selected arguments
 item_by Smismember selected arguments = in_named Each selected arguments
 item_by Sscan selected arguments = scan_of selected arguments
+item_by LzScan selected arguments = scan_all_of arguments
 item_by Exists selected arguments = in_unnamed Found selected (drop 1 arguments)
 item_by Del selected arguments = in_unnamed Removed selected (drop 1 arguments)
 item_by Unlink selected arguments = in_unnamed Removed selected (drop 1 arguments)

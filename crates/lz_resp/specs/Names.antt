@@ -2,7 +2,7 @@
 use Rattle.lz_resp.specs.declared.query.Sections.TheVariants as sections
 use Rattle.std.specs.Prelude.{ℕ, ◌==◌, ◌||◌, Bool, true, nat_eq, nat_le, if◌then◌else◌, List, [], ◌∷◌, codes, map, Option, None, Some}
 use Rattle.std.specs.{Char.{to_ascii_lowercase}, Cmp.Lexicographic.{pointwise}}
-use Rattle.lz_resp.specs.declared.command.Command.{Command, TheVariants.{Sadd, Srem, Sismember, Smismember, Sscan, Exists, Del, Unlink, Setnx, Set, Select}}
+use Rattle.lz_resp.specs.declared.command.Command.{Command, TheVariants.{Sadd, Srem, Sismember, Smismember, Sscan, LzScan, Exists, Del, Unlink, Setnx, Set, Select}}
 use Rattle.lz_resp.specs.declared.command.Command.TheVariants.{Ping, Echo, Quit, Reset, Hello, Client, Catalog, Config, Dbsize, Info as AskInfo, Multi, Exec, Discard, Shutdown}
 use Rattle.lz_resp.specs.declared.{query.Sections.{Sections}, subcommand.Subcommand.{Subcommand}}
 use Rattle.lz_resp.specs.declared.subcommand.Subcommand.TheVariants.{Getname, Setname, Setinfo, NoEvict, NoTouch, Count, Docs, Info, Get}
@@ -13,6 +13,7 @@ name_of Srem = codes "srem"
 name_of Sismember = codes "sismember"
 name_of Smismember = codes "smismember"
 name_of Sscan = codes "sscan"
+name_of LzScan = codes "lz.scan"
 name_of Exists = codes "exists"
 name_of Del = codes "del"
 name_of Unlink = codes "unlink"
@@ -36,7 +37,7 @@ name_of Shutdown = codes "shutdown"
 
 abbrev pub all_commands : List Command
 all_commands =
-    Sadd ∷ Srem ∷ Sismember ∷ Smismember ∷ Sscan ∷ Exists ∷ Del ∷ Unlink ∷ Setnx ∷ Set ∷ Select ∷ Ping ∷ Echo ∷ Quit ∷ Reset ∷ Hello ∷ Client ∷ Catalog ∷ Config ∷ Dbsize ∷ AskInfo ∷ Multi ∷ Exec ∷ Discard ∷ Shutdown ∷ []
+    Sadd ∷ Srem ∷ Sismember ∷ Smismember ∷ Sscan ∷ LzScan ∷ Exists ∷ Del ∷ Unlink ∷ Setnx ∷ Set ∷ Select ∷ Ping ∷ Echo ∷ Quit ∷ Reset ∷ Hello ∷ Client ∷ Catalog ∷ Config ∷ Dbsize ∷ AskInfo ∷ Multi ∷ Exec ∷ Discard ∷ Shutdown ∷ []
 
 -- the command takes a frame of so many arguments
 abbrev pub takes : Command → ℕ → Bool
@@ -45,6 +46,7 @@ takes Srem n = nat_le 3 n
 takes Sismember n = n == 3
 takes Smismember n = nat_le 3 n
 takes Sscan n = nat_le 3 n
+takes LzScan n = nat_le 2 n
 takes Exists n = nat_le 2 n
 takes Del n = nat_le 2 n
 takes Unlink n = nat_le 2 n
@@ -116,7 +118,9 @@ sections_of argument =
     if is_name (codes "default") argument || is_name (codes "all") argument || is_name (codes "everything") argument then sections.All
     else (if is_name (codes "server") argument then sections.Server
     else (if is_name (codes "clients") argument then sections.Clients
+    else (if is_name (codes "memory") argument then sections.Memory
     else (if is_name (codes "stats") argument then sections.Stats
+    else (if is_name (codes "latencystats") argument then sections.Latencies
     else (if is_name (codes "keyspace") argument then sections.Keyspace
     else (if is_name (codes "lazyset") argument then sections.Lazyset
-    else sections.Missing)))))
+    else sections.Missing)))))))

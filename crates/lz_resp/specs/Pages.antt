@@ -1,13 +1,13 @@
--- Pages of a room's members, as a client reads them.
+-- Pages of members, as a client reads them.
 use Rattle.std.specs.Prelude.{◌≡◌, ℕ, zero, suc, ◌==◌, ◌≤◌, if◌then◌else◌, List, [], ◌∷◌, ◌++◌, nat_le, true, IfSome, codes, decimal, filter, length, map}
 use Rattle.std.specs.{Prelude.{Option, None, Some, Ok, Err}, List.{flat_map, list_all}}
-use Rattle.lz_slot.specs.{Limits.{largest_number, most_slots}, Numerals.{number_in}, Rooms.{number_of}}
+use Rattle.lz_slot.specs.{Limits.{largest_key, most_slots}, Numerals.{number_in}}
 use Rattle.lz_resp.specs.{Frames.{bulk, line_end, star}, Limits.{most_listed, most_arguments}, Reading.{Front, and_then, line_at, argument_at}}
-use Rattle.lz_resp.specs.{Scans.{cursor_of, is_in, page_text}, declared.fault.Fault.{Fault, TheVariants.{Count}}}
+use Rattle.lz_resp.specs.{Scans.{cursor_of, is_in, page_text, told_of}, declared.fault.Fault.{Fault, TheVariants.{Count}}}
 
--- what asks for the page of a room from this cursor on
-abbrev pub request_text : ℕ → ℕ → List ℕ
-request_text room cursor = codes "SSCAN " ++ decimal room ++ codes " " ++ decimal cursor ++ codes " COUNT 256\r\n"
+-- what asks for the page of all rooms from this cursor on
+abbrev pub request_text : ℕ → List ℕ
+request_text cursor = codes "LZ.SCAN " ++ decimal cursor ++ codes " COUNT 256\r\n"
 
 -- a number as a bulk string
 abbrev pub number_text : ℕ → List ℕ
@@ -22,11 +22,11 @@ told_text next numbers =
 pub record IsPage (next : ℕ) (numbers : List ℕ) : Type 0 where
   pub cursor : next ≤ most_slots
   pub few : length numbers ≤ most_arguments
-  pub small : list_all (λ number. nat_le number largest_number) numbers ≡ true
+  pub small : list_all (λ number. nat_le number largest_key) numbers ≡ true
 
--- the numbers of those keys that are in the room
-abbrev pub numbers_in : ℕ → List ℕ → List ℕ
-numbers_in room keys = map number_of (filter (is_in room) keys)
+-- what is told of those keys that are in the room
+abbrev pub numbers_in : Option ℕ → List ℕ → List ℕ
+numbers_in room keys = map (told_of room) (filter (is_in room) keys)
 
 -- What is read. All faults are told alike: of what is no number, too.
 abbrev pub counted : Option ℕ → List ℕ → Front ℕ
@@ -50,7 +50,7 @@ number_at high text = and_then (argument_at text) (λ argument rest. counted (nu
 abbrev pub numbers_at : ℕ → List ℕ → Front (List ℕ)
 numbers_at zero text = Ok (Some ([], text))
 numbers_at (suc n) text =
-    and_then (number_at largest_number text) (λ number rest. and_then (numbers_at n rest) (λ numbers after. Ok (Some (number ∷ numbers, after))))
+    and_then (number_at largest_key text) (λ number rest. and_then (numbers_at n rest) (λ numbers after. Ok (Some (number ∷ numbers, after))))
 
 -- an array of numbers
 abbrev pub members_at : List ℕ → Front (List ℕ)
@@ -85,8 +85,9 @@ FaultsHaveNoPage =
     (text more rest numbers : List ℕ) (next : ℕ) (fault : Fault) → page_at text ≡ Err fault → IsPage next numbers
     → text ++ more ≡ told_text next numbers ++ rest → ⊥
 
--- What the service tells of a page is read as the cursor and the room's members.
+-- What the service tells of a page is read as the cursor and the room's members, or all members by their ranks.
 abbrev pub PagesAreToldAndRead : Type 0
 PagesAreToldAndRead =
-    (room : ℕ) (keys rest : List ℕ) (next : Option ℕ) → length keys ≤ most_listed → IfSome next (λ slot. slot ≤ most_slots)
+    (room : Option ℕ) (keys rest : List ℕ) (next : Option ℕ) → length keys ≤ most_listed → IfSome next (λ slot. slot ≤ most_slots)
+    → (room ≡ None → list_all (λ key. nat_le key largest_key) keys ≡ true)
     → page_at (page_text room keys next ++ rest) ≡ Ok (Some ((cursor_of next, numbers_in room keys), rest))

@@ -2,7 +2,7 @@
 use Rattle.std.specs.{Prelude.{ℕ, ◌-◌, ◌==◌, Bool, false, if◌then◌else◌, List, [], ◌∷◌, ◌++◌, length, drop, codes, decimal}, List.{flat_map}}
 use Rattle.lz_resp.specs.{Commands.{error}, Frames.{bulk, line_end}, Replies.{integer}, declared.{figures.Figures.{Figures}, query.Query.{Query}}}
 use Rattle.lz_resp.specs.declared.query.{Query.TheVariants.{Size, Info, Shutdown}, Sections.{Sections}}
-use Rattle.lz_resp.specs.declared.query.Sections.TheVariants.{All, Server, Clients, Stats, Keyspace, Lazyset, Missing}
+use Rattle.lz_resp.specs.declared.query.Sections.TheVariants.{All, Server, Clients, Memory, Stats, Latencies, Keyspace, Lazyset, Missing}
 
 -- a line of a name and its number
 abbrev pub row : List ℕ → ℕ → List ℕ
@@ -21,8 +21,17 @@ server_text f =
 unfoldable pub clients_text : Figures → List ℕ
 clients_text f = codes "# Clients\r\n" ++ row (codes "connected_clients") f.clients ++ row (codes "maxclients") f.most_clients
 
+-- a share of this memory is the share of the slots that aren't free
+unfoldable pub memory_text : Figures → List ℕ
+memory_text f = codes "# Memory\r\n" ++ row (codes "used_memory") f.used_bytes ++ row (codes "maxmemory") f.most_bytes
+
 unfoldable pub stats_text : Figures → List ℕ
-stats_text f = codes "# Stats\r\n" ++ row (codes "total_connections_received") f.sessions ++ row (codes "total_commands_processed") f.answered
+stats_text f =
+    codes "# Stats\r\n" ++ row (codes "total_connections_received") f.sessions ++ row (codes "total_commands_processed") f.answered
+    ++ row (codes "instantaneous_ops_per_sec") f.rate
+
+unfoldable pub latency_text : Figures → List ℕ
+latency_text f = codes "# Latencystats\r\nlatency_percentiles_usec_reply:p50=" ++ decimal f.median_us ++ codes ",p99=" ++ decimal f.p99_us ++ line_end
 
 -- members of all rooms together; nothing of none
 unfoldable pub keyspace_text : Figures → List ℕ
@@ -39,15 +48,23 @@ version_text f = codes "lazyset_version:" ++ decimal f.major ++ codes "." ++ dec
 unfoldable pub lazyset_text : Figures → List ℕ
 lazyset_text f = codes "# Lazyset\r\n" ++ version_text f ++ flat_map (λ r. row r.0 r.1) (lazyset_rows f)
 
--- an empty line stands between two sections
+-- an empty line stands between two sections: of those on its state, and of those on its load and its set
+abbrev pub state_text : Figures → List ℕ
+state_text f = server_text f ++ line_end ++ clients_text f ++ line_end ++ memory_text f
+
+abbrev pub load_text : Figures → List ℕ
+load_text f = stats_text f ++ line_end ++ latency_text f ++ line_end ++ keyspace_text f ++ line_end ++ lazyset_text f
+
 abbrev pub all_text : Figures → List ℕ
-all_text f = server_text f ++ line_end ++ clients_text f ++ line_end ++ stats_text f ++ line_end ++ keyspace_text f ++ line_end ++ lazyset_text f
+all_text f = state_text f ++ line_end ++ load_text f
 
 abbrev pub info_text : Sections → Figures → List ℕ
 info_text All f = all_text f
 info_text Server f = server_text f
 info_text Clients f = clients_text f
+info_text Memory f = memory_text f
 info_text Stats f = stats_text f
+info_text Latencies f = latency_text f
 info_text Keyspace f = keyspace_text f
 info_text Lazyset f = lazyset_text f
 info_text Missing f = []

@@ -18,8 +18,12 @@ pub struct Figures {
     pub clients: usize,
     pub most_clients: usize,
     pub sessions: usize,
-    /// How many requests were answered.
+    /// How many requests were answered, and how many in a second lately.
     pub answered: usize,
+    pub rate: usize,
+    /// Within how many microseconds half of the replies were given, and 99 of 100.
+    pub median_us: usize,
+    pub p99_us: usize,
     /// How many of these added a key, removed one, looked one up, and found no slot free.
     pub adds: usize,
     pub removes: usize,
@@ -28,6 +32,9 @@ pub struct Figures {
     /// The number of its file's format.
     pub format: usize,
     pub slots: usize,
+    /// How many bytes of it hold members and marks, and how many its slots have.
+    pub used_bytes: usize,
+    pub most_bytes: usize,
     pub members: usize,
     /// How many slots hold marks, which say what the file is for and are no members.
     pub marks: usize,

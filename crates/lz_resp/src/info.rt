@@ -1,7 +1,7 @@
 //! What a service tells of itself.
 ghost use Rattle.std.specs.Prelude.{◌≡◌, ◌++◌, ◌-◌, IfOk, OnOk};
 ghost use Rattle.std.specs.List.{flat_map};
-ghost use Rattle.lz_resp.specs.Queries.{all_text, clients_text, info_text, keyspace_text, lazyset_text, row, run_text, server_text, stats_text, version_text};
+ghost use Rattle.lz_resp.specs.Queries.{all_text, clients_text, info_text, keyspace_text, latency_text, lazyset_text, load_text, memory_text, row, run_text, server_text, state_text, stats_text, version_text};
 
 use crate::figures::Figures;
 use crate::query::Sections;
@@ -25,7 +25,9 @@ pub(crate) fn info(
         Sections::All => push_all(&mut text, figures)?,
         Sections::Server => push_server(&mut text, figures)?,
         Sections::Clients => push_clients(&mut text, figures)?,
+        Sections::Memory => push_memory(&mut text, figures)?,
         Sections::Stats => push_stats(&mut text, figures)?,
+        Sections::Latencies => push_latency(&mut text, figures)?,
         Sections::Keyspace => push_keyspace(&mut text, figures)?,
         Sections::Lazyset => push_lazyset(&mut text, figures)?,
         Sections::Missing => {}
@@ -36,11 +38,27 @@ pub(crate) fn info(
 fn push_all(text: &mut Vec<u8>, figures: &Figures) -> Result<(), AllocError>
     ensures { OnOk result (text.new.items ≡ text.old.items ++ all_text figures.now) }
 {
+    push_state(text, figures)?;
+    text.extend_from_slice(b"\r\n")?;
+    push_load(text, figures)
+}
+
+fn push_state(text: &mut Vec<u8>, figures: &Figures) -> Result<(), AllocError>
+    ensures { OnOk result (text.new.items ≡ text.old.items ++ state_text figures.now) }
+{
     push_server(text, figures)?;
     text.extend_from_slice(b"\r\n")?;
     push_clients(text, figures)?;
     text.extend_from_slice(b"\r\n")?;
+    push_memory(text, figures)
+}
+
+fn push_load(text: &mut Vec<u8>, figures: &Figures) -> Result<(), AllocError>
+    ensures { OnOk result (text.new.items ≡ text.old.items ++ load_text figures.now) }
+{
     push_stats(text, figures)?;
+    text.extend_from_slice(b"\r\n")?;
+    push_latency(text, figures)?;
     text.extend_from_slice(b"\r\n")?;
     push_keyspace(text, figures)?;
     text.extend_from_slice(b"\r\n")?;
@@ -68,13 +86,35 @@ fn push_clients(text: &mut Vec<u8>, figures: &Figures) -> Result<(), AllocError>
     push_row(text, "maxclients", figures.most_clients)
 }
 
-#[tactic(auto, unfolding(crate::specs::Queries::stats_text))]
+#[tactic(auto, unfolding(crate::specs::Queries::memory_text))]
+fn push_memory(text: &mut Vec<u8>, figures: &Figures) -> Result<(), AllocError>
+    ensures { OnOk result (text.new.items ≡ text.old.items ++ memory_text figures.now) }
+{
+    text.extend_from_slice(b"# Memory\r\n")?;
+    push_row(text, "used_memory", figures.used_bytes)?;
+    push_row(text, "maxmemory", figures.most_bytes)
+}
+
 fn push_stats(text: &mut Vec<u8>, figures: &Figures) -> Result<(), AllocError>
     ensures { OnOk result (text.new.items ≡ text.old.items ++ stats_text figures.now) }
 {
     text.extend_from_slice(b"# Stats\r\n")?;
     push_row(text, "total_connections_received", figures.sessions)?;
-    push_row(text, "total_commands_processed", figures.answered)
+    push_row(text, "total_commands_processed", figures.answered)?;
+    push_row(text, "instantaneous_ops_per_sec", figures.rate)?;
+    Ok(())
+}
+
+#[tactic(auto, unfolding(crate::specs::Queries::latency_text))]
+fn push_latency(text: &mut Vec<u8>, figures: &Figures) -> Result<(), AllocError>
+    ensures { OnOk result (text.new.items ≡ text.old.items ++ latency_text figures.now) }
+{
+    text.extend_from_slice(b"# Latencystats\r\nlatency_percentiles_usec_reply:p50=")?;
+    push_number(text, figures.median_us)?;
+    text.extend_from_slice(b",p99=")?;
+    push_number(text, figures.p99_us)?;
+    text.extend_from_slice(b"\r\n")?;
+    Ok(())
 }
 
 #[tactic(auto, unfolding(crate::specs::Queries::keyspace_text))]

@@ -44,4 +44,5 @@ pub use page::{Page, page_request, read_page};
 pub use query::{Query, Sections};
 pub use reply::{has_halted, push_reply};
 pub use scan::Scan;
+pub use subset::text_number;
 pub use text::Text;

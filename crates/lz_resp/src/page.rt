@@ -1,4 +1,4 @@
-//! Pages of a room's members, as a client reads them.
+//! Pages of members, as a client reads them.
 ghost use Rattle.std.specs.Prelude.{◌≡◌, ◌≤◌, ◌++◌, IfOk, IfSome, OnOk, decimal, length};
 ghost use Rattle.lz_resp.specs.Pages.{count_at, heading_at, members_at, number_at, numbers_at, page_at, parts_at, request_text};
 ghost use Rattle.lz_resp.specs.Reading.{Gives, seen};
@@ -8,7 +8,7 @@ use crate::limits::MOST_ARGUMENTS;
 use crate::reading::{read_argument, read_line};
 use crate::text::Text;
 use itoa::Buffer;
-use lz_slot::{MAX_NUMBER, MOST_SLOTS, read_number};
+use lz_slot::{MAX_RANK, MOST_SLOTS, read_number};
 use std::alloc::{AllocError, Global};
 
 /// A page that was told.
@@ -16,17 +16,15 @@ use std::alloc::{AllocError, Global};
 pub struct Page {
     /// The cursor to go on with: 0 at the end.
     pub next: u64,
-    /// The numbers of its members.
+    /// What is told of its members: their ranks, where they may be of any room.
     pub numbers: Vec<u64>,
 }
 
-/// What asks for the page of a room from this cursor on: one of as many keys as a page may have.
-pub fn page_request(alloc: Global, room: u8, cursor: u64) -> Result<Text, AllocError>
-    ensures { IfOk result (λ text. text ≡ request_text room cursor) }
+/// What asks for the page of all rooms from this cursor on: one of as many keys as a page may have.
+pub fn page_request(alloc: Global, cursor: u64) -> Result<Text, AllocError>
+    ensures { IfOk result (λ text. text ≡ request_text cursor) }
 {
-    let mut text = Vec::from_slice(alloc, b"SSCAN ")?;
-    push_plain(&mut text, u64::from(room))?;
-    text.extend_from_slice(b" ")?;
+    let mut text = Vec::from_slice(alloc, b"LZ.SCAN ")?;
     push_plain(&mut text, cursor)?;
     text.extend_from_slice(b" COUNT 256\r\n")?;
     Ok(Text::new(text))
@@ -87,7 +85,7 @@ fn read_numbers(alloc: Global, count: u64, text: &[u8]) -> Result<Option<(Vec<u6
     let mut numbers = Vec::new(alloc);
     let mut rest = text;
     'bulks: for _ in 0..count {
-        let Some((number, after)) = read_told(MAX_NUMBER, rest)? else {
+        let Some((number, after)) = read_told(MAX_RANK, rest)? else {
             return Ok(None);
         };
         numbers.push(number)?;

@@ -16,7 +16,9 @@ pub enum Sections {
     All,
     Server,
     Clients,
+    Memory,
     Stats,
+    Latencies,
     Keyspace,
     Lazyset,
     /// One that isn't there.
@@ -40,8 +42,14 @@ impl Sections {
         if is_name(b"clients", argument) {
             return Sections::Clients;
         }
+        if is_name(b"memory", argument) {
+            return Sections::Memory;
+        }
         if is_name(b"stats", argument) {
             return Sections::Stats;
+        }
+        if is_name(b"latencystats", argument) {
+            return Sections::Latencies;
         }
         if is_name(b"keyspace", argument) {
             return Sections::Keyspace;

@@ -1,18 +1,19 @@
-//! Pages of a room's members.
+//! Pages of the members of a room, or of all rooms.
 ghost use Rattle.std.specs.Prelude.{◌≡◌, ◌++◌, IfOk, OnOk, count_by, decimal};
 ghost use Rattle.std.specs.List.{flat_map};
 ghost use Rattle.lz_resp.specs.Frames.{bulk};
-ghost use Rattle.lz_resp.specs.Scans.{cursor_of, is_in, member_text, page_text};
+ghost use Rattle.lz_resp.specs.Scans.{cursor_of, is_in, member_text, page_text, told_of};
 
 use crate::text::{Text, push_bulk, push_number};
 use itoa::Buffer;
 use lz_slot::{Key, Slot};
 use std::alloc::{AllocError, Global};
 
-/// A page of a room's members that is asked for.
+/// A page of members that is asked for.
 #[derive(Clone, Copy, Debug, PartialEq, Eq)]
 pub struct Scan {
-    pub room: u8,
+    /// Of which room they are; none for all rooms, whose keys are told by their ranks.
+    pub room: Option<u8>,
     /// The slot from which it goes on.
     pub from: Slot,
     /// How many keys it has at most, those of other rooms counted.
@@ -44,20 +45,23 @@ fn cursor_of(next: Option<Slot>) -> u64
     }
 }
 
-fn count_in(room: u8, keys: &[Key]) -> usize
+fn count_in(room: Option<u8>, keys: &[Key]) -> usize
     ensures { result ≡ count_by (is_in room) keys.now }
 {
     keys.iter().filter(|key| is_in(room, **key)).count()
 }
 
-fn is_in(room: u8, key: Key) -> bool
+fn is_in(room: Option<u8>, key: Key) -> bool
     ensures { result ≡ is_in room key }
 {
-    key.room() == room
+    match room {
+        Some(room) => key.room() == room,
+        None => true,
+    }
 }
 
-// The numbers of those keys that are in the room.
-fn push_members(text: &mut Vec<u8>, room: u8, keys: &[Key]) -> Result<(), AllocError>
+// What is told of those keys that are in the room.
+fn push_members(text: &mut Vec<u8>, room: Option<u8>, keys: &[Key]) -> Result<(), AllocError>
     ensures { OnOk result (text.new.items ≡ text.old.items ++ flat_map (member_text room) keys.now) }
 {
     for key in keys {
@@ -66,13 +70,23 @@ fn push_members(text: &mut Vec<u8>, room: u8, keys: &[Key]) -> Result<(), AllocE
     Ok(())
 }
 
-fn push_member(text: &mut Vec<u8>, room: u8, key: Key) -> Result<(), AllocError>
+fn push_member(text: &mut Vec<u8>, room: Option<u8>, key: Key) -> Result<(), AllocError>
     ensures { OnOk result (text.new.items ≡ text.old.items ++ member_text room key) }
 {
     if !is_in(room, key) {
         return Ok(());
     }
-    push_decimal(text, key.get())
+    push_decimal(text, told_of(room, key))
+}
+
+// By which number a key is told.
+fn told_of(room: Option<u8>, key: Key) -> u64
+    ensures { result ≡ told_of room key }
+{
+    match room {
+        Some(_) => key.get(),
+        None => key.rank(),
+    }
 }
 
 // A number's decimal as a bulk string.

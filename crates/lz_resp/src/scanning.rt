@@ -1,8 +1,10 @@
-//! What a frame asks of a room's members.
+//! What a frame asks of the members of a room, or of all rooms.
 ghost use Rattle.std.specs.Prelude.{◌≡◌, ◌≤◌, IfOk, Some, length, map};
-ghost use Rattle.lz_resp.specs.Commands.{page_from, page_of, scan_of};
+ghost use Rattle.lz_slot.specs.Limits.{most_slots};
+ghost use Rattle.lz_slot.specs.Numerals.{number_in};
+ghost use Rattle.lz_resp.specs.Commands.{page_from, page_of, scan_all_of, scan_of};
 
-use crate::arguments::argument;
+use crate::arguments::{after, argument};
 use crate::command::is_name;
 use crate::errors::no_room;
 use crate::item::Item;
@@ -29,24 +31,37 @@ pub(crate) fn scan(
     let Some(room) = room_of(argument(arguments, 1)) else {
         return Ok(Item::Says(no_room(alloc)?));
     };
-    let Some(from) = read_number(argument(arguments, 2), 0, MOST_SLOTS) else {
-        return Ok(Item::Says(error(alloc, b"invalid cursor")?));
-    };
-    page_from(alloc, room, Slot::new(from as u32), arguments)
+    page_from(alloc, Some(room), argument(arguments, 2), after(arguments, 3))
 }
 
-// A page from a slot on.
-fn page_from(alloc: Global, room: u8, from: Slot, arguments: &[&[u8]]) -> Result<Item, AllocError>
-    requires { 3 ≤ length arguments.now }
-    ensures { IfOk result (λ item. item ≡ page_from room (Some from) (map (λ argument. argument.now) arguments.now)) }
+/// A page of all rooms.
+pub(crate) fn scan_all(alloc: Global, arguments: &[&[u8]]) -> Result<Item, AllocError>
+    requires { 2 ≤ length arguments.now }
+    ensures { IfOk result (λ item. item ≡ scan_all_of (map (λ argument. argument.now) arguments.now)) }
 {
-    if arguments.len() == 3 {
+    page_from(alloc, None, argument(arguments, 1), after(arguments, 2))
+}
+
+// A page from a cursor on, with as many keys as the arguments after it ask for.
+fn page_from(
+    alloc: Global,
+    room: Option<u8>,
+    cursor: &[u8],
+    options: &[&[u8]],
+) -> Result<Item, AllocError>
+    ensures { IfOk result (λ item. item ≡ page_from room (number_in 0 most_slots cursor.now) (map (λ argument. argument.now) options.now)) }
+{
+    let Some(from) = read_number(cursor, 0, MOST_SLOTS) else {
+        return Ok(Item::Says(error(alloc, b"invalid cursor")?));
+    };
+    let from = Slot::new(from as u32);
+    if options.is_empty() {
         return page_of(alloc, room, from, FEW_LISTED);
     }
-    if arguments.len() != 5 || !is_name(b"count", argument(arguments, 3)) {
+    if options.len() != 2 || !is_name(b"count", argument(options, 0)) {
         return Ok(Item::Says(error(alloc, b"syntax error")?));
     }
-    match read_number(argument(arguments, 4), 0, u64::MAX) {
+    match read_number(argument(options, 1), 0, u64::MAX) {
         Some(most) => page_of(alloc, room, from, most),
         None => {
             let text = error(alloc, b"value is not an integer or out of range")?;
@@ -56,7 +71,7 @@ fn page_from(alloc: Global, room: u8, from: Slot, arguments: &[&[u8]]) -> Result
 }
 
 // A page of so many keys at most.
-fn page_of(alloc: Global, room: u8, from: Slot, most: u64) -> Result<Item, AllocError>
+fn page_of(alloc: Global, room: Option<u8>, from: Slot, most: u64) -> Result<Item, AllocError>
     ensures { IfOk result (λ item. item ≡ page_of room from (Some most)) }
 {
     if most == 0 {

@@ -29,9 +29,10 @@ impl<'t> Subset<'t> {
     }
 }
 
-// The number in room 0 of a name's member.
+/// The number in room 0 that stands for a member of the set of this name, both of any bytes: the first eight bytes of SHA-256 over the name's
+/// length (in eight bytes), the name and the member, as a big-endian number, modulo 10^18.
 #[inline(never)]
-fn text_number(name: &[u8], member: &[u8]) -> u64
+pub fn text_number(name: &[u8], member: &[u8]) -> u64
     ensures number { result ≡ text_number name.now member.now }
     ensures range { result ≤ largest_number }
 {

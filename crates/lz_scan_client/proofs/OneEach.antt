@@ -1,10 +1,10 @@
 -- Keys that are told, each kept once.
 use Rattle.std.proofs.Common.{◌≡◌, ◌≢◌, ℕ, suc, ◌+◌, ◌<◌, ◌≤◌, inl, inr, List, [], ◌∷◌, ◌++◌, length, take, get_or, true, false, Option, Some, None, refl, sym}
 use Rattle.std.proofs.{Common.{ap, subst, ◌∙◌, arith, append_assoc}, Math.Seq.{take-suc}, lemmas.Bool.{eq-eqb, Decides.{nat_tests}}}
-use Rattle.std.proofs.lemmas.{Grind.{common_steps, elements}, List.{map-append, Elements.{All-nil, All-push}, Folds.{list_any-append}}}
+use Rattle.std.proofs.lemmas.{Grind.{common_steps, elements}, List.{Elements.{All-nil, All-push}, Folds.{list_any-append}}}
 use Rattle.std.{proofs.lemmas.Map.Keys.{IsDistinct-push}, specs.{Prelude.{map, nat_eq, ◌||◌, ◌==◌, is_some, MatchOption}, Cmp.{nat_eq_equiv}}}
 use Rattle.std.specs.List.{IsDistinct, list_any}
-use Rattle.lz_slot.specs.{Limits.{largest_key}, Rooms.{rank}, Sets.{members}}
+use Rattle.lz_slot.specs.{Limits.{largest_key}, Sets.{members}}
 use Rattle.lz_scan_client.specs.Told.{AddsOnce, AreOnce}
 
 pub none_twice : IsDistinct nat_eq []
@@ -35,16 +35,14 @@ told_more told old new k are (inr (none, fits, is)) = subst (λ (ks : List ℕ).
   fit = All-push (λ j. j ≤ largest_key) old k are.fit fits;
 })
 
--- the numbers of a room's keys, one more of which was told
-pub numbers_more : (room d : ℕ) (numbers told old new : List ℕ) (i : ℕ) → i < length numbers → AreOnce (told ++ map (rank room) (take i numbers)) old → AddsOnce (rank room (get_or numbers i d)) old new
-    → AreOnce (told ++ map (rank room) (take (i + 1) numbers)) new
-numbers_more room d numbers told old new i low are adds =
-    let front = map (rank room) (take i numbers) in
-    let k = rank room (get_or numbers i d) in
+-- the keys of a page, one more of which was told
+pub keys_more : (d : ℕ) (page told old new : List ℕ) (i : ℕ) → i < length page → AreOnce (told ++ take i page) old → AddsOnce (get_or page i d) old new → AreOnce (told ++ take (i + 1) page) new
+keys_more d page told old new i low are adds =
+    let front = take i page in
+    let k = get_or page i d in
     let next : i + 1 ≡ suc i = omega arith in
-    let whole : told ++ map (rank room) (take (i + 1) numbers) ≡ (told ++ front) ++ k ∷ [] =
-    ap (λ (ns : List ℕ). told ++ map (rank room) ns) (ap (λ (n : ℕ). take n numbers) next ∙ take-suc numbers i d low) ∙ ap (λ (ks : List ℕ). told ++ ks) (map-append (rank room) (take i numbers) (get_or numbers i d ∷ []))
-    ∙ sym (append_assoc told front (k ∷ [])) in
+    let whole : told ++ take (i + 1) page ≡ (told ++ front) ++ k ∷ [] =
+    ap (λ (ks : List ℕ). told ++ ks) (ap (λ (n : ℕ). take n page) next ∙ take-suc page i d low) ∙ sym (append_assoc told front (k ∷ [])) in
     subst (λ (ts : List ℕ). AreOnce ts new) (sym whole) (told_more (told ++ front) old new k are adds)
 
 -- a key that stands somewhere among some is one of them, and one that stands nowhere isn't

@@ -1,3 +1,4 @@
 pub mod Told
 pub mod Scanning
+pub mod Scans
 pub mod Shapes

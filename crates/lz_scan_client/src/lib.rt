@@ -8,5 +8,5 @@ mod shape;
 mod told;
 
 pub use fault::ScanFault;
-pub use scanning::scan_rooms;
+pub use scanning::{ToldKeys, scan_rooms};
 pub use shape::{Shape, ask_shape};

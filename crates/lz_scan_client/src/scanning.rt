@@ -1,37 +1,48 @@
-//! The scan of all rooms of a service.
-ghost use Rattle.std.specs.Prelude.{◌≡◌, ◌+◌, [], IfOk, OnOk, Some, map, true};
+//! The scan of a service.
+ghost use Rattle.std.specs.Prelude.{◌≡◌, ◌≤◌, ◌<◌, ℕ, [], IfOk, None, Ok, OnOk, Option, Some, false, length, map, true};
 ghost use Rattle.std.specs.Io.KnownBytes.{Appends};
 ghost use Rattle.lz_judge.specs.Places.{IsTable};
 ghost use Rattle.lz_resp.specs.Pages.{request_text};
-ghost use Rattle.lz_scan_client.specs.Scanning.{GoesTo, IsScan, LeadsOn, cursor_after, unread};
+ghost use Rattle.lz_scan_client.specs.Scanning.{GoesTo, LeadsOn, cursor_after, unread};
+ghost use Rattle.lz_scan_client.specs.Scans.{IsToldBy};
 
 use crate::fault::ScanFault;
 use crate::replies::Replies;
 use crate::told::Told;
 use lz_proto::send;
 use lz_resp::page_request;
-use lz_slot::{Key, LAST_ROOM};
+use lz_slot::Key;
 use std::alloc::Global;
 use std::io::{Read, Write};
 
-/// Scans each room of a service to its end, over a connection that it writes to and reads from, and gives the keys that it was told,
-/// each once. The next page is asked for once the last one was read. It ends, whatever the service tells: a page that doesn't lead on is a
-/// faulty reply, and so are more keys than any set has.
+/// What a scan was told.
+#[derive(Drop)]
+pub enum ToldKeys {
+    /// All keys, each once.
+    All(Vec<Key>),
+    /// More than it takes: so many, and perhaps others.
+    More(u64),
+}
+
+/// Scans all rooms of a service, over a connection that it writes to and reads from, to the end or until it was told more than `most` keys.
+/// The next page is asked for once the last one was read. It ends, whatever the service tells: a page that doesn't lead on is a faulty reply.
 pub fn scan_rooms<R: Read, W: Write>(
     alloc: Global,
     reader: &mut R,
     writer: &mut W,
-) -> Result<Vec<Key>, ScanFault>
-    ensures { IfOk result (λ keys. IsScan (R.remaining reader.old) (W.contents writer.old) (W.contents writer.new) keys.items) }
+    most: u64,
+) -> Result<ToldKeys, ScanFault>
+    ensures { IfOk result (λ told. IsToldBy (R.remaining reader.old) (W.contents writer.old) (W.contents writer.new) most told) }
 {
     let mut progress = Progress::new(alloc);
-    'rooms: for room in 0..LAST_ROOM + 1 {
-        if let Err(fault) = progress.scan_room(reader, writer, room) {
-            return Err(fault);
+    match progress.scan(reader, writer, most) {
+        Ok(true) => {
+            let Progress { told, .. } = progress;
+            Ok(ToldKeys::All(told.keys))
         }
+        Ok(false) => Ok(ToldKeys::More(progress.told.keys.len() as u64)),
+        Err(fault) => Err(fault),
     }
-    let Progress { told, .. } = progress;
-    Ok(told.keys)
 }
 
 // How far a scan has come.
@@ -54,27 +65,33 @@ impl Progress {
         }
     }
 
-    // Scans a room to its end.
-    fn scan_room<R: Read, W: Write>(
+    // Scans to the end, or until more keys were told, and says whether it came to the end.
+    fn scan<R: Read, W: Write>(
         &mut self,
         reader: &mut R,
         writer: &mut W,
-        room: u8,
-    ) -> Result<(), ScanFault>
+        most: u64,
+    ) -> Result<bool, ScanFault>
         requires { IsTable (map Some self.old.told.keys.items) self.old.told.seen }
-        ensures seen { OnOk result (IsTable (map Some self.new.told.keys.items) self.new.told.seen) }
-        ensures goes { OnOk result (GoesTo room (Some 0) (unread self.old.replies (R.remaining reader.old)) (W.contents writer.old) self.old.told.keys.items
-            (room + 1) (Some 0) (unread self.new.replies (R.remaining reader.new)) (W.contents writer.new) self.new.told.keys.items) }
+        ensures ended { result ≡ Ok true → GoesTo (Some 0) (unread self.old.replies (R.remaining reader.old)) (W.contents writer.old) self.old.told.keys.items
+            None (unread self.new.replies (R.remaining reader.new)) (W.contents writer.new) self.new.told.keys.items }
+        ensures few { result ≡ Ok true → length self.new.told.keys.items ≤ most }
+        ensures goes { result ≡ Ok false → (cursor : Option ℕ) × GoesTo (Some 0) (unread self.old.replies (R.remaining reader.old)) (W.contents writer.old) self.old.told.keys.items
+            cursor (unread self.new.replies (R.remaining reader.new)) (W.contents writer.new) self.new.told.keys.items }
+        ensures many { result ≡ Ok false → most < length self.new.told.keys.items }
     {
         let mut cursor = 0;
         // A loop is proved to end, so this one counts its pages.
         'pages: for _ in 0..u64::MAX {
-            let next = match self.next_page(reader, writer, room, cursor) {
+            let next = match self.next_page(reader, writer, cursor) {
                 Ok(next) => next,
                 Err(fault) => return Err(fault),
             };
+            if self.told.keys.len() as u64 > most {
+                return Ok(false);
+            }
             if next == 0 {
-                return Ok(());
+                return Ok(true);
             }
             cursor = next;
         }
@@ -86,15 +103,14 @@ impl Progress {
         &mut self,
         reader: &mut R,
         writer: &mut W,
-        room: u8,
         cursor: u64,
     ) -> Result<u64, ScanFault>
         requires { IsTable (map Some self.old.told.keys.items) self.old.told.seen }
         ensures seen { OnOk result (IsTable (map Some self.new.told.keys.items) self.new.told.seen) }
-        ensures goes { IfOk result (λ next. GoesTo room (Some cursor) (unread self.old.replies (R.remaining reader.old)) (W.contents writer.old) self.old.told.keys.items
-            room (cursor_after next) (unread self.new.replies (R.remaining reader.new)) (W.contents writer.new) self.new.told.keys.items) }
+        ensures goes { IfOk result (λ next. GoesTo (Some cursor) (unread self.old.replies (R.remaining reader.old)) (W.contents writer.old) self.old.told.keys.items
+            (cursor_after next) (unread self.new.replies (R.remaining reader.new)) (W.contents writer.new) self.new.told.keys.items) }
     {
-        if let Err(fault) = ask(self.alloc, writer, room, cursor) {
+        if let Err(fault) = ask(self.alloc, writer, cursor) {
             return Err(fault);
         }
         let page = match self.replies.page(reader) {
@@ -104,7 +120,7 @@ impl Progress {
         if !leads_on(cursor, page.next) {
             return Err(ScanFault::Reply);
         }
-        match self.told.add_all(room, page.numbers.as_slice()) {
+        match self.told.add_all(page.numbers.as_slice()) {
             Ok(()) => Ok(page.next),
             Err(fault) => Err(fault),
         }
@@ -119,10 +135,10 @@ fn leads_on(cursor: u64, next: u64) -> bool
 }
 
 // Sends the request for a page.
-fn ask<W: Write>(alloc: Global, writer: &mut W, room: u8, cursor: u64) -> Result<(), ScanFault>
-    ensures { OnOk result (Appends (W.contents writer.old) (W.contents writer.new) (request_text room cursor)) }
+fn ask<W: Write>(alloc: Global, writer: &mut W, cursor: u64) -> Result<(), ScanFault>
+    ensures { OnOk result (Appends (W.contents writer.old) (W.contents writer.new) (request_text cursor)) }
 {
-    let Ok(request) = page_request(alloc, room, cursor) else {
+    let Ok(request) = page_request(alloc, cursor) else {
         return Err(ScanFault::Memory);
     };
     match send(writer, request.as_bytes()) {

@@ -1,13 +1,11 @@
 //! The keys that were told, each once.
-ghost use Rattle.std.specs.Prelude.{◌≡◌, ◌≤◌, ◌⊎◌, ◌++◌, [], ℕ, List, OnOk, Some, length, map};
-ghost use Rattle.lz_slot.specs.Limits.{most_slots};
-ghost use Rattle.lz_slot.specs.Rooms.{rank};
+ghost use Rattle.std.specs.Prelude.{◌≡◌, ◌++◌, [], ℕ, List, OnOk, Some, map};
 ghost use Rattle.lz_judge.specs.Places.{IsTable};
 ghost use Rattle.lz_scan_client.specs.Told.{AddsOnce, AreOnce};
 
 use crate::fault::ScanFault;
 use lz_judge::Places;
-use lz_slot::{Key, MOST_SLOTS};
+use lz_slot::Key;
 use std::alloc::Global;
 
 /// The keys that were told so far, each once, and the table of them.
@@ -28,14 +26,14 @@ impl Told {
         }
     }
 
-    /// Adds the keys of a room with these numbers.
-    pub(crate) fn add_all(&mut self, room: u8, numbers: &[u64]) -> Result<(), ScanFault>
+    /// Adds the keys of these ranks.
+    pub(crate) fn add_all(&mut self, ranks: &[u64]) -> Result<(), ScanFault>
         requires { IsTable (map Some self.old.keys.items) self.old.seen }
         ensures seen { OnOk result (IsTable (map Some self.new.keys.items) self.new.seen) }
-        ensures once { OnOk result ((told : List ℕ) → AreOnce told self.old.keys.items → AreOnce (told ++ map (rank room) numbers.now) self.new.keys.items) }
+        ensures once { OnOk result ((told : List ℕ) → AreOnce told self.old.keys.items → AreOnce (told ++ ranks.now) self.new.keys.items) }
     {
-        for number in numbers {
-            let Some(key) = Key::in_room(room, *number) else {
+        for rank in ranks {
+            let Some(key) = Key::of_rank(*rank) else {
                 return Err(ScanFault::Reply);
             };
             if let Err(fault) = self.add(key) {
@@ -45,18 +43,14 @@ impl Told {
         Ok(())
     }
 
-    // Adds a key, unless it was told before. There are no more than slots in the largest file.
+    // Adds a key, unless it was told before.
     fn add(&mut self, key: Key) -> Result<(), ScanFault>
         requires { IsTable (map Some self.old.keys.items) self.old.seen }
         ensures seen { OnOk result (IsTable (map Some self.new.keys.items) self.new.seen) }
         ensures once { OnOk result (AddsOnce key self.old.keys.items self.new.keys.items) }
-        ensures few { OnOk result ((length self.new.keys.items ≤ most_slots) ⊎ (self.new.keys.items ≡ self.old.keys.items)) }
     {
         if self.seen.find(self.keys.as_slice(), key.rank()).is_some() {
             return Ok(());
-        }
-        if self.keys.len() as u64 >= MOST_SLOTS {
-            return Err(ScanFault::Reply);
         }
         let Ok(()) = self.keys.push(key) else {
             return Err(ScanFault::Memory);

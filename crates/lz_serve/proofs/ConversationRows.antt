@@ -12,8 +12,8 @@ use Rattle.lz_proto.proofs.Texts.{only}
 use Rattle.lz_board.specs.declared.pass.Pass.{Pass}
 use Rattle.lz_serve.specs.declared.{line.Line.{Line}, language.Language.{Language, TheVariants.{Lines, Frames}}, turn.Turn.{Turn, TheVariants.{Asks as asks, Says as says}}}
 use Rattle.lz_serve.specs.{Grants.{Grant, IsOfLine, key_asked}, Lines.{IsFree, awaited}, Listings.{Listing}, Exchanges.{CameFrom, Exchange, read_as}}
-use Rattle.lz_serve.specs.{Conversations.{AreTold, IsAt, IsTold, Rests, Talk, more, nothing as none_told}, LineSessions.{IsGranted, IsSession}}
-use Rattle.lz_serve.proofs.LineSessions.{lines_are_sessions}
+use Rattle.lz_serve.specs.{Conversations.{AreTold, IsAt, IsTold, Rests, Talk, more, nothing as none_told}, LineSessions.{IsGranted}}
+use Rattle.lz_serve.proofs.LineSessions.{GoesOn, going_on, lines_are_sessions}
 use Rattle.lz_resp.specs.declared.{form.Form.TheVariants.{Added}, naming.Naming.{Naming}}
 
 -- whatever is so of pages
@@ -24,11 +24,11 @@ any l = ⊤
 abbrev pub lines : List ℕ
 lines = codes "add 1\nhas x\n"
 
-abbrev items : List Item
+abbrev pub items : List Item
 items = Asks (Add 1) ∷ Faulty NoNumber ∷ []
 
 -- the request was granted this reply, and nothing else was
-abbrev get : Pass → Reply → Grant
+abbrev pub get : Pass → Reply → Grant
 get pass reply = record { question = record { connection = 1; line = 1; request = Add 1; before = pass; earlier = false }; reply = reply; after = pass }
 
 -- the same of the next line of the connection
@@ -41,7 +41,7 @@ gets pass reply = get pass reply ∷ []
 of_first : (p : Pass) → IsOfLine 1 1 (Add 1) Yes (get p Yes)
 of_first p = record { of_connection = refl; of_number = refl; of_request = refl; of_reply = refl }
 
-lines_read : Reads lines items (Some [])
+pub lines_read : Reads lines items (Some [])
 lines_read = (
   refl,
   λ rest more its.
@@ -50,29 +50,29 @@ lines_read = (
 )
 
 -- the state of a conversation of these lines
-abbrev stands : List Turn → List Request → ℕ → List ℕ → End → Talk
+abbrev pub stands : List Turn → List Request → ℕ → List ℕ → End → Talk
 stands turns waiting told unsent ended =
-    record { spoken = Lines; reader = Some (reader.Lines (Some [])); turns = turns; waiting = waiting; told = told; under = []; unsent = unsent; ended = ended }
+    record { spoken = Lines; reader = Some (reader.Lines (Some [])); turns = turns; waiting = waiting; told = told; under = []; unsent = unsent; ended = ended; stops = false }
 
-abbrev its_turns : List Turn
+abbrev pub its_turns : List Turn
 its_turns = asks wording.Line 1 ∷ says (codes "bad 3\n") ∷ []
 
-abbrev first : Exchange
+abbrev pub first : Exchange
 first = exchange.asks wording.Line (Add 1 ∷ [])
 
-abbrev second : Exchange
+abbrev pub second : Exchange
 second = exchange.says (codes "bad 3\n")
 
-came : CameFrom Lines lines (first ∷ second ∷ []) (Some (reader.Lines (Some [])))
+pub came : CameFrom Lines lines (first ∷ second ∷ []) (Some (reader.Lines (Some [])))
 came = (refl, (items, lines_read, refl))
 
 -- the lines came, and nothing was told
 has_come : IsAt any 1 [] lines [] (stands its_turns (Add 1 ∷ []) 0 [] ends.Done)
-has_come = record { done = []; left = first ∷ second ∷ []; came = came; turns = refl; asked = refl; told = none_told 1; counted = refl }
+has_come = record { done = []; left = first ∷ second ∷ []; came = ([], first ∷ second ∷ [], came, refl); turns = refl; asked = refl; told = none_told 1; counted = refl }
 
 -- the request is asked
 is_asked : IsAt any 1 [] lines [] (record (stands its_turns [] 0 [] ends.Done) { under = awaited (Add 1) ∷ [] })
-is_asked = record { done = []; left = first ∷ second ∷ []; came = came; turns = refl; asked = refl; told = none_told 1; counted = refl }
+is_asked = record { done = []; left = first ∷ second ∷ []; came = ([], first ∷ second ∷ [], came, refl); turns = refl; asked = refl; told = none_told 1; counted = refl }
 
 first_told : (p : Pass) → AreTold any 1 (first ∷ []) (gets p Yes) (codes "yes\n") ends.Done
 first_told p = more 1 [] [] [] first (gets p Yes) (codes "yes\n") ends.Done (none_told 1) ((of_first p, tt), refl, refl)
@@ -80,7 +80,7 @@ first_told p = more 1 [] [] [] first (gets p Yes) (codes "yes\n") ends.Done (non
 both_told : (p : Pass) → AreTold any 1 (first ∷ second ∷ []) (gets p Yes) (codes "yes\nbad 3\n") ends.Done
 both_told p = more 1 (first ∷ []) (gets p Yes) (codes "yes\n") second [] (codes "bad 3\n") ends.Done (first_told p) (refl, refl, refl)
 
-abbrev awaits_one : List Line
+abbrev pub awaits_one : List Line
 awaits_one = awaited (Add 1) ∷ []
 
 two_is_free : IsFree awaits_one (Some 2)
@@ -95,11 +95,11 @@ rests_not (inr (inr (inr all))) = absurd (omega (arith, all))
 
 -- its reply is to be sent
 is_replied : (p : Pass) → IsAt any 1 (gets p Yes) lines [] (stands (says (codes "bad 3\n") ∷ []) [] 1 (codes "yes\n") ends.Done)
-is_replied p = record { done = first ∷ []; left = second ∷ []; came = came; turns = refl; asked = refl; told = first_told p; counted = refl }
+is_replied p = record { done = first ∷ []; left = second ∷ []; came = ([], first ∷ second ∷ [], came, refl); turns = refl; asked = refl; told = first_told p; counted = refl }
 
 -- the fault was told too, and a part of both texts was sent
 is_half_sent : (p : Pass) → IsAt any 1 (gets p Yes) lines (codes "yes\nba") (stands [] [] 1 (codes "d 3\n") ends.Done)
-is_half_sent p = record { done = first ∷ second ∷ []; left = []; came = came; turns = refl; asked = refl; told = both_told p; counted = refl }
+is_half_sent p = record { done = first ∷ second ∷ []; left = []; came = ([], first ∷ second ∷ [], came, refl); turns = refl; asked = refl; told = both_told p; counted = refl }
 
 -- a frame with two members is told by two grants, and one text
 two_members : (p : Pass) → IsTold any 1 [] (exchange.asks (wording.Frame Added) (Add 1 ∷ Add 1 ∷ [])) (get p Yes ∷ late p No ∷ []) (codes ":1\r\n") ends.Done
@@ -116,11 +116,11 @@ not_two_members p said ended told = told.0.1
 not_as_frames : (naming : Naming) (text : List ℕ) (exchanges : List Exchange) → CameFrom (Frames naming) text exchanges (Some (reader.Lines (Some []))) → ⊥
 not_as_frames naming text exchanges came = let apart = came.0 in cc
 
-session : (grants : List Grant) (text : List ℕ) (t : Talk) → t.spoken ≡ Lines → IsAt any 1 grants text [] t → IsSession 1 grants text [] t
-session grants text t spoken at = lines_are_sessions any 1 grants text [] t (ap (λ (l : Language). read_as l text) spoken) at
+pub session : (grants : List Grant) (text : List ℕ) (t : Talk) → t.spoken ≡ Lines → t.stops ≡ false → IsAt any 1 grants text [] t → GoesOn 1 grants text [] t
+session grants text t spoken goes at = going_on 1 grants text [] t (lines_are_sessions any 1 grants text [] t (ap (λ (l : Language). read_as l text) spoken) at) goes
 
 -- lines that ended have these items alone
-only_items : (text : List ℕ) (all done left : List Item) → Reads text all (Some []) → Reads text (done ++ left) (Some []) → length left ≡ 0 → done ≡ all
+pub only_items : (text : List ℕ) (all done left : List Item) → Reads text all (Some []) → Reads text (done ++ left) (Some []) → length left ≡ 0 → done ≡ all
 only_items text all done left r s none =
     sym (append-nil done) ∙ ap (λ (l : List Item). done ++ l) (sym (nil_from_length left none)) ∙ sym (append-nil (done ++ left)) ∙ only (text ++ []) (all ++ []) (r.1 [] [] nothing) ((done ++ left) ++ []) (s.1 [] [] nothing) ∙ append-nil all
 
@@ -138,7 +138,7 @@ fault_begins replies e = cc
 -- a reply's text before that of an earlier fault
 not_before_a_fault : (grants : List Grant) → ¬ IsAt any 1 grants (codes "has x\nadd 1\n") [] (stands [] [] 1 (codes "yes\nbad 3\n") ends.Done)
 not_before_a_fault grants stood =
-    let at = session grants (codes "has x\nadd 1\n") (stands [] [] 1 (codes "yes\nbad 3\n") ends.Done) refl stood in
+    let at = session grants (codes "has x\nadd 1\n") (stands [] [] 1 (codes "yes\nbad 3\n") ends.Done) refl refl stood in
     let done = only_items (codes "has x\nadd 1\n") (Faulty NoNumber ∷ Asks (Add 1) ∷ []) at.done at.left turned_read at.came at.many in
     fault_begins at.answered.replies (subst (λ (all : List Item). codes "yes\nbad 3\n" ≡ session_text all at.answered.replies) done at.answered.text)
 
@@ -154,7 +154,7 @@ ends_there (OldFile ∷ replies) e = cc
 -- a text after `halted`
 not_after_halted : (grants : List Grant) → ¬ IsAt any 1 grants lines [] (stands [] [] 1 (codes "halted\nbad 3\n") ends.Halted)
 not_after_halted grants stood =
-    let at = session grants lines (stands [] [] 1 (codes "halted\nbad 3\n") ends.Halted) refl stood in
+    let at = session grants lines (stands [] [] 1 (codes "halted\nbad 3\n") ends.Halted) refl refl stood in
     let done = only_items lines items at.done at.left lines_read at.came at.many in
     ends_there at.answered.replies (subst (λ (all : List Item). codes "halted\nbad 3\n" ≡ session_text all at.answered.replies) done at.answered.text)
 
@@ -185,7 +185,7 @@ unserved p (OldFile ∷ r ∷ replies) s = s.2
 -- a reply that was granted to another request
 not_of_another : (p : Pass) → ¬ IsAt any 1 (gets p Yes) (codes "has 1\n") [] (stands [] [] 1 (codes "yes\n") ends.Done)
 not_of_another p stood =
-    let at = session (gets p Yes) (codes "has 1\n") (stands [] [] 1 (codes "yes\n") ends.Done) refl stood in
+    let at = session (gets p Yes) (codes "has 1\n") (stands [] [] 1 (codes "yes\n") ends.Done) refl refl stood in
     let done = only_items (codes "has 1\n") (Asks (Has 1) ∷ []) at.done at.left has_read at.came at.many in
     unserved p at.answered.replies (subst (λ (all : List Item). Serves (IsGranted 1) [] all at.answered.replies (gets p Yes)) done at.answered.served)
 
@@ -201,7 +201,7 @@ both_read = (
 )
 
 -- there are as many grants as replies
-as_many : (old new : List Grant) (asked : List Item) (replies : List Reply) → Serves (IsGranted 1) old asked replies new → length new ≡ length old + length replies
+pub as_many : (old new : List Grant) (asked : List Item) (replies : List Reply) → Serves (IsGranted 1) old asked replies new → length new ≡ length old + length replies
 as_many old new [] [] s = let e : length new ≡ length old = ap (λ (x : List Grant). length x) s in omega (arith, e)
 as_many old new [] (reply ∷ replies) s = absurd s
 as_many old new (Faulty bad ∷ asked) replies s = as_many old new asked replies s
@@ -230,7 +230,7 @@ one_for_two p (first ∷ second ∷ replies) s e = not_two p first second replie
 -- two lines that ask the same, of which one was granted a reply
 not_both_by_one : (p : Pass) → ¬ IsAt any 1 (gets p Yes) (codes "add 1\nadd 1\n") [] (stands [] [] 1 (codes "yes\nyes\n") ends.Done)
 not_both_by_one p stood =
-    let at = session (gets p Yes) (codes "add 1\nadd 1\n") (stands [] [] 1 (codes "yes\nyes\n") ends.Done) refl stood in
+    let at = session (gets p Yes) (codes "add 1\nadd 1\n") (stands [] [] 1 (codes "yes\nyes\n") ends.Done) refl refl stood in
     let done = only_items (codes "add 1\nadd 1\n") both at.done at.left both_read at.came at.many in
     one_for_two p at.answered.replies (subst (λ (all : List Item). Serves (IsGranted 1) [] all at.answered.replies (gets p Yes)) done at.answered.served)
     (subst (λ (all : List Item). codes "yes\nyes\n" ≡ session_text all at.answered.replies) done at.answered.text)
@@ -256,12 +256,12 @@ unserved_late p (Full ∷ r ∷ replies) s = s.2
 unserved_late p (Worn ∷ r ∷ replies) s = s.2
 unserved_late p (OldFile ∷ r ∷ replies) s = s.2
 
-add_read : Reads (codes "add 1\n") (Asks (Add 1) ∷ []) (Some [])
+pub add_read : Reads (codes "add 1\n") (Asks (Add 1) ∷ []) (Some [])
 add_read = (refl, λ rest more its. line (codes "add 1") (Asks (Add 1)) rest more refl (item_read (codes "add 1")) (λ e. cc) its)
 
 -- a reply that was granted to a later line, which asks the same
 not_of_a_later_line : (p : Pass) → ¬ IsAt any 1 (late p Yes ∷ []) (codes "add 1\n") [] (stands [] [] 1 (codes "yes\n") ends.Done)
 not_of_a_later_line p stood =
-    let at = session (late p Yes ∷ []) (codes "add 1\n") (stands [] [] 1 (codes "yes\n") ends.Done) refl stood in
+    let at = session (late p Yes ∷ []) (codes "add 1\n") (stands [] [] 1 (codes "yes\n") ends.Done) refl refl stood in
     let done = only_items (codes "add 1\n") (Asks (Add 1) ∷ []) at.done at.left add_read at.came at.many in
     unserved_late p at.answered.replies (subst (λ (all : List Item). Serves (IsGranted 1) [] all at.answered.replies (late p Yes ∷ [])) done at.answered.served)

@@ -6,7 +6,7 @@ use Rattle.lz_list.specs.Traces.{Trace, Begins}
 use Rattle.lz_resp.specs.declared.scan.Scan.{Scan}
 use Rattle.lz_serve.specs.Clients.{Asker, Askers, ChangesAt, ComesAfter, HasSeenIn, HaveSeenIn, IsAskedBy, IsAwaited, IsHeard, IsHeardAt, IsHeardOf, IsNext}
 use Rattle.lz_serve.specs.Clients.{IsOwn, IsOwnOf, Keeps, KeepsAwaited, KeepsHeard, KeepsLinesOf, KeepsOwn, KeepsReplies, KeepsSeen, OnlyLeave, TakesScan}
-use Rattle.lz_serve.specs.{Clients.{TellsPageAt, TellsPageOf}, Grants.{Posed}}
+use Rattle.lz_serve.specs.{Clients.{RefusesAt, RefusesOf, TellsPageAt, TellsPageOf}, Grants.{Posed}}
 
 pub from_nothing : (known : Trace) → Begins [] known
 from_nothing [] = refl
@@ -178,6 +178,12 @@ module _ {X : Type 0} (f : X → Option Asker) where
     -- what this client was told of a page the one here was
     pub paged_here : (scan : Scan) (b : Askers) → IfSome (slice_get b.clients at) (TellsPageOf (f old) scan) → TellsPageAt a at scan b
     paged_here scan b paged = grind (arith, slice_get, client_there, there)
+
+    -- what the client of this place is refused the one here is
+    pub refused_here : (new : X) → RefusesOf (f old) (f new) → RefusesAt a at (at_places begun n queue scans (set places at new))
+    refused_here new is =
+        subst (λ (b : Askers). RefusesAt b at (at_places begun n queue scans (set places at new))) view_is
+        (subst (λ (o : Option (Option Asker)). IfSome o (λ was. IfSome (slice_get (map f (set places at new)) at) (RefusesOf was))) (sym (client_there places at old there)) (one_so (RefusesOf (f old)) places at new is))
 
     -- what all clients have seen this one has
     pub seen_here : (known : Trace) → HaveSeenIn a known → HasSeenIn a.admitted known (f old)

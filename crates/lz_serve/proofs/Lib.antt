@@ -16,6 +16,7 @@ pub mod StreamRows
 pub mod Queues
 pub mod HeldUp
 pub mod Crowds
+pub mod RefusedCrowds
 pub mod Turns
 pub mod PagesTold
 pub mod Joins
@@ -26,9 +27,11 @@ pub mod InTurn
 pub mod ClientRows
 pub mod TextsTold
 pub mod TurnRows
+pub mod RefusalRows
 pub mod OwnLines
 pub mod OwnLinesRows
 pub mod ExchangesMore
+pub mod Cuts
 pub mod Languages
 pub mod LanguageRows
 pub mod Standings

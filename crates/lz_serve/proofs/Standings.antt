@@ -4,16 +4,18 @@ use Rattle.lz_resp.proofs.Texts as frames
 use Rattle.lz_serve.specs.declared.language.Language.TheVariants as language
 use Rattle.lz_serve.specs.declared.reader.Reader.TheVariants as reader
 use Rattle.lz_serve.specs.declared.turn.Turn.TheVariants as turn
-use Rattle.std.proofs.Common.{◌≡◌, ℕ, zero, suc, List, [], ◌∷◌, ◌++◌, ◌+◌, ◌≤◌, take, drop, length, map, slice_set, Some, None, refl, sym, ap, subst, ◌∙◌}
-use Rattle.std.proofs.{Common.{append_assoc, length-append, arith}, lemmas.List.{append-nil, take-append-drop}}
+use Rattle.std.proofs.Common.{◌≡◌, ℕ, zero, suc, Bool, List, [], ◌∷◌, ◌++◌, ◌+◌, ◌≤◌, take, drop, length, map, slice_set, Some, None, refl, sym, ap, subst, ◌∙◌}
+use Rattle.std.proofs.{Common.{append_assoc, length-append, arith}, Math.Seq.{take-append-add}, lemmas.List.{append-nil, take-append-drop}}
 use Rattle.lz_proto.specs.{declared.{request.Request.{Request}, reply.Reply.{Reply}, end.End.{End, TheVariants.{Done, Quit}}}, Pieces.{faults_of}}
 use Rattle.lz_proto.specs.Lines.{Items as LineItems}
 use Rattle.lz_resp.specs.{declared.{naming.Naming.{Naming}, query.Query.{Query}}, Keys.{at_first}, Pieces.{start}, Queries.{query_text}}
 use Rattle.lz_serve.specs.declared.{language.Language.{Language}, line.Line.{Line}, reader.Reader.{Reader}, turn.{Turn.{Turn}, Wording.{Wording}}}
-use Rattle.lz_serve.specs.Exchanges.{CameFrom, CameOfAll, EndsWith, Exchange, ReadsMore, ReadsOn, asks, end_by, ends, lists, of_frame, of_line, read_as, requests_in, says, tells, turn_of, unread}
-use Rattle.lz_serve.specs.{Exchanges.{worded}, Grants.{Grant}, Listings.{Listing, listing_end, listing_text}, Lines.{asked_by, awaited, replies_of}}
+use Rattle.lz_serve.specs.Exchanges.{CameFrom, CameOfAll, EndsWith, Exchange, ReadsMore, ReadsOn, asks, end_by, ends, lists, of_frame, of_line, read_as, refused, requests_in}
+use Rattle.lz_serve.specs.Exchanges.{says, taken, tells, turn_of, unread, worded}
+use Rattle.lz_serve.specs.{Grants.{Grant}, Listings.{Listing, listing_end, listing_text}, Lines.{asked_by, awaited, replies_of}}
 use Rattle.lz_serve.specs.Conversations.{AreFor, AreTold, Fed, Finished, IsAt, IsPageFor, IsTold, Noted, Paged, Talk, Told, more, nothing_yet, query_end}
-use Rattle.lz_serve.{specs.Conversations.{replies_in, nothing as none_told}, proofs.ExchangesMore.{map_more, requests_more}}
+use Rattle.lz_serve.specs.{Conversations.{replies_in, nothing as none_told, stopped}, Refusals.{TakenFrom, cut_turns, kept_waiting}}
+use Rattle.lz_serve.proofs.{Cuts.{cut, taken_later}, ExchangesMore.{map_more, requests_more, taken_more}}
 use Rattle.lz_serve.proofs.{Languages.{stays_read, untold}, LineReplies.{asked_more, asked_noted}}
 
 -- a piece more has come of a text whose language is known
@@ -94,6 +96,20 @@ came_whole spoken text xs ys (reader.Unread naming) (is, nothing, are) none =
     subst (λ (l : Language). CameOfAll (read_as l text) text (xs ++ ys)) (sym is)
     (subst (λ (t : List ℕ). CameOfAll (read_as (language.Either naming) t) t (xs ++ ys)) (sym nothing) (refl, ap (λ (l : List Exchange). l ++ ys) are ∙ none))
 
+-- the same of what was taken of it
+taken_is : (s : Bool) (xs kept cut ys : List Exchange) → xs ≡ kept ++ taken s cut → xs ++ taken s ys ≡ kept ++ taken s (cut ++ ys)
+taken_is s xs kept cut ys are = ap (λ (l : List Exchange). l ++ taken s ys) are ∙ append_assoc kept (taken s cut) (taken s ys) ∙ ap (λ (l : List Exchange). kept ++ l) (sym (taken_more s cut ys))
+
+taken_on : (s : Bool) (spoken : Language) (text piece : List ℕ) (xs ys : List Exchange) (before after : Reader) → TakenFrom s spoken text xs (Some before) → ReadsMore before piece ys after → TakenFrom s spoken (text ++ piece) (xs ++ taken s ys) (Some after)
+taken_on s spoken text piece xs ys before after (kept, cut, came, are) reads =
+    let came_too : CameFrom spoken (text ++ piece) ((kept ++ cut) ++ ys) (Some after) = came_more spoken text piece (kept ++ cut) ys before after came reads in
+    (kept, cut ++ ys, subst (λ (l : List Exchange). CameFrom spoken (text ++ piece) l (Some after)) (append_assoc kept cut ys) came_too, taken_is s xs kept cut ys are)
+
+taken_whole : (s : Bool) (spoken : Language) (text : List ℕ) (xs ys : List Exchange) (before : Reader) → TakenFrom s spoken text xs (Some before) → EndsWith before ys → TakenFrom s spoken text (xs ++ taken s ys) None
+taken_whole s spoken text xs ys before (kept, cut, came, are) at_end =
+    let came_too : CameFrom spoken text ((kept ++ cut) ++ ys) None = came_whole spoken text (kept ++ cut) ys before came at_end in
+    (kept, cut ++ ys, subst (λ (l : List Exchange). CameFrom spoken text l None) (append_assoc kept cut ys) came_too, taken_is s xs kept cut ys are)
+
 -- what two lists have in common at the front
 pub record Split (xs ys us ws : List Request) : Type 0 where
   pub front : xs ≡ take (length xs) us
@@ -118,6 +134,14 @@ asked_rest zero under = refl
 asked_rest (suc count) [] = refl
 asked_rest (suc count) (line ∷ under) = asked_rest count under
 
+asked_length : (under : List Line) → length (asked_by under) ≡ length under
+asked_length [] = refl
+asked_length (line ∷ under) = ap (λ (n : ℕ). suc n) (asked_length under)
+
+-- the lines under way, and so many requests that wait
+begun_first : (under : List Line) (waiting : List Request) (count : ℕ) → take (length under + count) (asked_by under ++ waiting) ≡ asked_by under ++ take count waiting
+begun_first under waiting count = ap (λ (n : ℕ). take (n + count) (asked_by under ++ waiting)) (sym (asked_length under)) ∙ take-append-add (asked_by under) waiting count
+
 for_many : (connection told : ℕ) (requests : List Request) (grants : List Grant) → AreFor connection told requests grants → length grants ≡ length requests
 for_many connection told [] [] are = refl
 for_many connection told (request ∷ requests) (g ∷ grants) are = ap (λ (n : ℕ). suc n) (for_many connection (suc told) requests grants are.1)
@@ -125,37 +149,57 @@ for_many connection told [] (g ∷ grants) are = absurd are
 for_many connection told (request ∷ requests) [] are = absurd are
 
 pub begins : (L : Listing → Type 0) (connection : ℕ) (spoken : Language) → IsAt L connection [] [] [] (nothing_yet spoken)
-begins L connection language.Lines = record { done = []; left = []; came = nothing_of_lines; turns = refl; asked = refl; told = none_told connection; counted = refl }
-begins L connection (language.Frames naming) = record { done = []; left = []; came = nothing_of_frames naming; turns = refl; asked = refl; told = none_told connection; counted = refl }
-begins L connection (language.Either naming) = record { done = []; left = []; came = (refl, refl, refl); turns = refl; asked = refl; told = none_told connection; counted = refl }
+begins L connection language.Lines = record { done = []; left = []; came = ([], [], nothing_of_lines, refl); turns = refl; asked = refl; told = none_told connection; counted = refl }
+begins L connection (language.Frames naming) = record { done = []; left = []; came = ([], [], nothing_of_frames naming, refl); turns = refl; asked = refl; told = none_told connection; counted = refl }
+begins L connection (language.Either naming) = record { done = []; left = []; came = ([], [], (refl, refl, refl), refl); turns = refl; asked = refl; told = none_told connection; counted = refl }
 
 module _ (L : Listing → Type 0) (connection : ℕ) (grants : List Grant) (text sent : List ℕ) (t : Talk) (at : IsAt L connection grants text sent t) where
   pub fed : (piece : List ℕ) (new : Talk) → Fed piece t new → IsAt L connection grants (text ++ piece) sent new
   fed piece new (before, after, exchanges, reads, gives, is) =
-      let came : CameFrom t.spoken (text ++ piece) ((at.done ++ at.left) ++ exchanges) (Some after) =
-      came_more t.spoken text piece (at.done ++ at.left) exchanges before after (subst (CameFrom t.spoken text (at.done ++ at.left)) reads at.came) gives in
+      let its = taken t.stops exchanges in
+      let came : TakenFrom t.stops t.spoken (text ++ piece) ((at.done ++ at.left) ++ its) (Some after) =
+      taken_on t.stops t.spoken text piece (at.done ++ at.left) exchanges before after (subst (TakenFrom t.stops t.spoken text (at.done ++ at.left)) reads at.came) gives in
       subst (IsAt L connection grants (text ++ piece) sent) (sym is)
       (record {
         done = at.done;
-        left = at.left ++ exchanges;
-        came = subst (λ (l : List Exchange). CameFrom t.spoken (text ++ piece) l (Some after)) (append_assoc at.done at.left exchanges) came;
-        turns = map_more turn_of at.left exchanges ∙ ap (λ (l : List Turn). l ++ map turn_of exchanges) at.turns;
-        asked = requests_more at.left exchanges ∙ ap (λ (l : List Request). l ++ requests_in exchanges) at.asked ∙ append_assoc (asked_by t.under) t.waiting (requests_in exchanges);
+        left = at.left ++ its;
+        came = subst (λ (l : List Exchange). TakenFrom t.stops t.spoken (text ++ piece) l (Some after)) (append_assoc at.done at.left its) came;
+        turns = map_more turn_of at.left its ∙ ap (λ (l : List Turn). l ++ map turn_of its) at.turns;
+        asked = requests_more at.left its ∙ ap (λ (l : List Request). l ++ requests_in its) at.asked ∙ append_assoc (asked_by t.under) t.waiting (requests_in its);
         told = at.told;
         counted = at.counted;
       })
 
   pub finished : (new : Talk) → Finished t new → IsAt L connection grants text sent new
   finished new (before, exchanges, reads, at_end, is) =
-      let came : CameFrom t.spoken text ((at.done ++ at.left) ++ exchanges) None =
-      came_whole t.spoken text (at.done ++ at.left) exchanges before (subst (CameFrom t.spoken text (at.done ++ at.left)) reads at.came) at_end in
+      let its = taken t.stops exchanges in
+      let came : TakenFrom t.stops t.spoken text ((at.done ++ at.left) ++ its) None =
+      taken_whole t.stops t.spoken text (at.done ++ at.left) exchanges before (subst (TakenFrom t.stops t.spoken text (at.done ++ at.left)) reads at.came) at_end in
       subst (IsAt L connection grants text sent) (sym is)
       (record {
         done = at.done;
-        left = at.left ++ exchanges;
-        came = subst (λ (l : List Exchange). CameFrom t.spoken text l None) (append_assoc at.done at.left exchanges) came;
-        turns = map_more turn_of at.left exchanges ∙ ap (λ (l : List Turn). l ++ map turn_of exchanges) at.turns;
-        asked = requests_more at.left exchanges ∙ ap (λ (l : List Request). l ++ requests_in exchanges) at.asked ∙ append_assoc (asked_by t.under) t.waiting (requests_in exchanges);
+        left = at.left ++ its;
+        came = subst (λ (l : List Exchange). TakenFrom t.stops t.spoken text l None) (append_assoc at.done at.left its) came;
+        turns = map_more turn_of at.left its ∙ ap (λ (l : List Turn). l ++ map turn_of its) at.turns;
+        asked = requests_more at.left its ∙ ap (λ (l : List Request). l ++ requests_in its) at.asked ∙ append_assoc (asked_by t.under) t.waiting (requests_in its);
+        told = at.told;
+        counted = at.counted;
+      })
+
+  -- its service stops
+  pub refusing : (new : Talk) → new ≡ stopped t → IsAt L connection grants text sent new
+  refusing new is =
+      let begun = length t.under in
+      let c = cut begun at.left in
+      let waits = kept_waiting begun t.turns in
+      let same : kept_waiting begun (map turn_of at.left) ≡ waits = ap (λ (l : List Turn). kept_waiting begun l) at.turns in
+      subst (IsAt L connection grants text sent) (sym is)
+      (record {
+        done = at.done;
+        left = c.front ++ map refused c.rest;
+        came = taken_later t.stops t.spoken text at.done c.front c.rest t.reader (subst (λ (l : List Exchange). TakenFrom t.stops t.spoken text (at.done ++ l) t.reader) c.whole at.came);
+        turns = c.turns ∙ ap (λ (l : List Turn). cut_turns begun l) at.turns;
+        asked = c.asked ∙ ap (λ (n : ℕ). take (begun + n) (requests_in at.left)) same ∙ ap (λ (l : List Request). take (begun + waits) l) at.asked ∙ begun_first t.under t.waiting waits;
         told = at.told;
         counted = at.counted;
       })
@@ -178,8 +222,8 @@ module _ (L : Listing → Type 0) (connection : ℕ) (grants : List Grant) (text
         let before : AreTold L connection at.done grants (sent ++ t.unsent) Done = subst (AreTold L connection at.done grants (sent ++ t.unsent)) goes at.told in
         subst (λ (w : List ℕ). AreTold L connection (at.done ++ e ∷ []) (grants ++ its) w ended) (append_assoc sent t.unsent said) (more connection at.done grants (sent ++ t.unsent) e its said ended before is)
 
-    came_so : CameFrom t.spoken text ((at.done ++ e ∷ []) ++ left) t.reader
-    came_so = subst (λ (l : List Exchange). CameFrom t.spoken text l t.reader) (ap (λ (l : List Exchange). at.done ++ l) first ∙ sym (append_assoc at.done (e ∷ []) left)) at.came
+    came_so : TakenFrom t.stops t.spoken text ((at.done ++ e ∷ []) ++ left) t.reader
+    came_so = subst (λ (l : List Exchange). TakenFrom t.stops t.spoken text l t.reader) (ap (λ (l : List Exchange). at.done ++ l) first ∙ sym (append_assoc at.done (e ∷ []) left)) at.came
 
     turns_are : turn_of e ∷ map turn_of left ≡ t.turns
     turns_are = ap (λ (l : List Exchange). map turn_of l) (sym first) ∙ at.turns
@@ -210,7 +254,7 @@ module _ (L : Listing → Type 0) (connection : ℕ) (grants : List Grant) (text
       → IsAt L connection (grants ++ its) text sent (record t { turns = drop 1 t.turns; told = t.told + count; under = drop count t.under; unsent = t.unsent ++ worded wording replies; ended = end_by replies })
   replies_told goes wording requests left first count its replies long few for are =
       let e = asks wording requests in
-      let many : length requests ≤ length (asked_by t.under) = let n = length_asked t.under in omega (arith, long, few, n) in
+      let many : length requests ≤ length (asked_by t.under) = let n = asked_length t.under in omega (arith, long, few, n) in
       let s = split requests (requests_in left) (asked_by t.under) t.waiting (requests_are goes e left first) many in
       let its_are : requests ≡ asked_by (take count t.under) = s.front ∙ ap (λ (n : ℕ). take n (asked_by t.under)) long ∙ asked_first count t.under in
       let so : AreFor connection t.told requests its = subst (λ (rs : List Request). AreFor connection t.told rs its) (sym its_are) for in
@@ -225,10 +269,6 @@ module _ (L : Listing → Type 0) (connection : ℕ) (grants : List Grant) (text
         told = told_more goes e left first its (worded wording replies) (end_by replies) is;
         counted = let l = length-append grants its in let c = at.counted in omega (arith, l, c, n);
       }
-    where
-      length_asked : (under : List Line) → length (asked_by under) ≡ length under
-      length_asked [] = refl
-      length_asked (line ∷ under) = ap (λ (n : ℕ). suc n) (length_asked under)
 
 -- the grants of the requests whose replies a turn tells
 abbrev pub HasGrants : ℕ → Talk → Turn → List Grant → Type 0

@@ -6,7 +6,7 @@ use Rattle.std.proofs.Common.{◌≡◌, ℕ, true, false, List, [], ◌∷◌, 
 use mathlib.Core.Bool.{true≢false}
 use Rattle.lz_proto.{specs.{declared.{item.Item.{Item}, end.End.{End}}, Lines.{nothing}, Pieces.{Reads}, Sessions.{Answered}}, proofs.Texts.{only, some_items}}
 use Rattle.lz_serve.specs.{Grants.{Grant}, Listings.{Listing}, declared.{language.Language.{Language, TheVariants.{Lines}}, reader.Reader.{Reader}}}
-use Rattle.lz_serve.specs.{Exchanges.{read_as}, LineSessions.{IsGranted, LinesCame}, Streams.{IsFresh, MayTake, Receives, Takes, Traffic}}
+use Rattle.lz_serve.specs.{Exchanges.{read_as}, LineSessions.{IsGranted, LinesCame, refused_text}, Streams.{IsFresh, MayTake, Receives, Takes, Traffic}}
 use Rattle.lz_serve.proofs.LineSessions.{lines_are_sessions}
 
 abbrev traffic : List ℕ → List ℕ → Traffic
@@ -30,6 +30,10 @@ empty_front : (xs ys : List Item) → xs ++ ys ≡ [] → xs ≡ []
 empty_front [] ys is = refl
 empty_front (x ∷ xs) ys is = absurd (cc)
 
+empty_back : (xs ys : List Item) → xs ++ ys ≡ [] → ys ≡ []
+empty_back [] ys is = is
+empty_back (x ∷ xs) ys is = absurd (cc)
+
 -- no item comes of no text
 no_items : (items : List Item) (kept : Option (List ℕ)) → Reads [] items kept → items ≡ []
 no_items items None reads = only [] [] nothing items (reads [])
@@ -48,9 +52,11 @@ unread items (Some (reader.Unread naming)) goes came = absurd came
 unread items None goes came = absurd (true≢false goes)
 
 -- something is told to a client that has sent nothing
-told_unasked : (P : List Grant → Type 0) (L : Listing → Type 0) (text : List ℕ) → MayTake P L (Some (traffic [] [])) (1 ∷ text) → ⊥
-told_unasked P L text (connection, t, (grants, may, at, spoken, goes), rest, begins) =
+told_unasked : (P : List Grant → Type 0) (L : Listing → Type 0) (A : Type 0) (text : List ℕ) → MayTake P L A (Some (traffic [] [])) (1 ∷ text) → ⊥
+told_unasked P L A text (connection, t, (grants, may, at, spoken, goes), asked, rest, begins) =
     let s = lines_are_sessions L connection grants [] [] t (ap (λ (l : Language). read_as l []) spoken) at in
-    let none : s.done ≡ [] = empty_front s.done s.left (unread (s.done ++ s.left) t.reader goes s.came) in
-    let unsent : t.unsent ≡ [] = silent connection grants s.done t.unsent t.ended none s.answered in
+    let none : s.done ++ (s.refused ++ s.left) ≡ [] = unread (s.done ++ (s.refused ++ s.left)) t.reader goes s.came in
+    let said : s.said ≡ [] = silent connection grants s.done s.said s.ended (empty_front s.done (s.refused ++ s.left) none) s.answered in
+    let refused : s.refused ≡ [] = empty_front s.refused s.left (empty_back s.done (s.refused ++ s.left) none) in
+    let unsent : t.unsent ≡ [] = s.told ∙ ap (λ (w : List ℕ). w ++ refused_text s.refused) said ∙ ap (λ (l : List Item). refused_text l) refused in
     absurd (cc)

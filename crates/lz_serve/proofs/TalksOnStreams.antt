@@ -8,7 +8,7 @@ use Rattle.std.proofs.{Common.{is_none, refl, sym, ap, ◌∙◌, subst, arith},
 use Rattle.lz_proto.specs.declared.{request.Request.{Request}, reply.Reply.{Reply}, end.End.TheVariants.{Done}}
 use Rattle.lz_serve.specs.{declared.{language.Language.{Language}, line.Line.{Line}, reader.Reader.{Reader}, turn.Turn.{Turn}}, Grants.{Grant}}
 use Rattle.lz_serve.specs.{Listings.{Listing}, Lines.{AreBefore, AreEarned, IsBefore, awaited}}
-use Rattle.lz_serve.specs.Conversations.{Fed, Finished, IsAt, Noted, Paged, Talk, Told, nothing_yet}
+use Rattle.lz_serve.specs.Conversations.{Fed, Finished, IsAt, Noted, Paged, Talk, Told, nothing_yet, stopped}
 use Rattle.lz_serve.specs.Streams.{IsFresh, IsTalkOf, MayTake, Receives, Takes, Traffic}
 use Rattle.lz_serve.proofs.LinesUnderWay.{before_same, earned_after, earned_same, granted_of}
 use Rattle.lz_list.{specs.Traces.{Begins, Trace}, proofs.Traces.WalkEnd.{begins_before}}
@@ -58,6 +58,12 @@ module _ (P : List Grant → Type 0) (L : Listing → Type 0) (connection : ℕ)
         ap (λ (t : Talk). is_none t.reader) step.4,
       )
 
+  -- where its service stops
+  pub refusing : (s : Option Traffic) (old new : Talk) → new ≡ stopped old → IsTalkOf P L connection s old → IsTalkOf P L connection s new
+  refusing None old new step was = tt
+  refusing (Some s) old new step was =
+      moved s old new was.0 was was.1 (stands.refusing L connection was.0 s.received s.taken old was.2 new step) (ap (λ (t : Talk). t.spoken) step) (ap (λ (t : Talk). t.reader) step)
+
   -- where so many bytes were taken of what was to be sent
   pub sent : (before after : Option Traffic) (n : ℕ) (old new : Talk) → Takes before after (taken.Count n) old.unsent → new ≡ record old { unsent = drop n old.unsent } → IsTalkOf P L connection before old → IsTalkOf P L connection after new
   sent None after n old new is step was = subst (λ (s : Option Traffic). IsTalkOf P L connection s new) (sym is) tt
@@ -89,8 +95,8 @@ module _ (P : List Grant → Type 0) (L : Listing → Type 0) (connection : ℕ)
   known_so Q (Some s) t so was = (was.0, so was.0 was.1, was.2, was.3, was.4)
 
   -- what it has unsent may be taken
-  pub may_take : (s : Option Traffic) (t : Talk) → IsTalkOf P L connection s t → MayTake P L s t.unsent
-  may_take s t at = (connection, t, at, [], sym (append-nil t.unsent))
+  pub may_take : (A : Type 0) (s : Option Traffic) (t : Talk) → (t.stops ≡ true → A) → IsTalkOf P L connection s t → MayTake P L A s t.unsent
+  may_take A s t asked at = (connection, t, at, asked, [], sym (append-nil t.unsent))
 
 -- how many requests of its a turn tells
 abbrev count_of : Turn → ℕ
@@ -104,17 +110,18 @@ record Left (first : Turn) (old new : Talk) : Type 0 where
   few : count_of first ≤ length old.under
   reader : new.reader ≡ old.reader
   spoken : new.spoken ≡ old.spoken
+  stops : new.stops ≡ old.stops
 
 left : (first : Turn) (old new : Talk) → Told first old new → Left first old new
 left (turn.Asks wording count) old new (replies, few, of, is) =
-    record { told = ap (λ (t : Talk). t.told) is; under = ap (λ (t : Talk). t.under) is; few = few; reader = ap (λ (t : Talk). t.reader) is; spoken = ap (λ (t : Talk). t.spoken) is }
+    record { told = ap (λ (t : Talk). t.told) is; under = ap (λ (t : Talk). t.under) is; few = few; reader = ap (λ (t : Talk). t.reader) is; spoken = ap (λ (t : Talk). t.spoken) is; stops = ap (λ (t : Talk). t.stops) is }
 left (turn.Says said) old new is =
-    record { told = ap (λ (t : Talk). t.told) is ∙ omega arith; under = ap (λ (t : Talk). t.under) is; few = omega arith; reader = ap (λ (t : Talk). t.reader) is; spoken = ap (λ (t : Talk). t.spoken) is }
+    record { told = ap (λ (t : Talk). t.told) is ∙ omega arith; under = ap (λ (t : Talk). t.under) is; few = omega arith; reader = ap (λ (t : Talk). t.reader) is; spoken = ap (λ (t : Talk). t.spoken) is; stops = ap (λ (t : Talk). t.stops) is }
 left (turn.Lists scan) old new is = absurd is
 left (turn.Tells query) old new (f, is) =
-    record { told = ap (λ (t : Talk). t.told) is ∙ omega arith; under = ap (λ (t : Talk). t.under) is; few = omega arith; reader = ap (λ (t : Talk). t.reader) is; spoken = ap (λ (t : Talk). t.spoken) is }
+    record { told = ap (λ (t : Talk). t.told) is ∙ omega arith; under = ap (λ (t : Talk). t.under) is; few = omega arith; reader = ap (λ (t : Talk). t.reader) is; spoken = ap (λ (t : Talk). t.spoken) is; stops = ap (λ (t : Talk). t.stops) is }
 left (turn.Ends said) old new is =
-    record { told = ap (λ (t : Talk). t.told) is ∙ omega arith; under = ap (λ (t : Talk). t.under) is; few = omega arith; reader = ap (λ (t : Talk). t.reader) is; spoken = ap (λ (t : Talk). t.spoken) is }
+    record { told = ap (λ (t : Talk). t.told) is ∙ omega arith; under = ap (λ (t : Talk). t.under) is; few = omega arith; reader = ap (λ (t : Talk). t.reader) is; spoken = ap (λ (t : Talk). t.spoken) is; stops = ap (λ (t : Talk). t.stops) is }
 
 module _ (P : List Grant → Type 0) (L : Listing → Type 0) (seen : Trace) (connection : ℕ) where
   -- where an exchange is told that asks nothing
@@ -172,6 +179,7 @@ module _ (P : List Grant → Type 0) (L : Listing → Type 0) (seen : Trace) (co
   -- What stays where the first exchange was told, or none was.
   pub record Stays (s : Option Traffic) (old new : Talk) (puts its : List Pass) : Type 0 where
     pub reader : new.reader ≡ old.reader
+    pub stops : new.stops ≡ old.stops
     pub earned : AreEarned P seen connection new.told new.under its
     pub more : old.told ≤ new.told
     pub lines : new.told + length new.under ≡ old.told + length old.under
@@ -188,6 +196,7 @@ module _ (P : List Grant → Type 0) (L : Listing → Type 0) (seen : Trace) (co
       let to_so : its ≡ drop (count_of first) puts = to ∙ ap (λ (n : ℕ). drop n puts) many in
       record {
         reader = l.reader;
+        stops = l.stops;
         more = let t = l.told in omega (arith, t);
         under = l.under ∙ ap (λ (n : ℕ). drop n old.under) (sym many);
         lines = let t = l.told in let u = ap (λ (x : List Line). length x) l.under ∙ length-drop (count_of first) old.under in let few = l.few in omega (arith, t, u, few);
@@ -200,6 +209,7 @@ module _ (P : List Grant → Type 0) (L : Listing → Type 0) (seen : Trace) (co
       let to_so : its ≡ puts = to ∙ ap (λ (n : ℕ). drop n puts) no_more in
       record {
         reader = ap (λ (t : Talk). t.reader) same;
+        stops = ap (λ (t : Talk). t.stops) same;
         more = let t = ap (λ (t : Talk). t.told) same in omega (arith, t);
         lines = ap (λ (t : Talk). t.told + length t.under) same;
         under = ap (λ (t : Talk). t.under) same ∙ ap (λ (n : ℕ). drop n old.under) (sym no_more);

@@ -6,7 +6,7 @@ use Rattle.lz_list.specs.Traces.{Trace, Begins}
 use Rattle.lz_board.specs.{declared.pass.Pass.{Pass}, Seats.{part}}
 use Rattle.lz_resp.specs.declared.{query.Query.{Query}, scan.Scan.{Scan}}
 use Rattle.lz_serve.specs.{declared.{line.Line.{Line}, turn.Turn.{Turn}}, Conversations.{IsReady, IsText}, Grants.{Posed, key_asked}}
-use Rattle.lz_serve.specs.{Lines.{AreReplied, IsFree, StandsAt}, Queues.{is_in}}
+use Rattle.lz_serve.specs.{Lines.{AreReplied, IsFree, StandsAt}, Queues.{is_in}, Refusals.{cut_turns, kept_waiting}}
 use Rattle.lz_proto.specs.declared.{request.Request.{Request}, end.End.{End, TheVariants.{Done}}}
 
 -- The number of its connection; how many lines were handed out, and how many of them were told their replies; the others; the pass to which
@@ -69,6 +69,17 @@ pub record HasLine (a : Asker) : Type 0 where
   pub waits : a.waiting ≡ request ∷ drop 1 a.waiting
   pub numbered : a.lines ≢ 18446744073709551615
   pub free : IsFree a.under (key_asked request)
+
+-- Each exchange was refused of which no request is under way, nor of one after it. The requests of the others wait as they did, and nothing else has
+-- changed, unless the client is lost.
+abbrev pub Refuses : Asker → Asker → Type 0
+Refuses old new =
+    new.lost ≡ false
+    → new ≡ record old { turns = cut_turns (length old.under) old.turns; waiting = take (kept_waiting (length old.under) old.turns) old.waiting }
+
+-- it is so of the client that is there, if one was there before
+abbrev pub RefusesOf : Option Asker → Option Asker → Type 0
+RefusesOf old new = IfSome old (λ a. IfSome new (λ b. Refuses a b))
 
 -- the client, if there is one, has none
 abbrev pub HasNone : Option Asker → Type 0
@@ -197,6 +208,10 @@ TellsAt old token q new = (IsHeardAt old token q → ⊥) → IfSome (slice_get 
 -- where the client at this place awaited this page, it was told, unless it is lost or has left
 abbrev pub TellsPageAt : Askers → ℕ → Scan → Askers → Type 0
 TellsPageAt old token scan new = IfSome (slice_get old.clients token) (λ was. IfSome (slice_get new.clients token) (λ client. TellsPageOf was scan client))
+
+-- the client at this place, if there was one, was refused what it had that wasn't begun, unless it is lost
+abbrev pub RefusesAt : Askers → ℕ → Askers → Type 0
+RefusesAt old token new = IfSome (slice_get old.clients token) (λ was. IfSome (slice_get new.clients token) (λ client. RefusesOf was client))
 
 -- a client is at this place, and awaits this page
 abbrev pub AwaitsPageAt : Askers → ℕ → Scan → Type 0

@@ -1,19 +1,19 @@
 -- Where a conversation stands.
 use Rattle.lz_serve.specs.declared.turn.Turn.TheVariants as turn
-use Rattle.std.specs.Prelude.{◌≡◌, ◌≢◌, ◌⊎◌, ◌≤◌, ⊤, All, ℕ, if◌then◌else◌, List, [], ◌∷◌, ◌++◌, drop, length, map, slice_set, suc, ◌+◌, ◌-◌, take, Option}
+use Rattle.std.specs.Prelude.{◌≡◌, ◌≢◌, ◌⊎◌, ◌≤◌, ⊤, All, ℕ, Bool, false, true, if◌then◌else◌, List, [], ◌∷◌, ◌++◌, drop, length, map, slice_set, suc, ◌+◌, ◌-◌, take, Option}
 use Rattle.std.specs.Prelude.{None, Some}
 use Rattle.lz_list.specs.Traces.{Begins}
 use Rattle.lz_board.specs.Seats.{part}
 use Rattle.lz_proto.specs.declared.{request.Request.{Request}, reply.Reply.{Reply}, end.End.{End, TheVariants.{Done, Quit}}}
 use Rattle.lz_resp.specs.{declared.{figures.Figures.{Figures}, query.Query.{Query}, scan.Scan.{Scan}}, Queries.{ends_service, query_text}}
-use Rattle.lz_serve.specs.{declared.{language.Language.{Language}, line.Line.{Line}, reader.Reader.{Reader}, turn.Turn.{Turn}}, Exchanges.{CameFrom, EndsWith}}
+use Rattle.lz_serve.specs.{declared.{language.Language.{Language}, line.Line.{Line}, reader.Reader.{Reader}, turn.Turn.{Turn}}, Exchanges.{EndsWith}}
 use Rattle.lz_serve.specs.Exchanges.{Exchange, Pending, ReadsMore, adding, asks, says, lists, tells, ends, end_by, requests_in, turn_of, unread, worded}
-use Rattle.lz_serve.specs.{Grants.{Grant, IsOfLine, key_asked}, Listings.{Listing, listing_end, listing_text}}
+use Rattle.lz_serve.specs.{Grants.{Grant, IsOfLine, key_asked}, Listings.{Listing, listing_end, listing_text}, Refusals.{TakenFrom, cut_turns, kept_waiting}}
 use Rattle.lz_serve.specs.Lines.{IsFree, StandsAt, asked_by, replied, replies_of}
 
 -- What a conversation holds: its language; what reads the client's text, none once that has ended; the turns of the exchanges that came and
 -- weren't told; of what they ask the requests that wait, and those before them that were handed out; how many requests were told their
--- replies; the text that is to be sent; and how it has ended, `Done` while it goes on.
+-- replies; the text that is to be sent; how it has ended, `Done` while it goes on; and whether its service stops.
 pub record Talk : Type 0 where
   pub spoken : Language
   pub reader : Option Reader
@@ -23,14 +23,15 @@ pub record Talk : Type 0 where
   pub under : List Line
   pub unsent : List ℕ
   pub ended : End
+  pub stops : Bool
 
 -- nothing has come yet
 abbrev pub nothing_yet : Language → Talk
-nothing_yet spoken = record { spoken = spoken; reader = Some (unread spoken); turns = []; waiting = []; told = 0; under = []; unsent = []; ended = Done }
+nothing_yet spoken = record { spoken = spoken; reader = Some (unread spoken); turns = []; waiting = []; told = 0; under = []; unsent = []; ended = Done; stops = false }
 
 -- what has come of it and wasn't told
 abbrev pub pending : Talk → Pending
-pending t = record { turns = t.turns; waiting = t.waiting }
+pending t = record { turns = t.turns; waiting = t.waiting; stops = t.stops }
 
 -- each of these requests, after so many on this connection, has a grant of its own
 abbrev pub AreFor : ℕ → ℕ → List Request → List Grant → Type 0
@@ -69,12 +70,13 @@ pub data AreTold (L : Listing → Type 0) : ℕ → List Exchange → List Grant
       → AreTold L connection exchanges grants text Done → IsTold L connection grants exchange its said ended
       → AreTold L connection (exchanges ++ exchange ∷ []) (grants ++ its) (text ++ said) ended
 
--- All that came is this text, and this is what was sent. Of the text's exchanges the first ones were told, by these grants: their texts, in
--- their order, are what was sent and what is to be sent. The turns and the requests are those of the others.
+-- All that came is this text, and this is what was sent. Of the exchanges that were taken of it the first ones were told, by these grants: their
+-- texts, in their order, are what was sent and what is to be sent. The turns and the requests are those of the others. So of an exchange that
+-- was refused no request was handed out, and none will be.
 pub record IsAt (L : Listing → Type 0) (connection : ℕ) (grants : List Grant) (text sent : List ℕ) (t : Talk) : Type 0 where
   pub done : List Exchange
   pub left : List Exchange
-  pub came : CameFrom t.spoken text (done ++ left) t.reader
+  pub came : TakenFrom t.stops t.spoken text (done ++ left) t.reader
   pub turns : map turn_of left ≡ t.turns
   pub asked : requests_in left ≡ asked_by t.under ++ t.waiting
   pub told : AreTold L connection done grants (sent ++ t.unsent) t.ended
@@ -120,6 +122,10 @@ abbrev pub Finished : Talk → Talk → Type 0
 Finished old new =
     (before : Reader) × (exchanges : List Exchange) × (old.reader ≡ Some before) × EndsWith before exchanges
     × (new ≡ record old { reader = None; turns = (adding exchanges (pending old)).turns; waiting = (adding exchanges (pending old)).waiting })
+
+-- its service stops: each exchange of which nothing was begun is refused, and its requests wait no more
+abbrev pub stopped : Talk → Talk
+stopped t = record t { turns = cut_turns (length t.under) t.turns; waiting = take (kept_waiting (length t.under) t.turns) t.waiting; stops = true }
 
 -- the reply to the request of this number was noted, which asked this and awaited it
 abbrev pub Noted : ℕ → Request → Reply → Talk → Talk → Type 0

@@ -4,7 +4,7 @@ use Rattle.lz_resp.specs.declared.item.Item.TheVariants as frame
 use Rattle.lz_serve.specs.declared.language.Language.TheVariants as language
 use Rattle.lz_serve.specs.declared.turn.Turn.TheVariants as turn
 use Rattle.lz_serve.specs.declared.reader.Reader.TheVariants as reader
-use Rattle.std.specs.{Prelude.{◌≡◌, ℕ, List, [], ◌∷◌, ◌++◌, length, map, ◌==◌, Option, Some, None, if◌then◌else◌}, List.{flat_map, list_any}}
+use Rattle.std.specs.{Prelude.{◌≡◌, ℕ, Bool, true, false, List, [], ◌∷◌, ◌++◌, codes, length, map, ◌==◌, Option, Some, None, if◌then◌else◌}, List.{flat_map, list_any}}
 use Rattle.lz_proto.specs.declared.{request.Request.{Request, TheVariants.{Quit}}, reply.Reply.{Reply}, item.Item.{Item as LineItem}, end.End.{End}}
 use Rattle.lz_proto.specs.{declared.{end.End.TheVariants.{Done, Halted}, fault.Bad.{Bad}}, Lines.{Items as LineItems}}
 use Rattle.lz_proto.specs.{Pieces.{Ends, Feeds as FeedsLines, Reads as ReadsLines, faults_of}, Sessions.{bad_text, reply_text}}
@@ -51,14 +51,37 @@ requests_in (lists scan ∷ exchanges) = requests_in exchanges
 requests_in (tells query ∷ exchanges) = requests_in exchanges
 requests_in (ends text ∷ exchanges) = requests_in exchanges
 
--- What has come and wasn't told: the turns of exchanges, and the requests that wait.
+-- the error that says that nothing of a frame was done
+abbrev pub frame_refusal : List ℕ
+frame_refusal = codes "-ERR stopping; nothing was done\r\n"
+
+-- the same of requests whose replies would be worded so
+abbrev pub refusal : Wording → List ℕ
+refusal Line = codes "stopping\n"
+refusal (Frame form) = frame_refusal
+
+-- What is told in place of an exchange that is refused. One that asks for no key and no page is told as ever.
+abbrev pub refused : Exchange → Exchange
+refused (asks wording requests) = says (refusal wording)
+refused (says text) = says text
+refused (lists scan) = says frame_refusal
+refused (tells query) = tells query
+refused (ends text) = ends text
+
+-- exchanges as they are taken: once the service stops each is refused
+abbrev pub taken : Bool → List Exchange → List Exchange
+taken false exchanges = exchanges
+taken true exchanges = map refused exchanges
+
+-- What has come and wasn't told: the turns of exchanges, and the requests that wait; and whether the service stops.
 pub record Pending : Type 0 where
   pub turns : List Turn
   pub waiting : List Request
+  pub stops : Bool
 
 -- exchanges more have come
 abbrev pub adding : List Exchange → Pending → Pending
-adding exchanges p = record { turns = p.turns ++ map turn_of exchanges; waiting = p.waiting ++ requests_in exchanges }
+adding exchanges p = record p { turns = p.turns ++ map turn_of (taken p.stops exchanges); waiting = p.waiting ++ requests_in (taken p.stops exchanges) }
 
 -- the language in which a text is read: of either language it is frames where it begins with `*`, and else lines
 abbrev pub read_as : Language → List ℕ → Language

@@ -10,6 +10,7 @@ pub mod Askings
 pub mod Lines
 pub mod Listings
 pub mod Exchanges
+pub mod Refusals
 pub mod Conversations
 pub mod LineSessions
 pub mod Streams

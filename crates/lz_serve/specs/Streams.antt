@@ -44,9 +44,10 @@ IsTalkOf P L connection None t = ⊤
 IsTalkOf P L connection (Some traffic) t =
     (grants : List Grant) × P grants × IsAt L connection grants traffic.received traffic.taken t × (t.spoken ≡ traffic.spoken) × (is_none t.reader ≡ traffic.ended)
 
--- the text is the next to be sent in a conversation of the stream, on one connection
-abbrev pub MayTake : (List Grant → Type 0) → (Listing → Type 0) → Option Traffic → List ℕ → Type 0
-MayTake P L traffic text = (connection : ℕ) × (t : Talk) × IsTalkOf P L connection traffic t × (rest : List ℕ) × (t.unsent ≡ text ++ rest)
+-- The text is the next to be sent in a conversation of the stream, on one connection. Its service stops only where it was asked to.
+abbrev pub MayTake : (List Grant → Type 0) → (Listing → Type 0) → Type 0 → Option Traffic → List ℕ → Type 0
+MayTake P L asked traffic text =
+    (connection : ℕ) × (t : Talk) × IsTalkOf P L connection traffic t × (t.stops ≡ true → asked) × (rest : List ℕ) × (t.unsent ≡ text ++ rest)
 
 -- nothing has come and nothing was sent yet
 abbrev pub IsFresh : Option Traffic → Type 0

@@ -10,6 +10,7 @@ ghost use Rattle.lz_serve.specs.Streams.{IsFresh};
 
 mod page;
 mod question;
+mod stop;
 
 use crate::asking::Granted;
 use crate::conversation::{Conversation, pass_over};
@@ -61,7 +62,8 @@ impl<S: Stream> Model for Client<S> {
     ghost invariant = { λ c. (c.ended ≡ false → IsSome c.talk.reader)
         × AreEarned S.promised (seen_by c.seen) c.connection c.talk.told c.talk.under (passes_of c.puts.items)
         × (c.lost ≡ false → IsTalkOf (AreBefore S.promised (seen_by c.seen) c.talk.under (passes_of c.puts.items)) S.listed c.connection (S.traffic c.stream) c.talk)
-        × (c.held ≡ true → c.lost ≡ false → IsHeldUp c.talk) };
+        × (c.held ≡ true → c.lost ≡ false → IsHeldUp c.talk)
+        × (c.talk.stops ≡ true → S.asked) };
 }
 
 impl<S: Stream> Client<S> {

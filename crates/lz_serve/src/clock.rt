@@ -1,4 +1,4 @@
-//! The clock by which a crowd tells who was silent.
+//! The clock by which a crowd tells who was silent, and how long a reply took.
 use std::time::Duration;
 
 /// For how many milliseconds a turn counts at most: in a longer one the loop didn't listen, and no client was silent.
@@ -15,6 +15,8 @@ pub(crate) struct Clock {
     looked: u64,
     /// The system's time, as it was noted last, in milliseconds.
     noted: Option<u64>,
+    /// The system's time, as it was seen last.
+    seen: Option<Duration>,
 }
 
 impl Clock {
@@ -23,6 +25,7 @@ impl Clock {
             now: 0,
             looked: 0,
             noted: None,
+            seen: None,
         }
     }
 
@@ -31,8 +34,19 @@ impl Clock {
         self.now
     }
 
-    /// Notes the system's time.
+    /// Sees the system's time.
+    pub(crate) fn see(&mut self, now: Duration) {
+        self.seen = Some(now);
+    }
+
+    /// The system's time, as it was seen last.
+    pub(crate) fn seen(&self) -> Option<Duration> {
+        self.seen
+    }
+
+    /// Sees the system's time at the start of a turn.
     pub(crate) fn note(&mut self, now: Duration) {
+        self.see(now);
         let now = millis(now);
         if let Some(passed) = self.noted.and_then(|noted| now.checked_sub(noted)) {
             self.now = self.now.saturating_add(passed.min(LONGEST_TURN_MS));

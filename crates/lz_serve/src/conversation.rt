@@ -8,6 +8,7 @@ ghost use Rattle.lz_serve.specs.Grants.{key_asked};
 ghost use Rattle.lz_serve.specs.Lines.{AreReplied, IsFree, StandsAt, awaited, replied};
 
 mod page;
+mod stop;
 
 use crate::exchanges::Exchanges;
 use crate::language::Language;
@@ -50,7 +51,7 @@ impl Model for Conversation {
 
     ghost Value = { Talk };
 
-    ghost view = { λ c. record { spoken = c.language; reader = c.reader; turns = c.exchanges.turns; waiting = c.exchanges.waiting; told = c.told; under = c.under.items; unsent = c.text.items; ended = c.ended } };
+    ghost view = { λ c. record { spoken = c.language; reader = c.reader; turns = c.exchanges.turns; waiting = c.exchanges.waiting; told = c.told; under = c.under.items; unsent = c.text.items; ended = c.ended; stops = c.exchanges.stops } };
 
     ghost invariant = { λ c. (c.lines ≡ c.told + length c.under.items) × AreReady c.ready c.under.items };
 }
@@ -73,7 +74,7 @@ impl Conversation {
         }
     }
 
-    /// Takes the next piece of the client's text. Where memory runs out a part of what it comes to may be lost.
+    /// Takes the next piece of the client's text, which is refused once the service stops. Where memory runs out a part of what it comes to may be lost.
     pub fn feed(&mut self, piece: &[u8]) -> Result<(), AllocError>
         requires { IsSome self.old.reader }
         ensures ok { OnOk result (Fed piece.now self.old self.new) }

@@ -9,6 +9,7 @@ ghost use Rattle.lz_serve.specs.Streams.{IsFresh};
 
 mod page;
 mod parting;
+mod stop;
 
 use crate::asking::Granted;
 use crate::client::{Client, Question};
@@ -166,7 +167,7 @@ impl<S: Stream> Crowd<S> {
         };
         self.admitted += 1;
         let client = Client::new(alloc, self.admitted, stream);
-        place.admit(client, self.clock.now());
+        place.admit(client, &self.clock);
         self.tend(token, observer, buffer);
     }
 
@@ -178,7 +179,7 @@ impl<S: Stream> Crowd<S> {
         let Some(place) = self.places.get_mut(token) else {
             return;
         };
-        place.hear(drains, self.clock.now());
+        place.hear(drains, &self.clock);
         self.tend(token, observer, buffer);
     }
 
@@ -206,7 +207,7 @@ impl<S: Stream> Crowd<S> {
             return;
         };
         self.out = self.out.saturating_add(1);
-        let is_next = place.reply(granted, pass, observer, self.clock.now());
+        let is_next = place.reply(granted, pass, observer, &self.clock);
         let is_back = place.give_back();
         self.put(token, is_next);
         self.put_back(token, is_back);
@@ -311,7 +312,14 @@ impl<S: Stream> Crowd<S> {
         place.ask(pass)
     }
 
-    /// Notes the time by the system's clock.
+    /// Sees the time by the system's clock, by which replies are timed.
+    pub fn see_time(&mut self, now: Duration)
+        ensures { self.new ≡ self.old }
+    {
+        self.clock.see(now);
+    }
+
+    /// Notes the time by the system's clock at the start of a turn.
     pub fn note_time(&mut self, now: Duration)
         ensures { self.new ≡ self.old }
     {

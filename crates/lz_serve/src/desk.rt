@@ -178,7 +178,7 @@ impl<S: Stream, N: Named, B: Given> Desk<S, N, B> {
         ensures ends { self.old.ends ≡ true → (self.new.ends ≡ true) × All (AnswersOneOf self.old.calls) self.new.calls }
         ensures within { BeginsWithin self.old self.new }
     {
-        let tries = self.tries.pass(rt.monotonic().ok());
+        let tries = self.see_time(rt);
         let mut kept = set.keep();
         let mut at = 0;
         'calls: for _ in rt.forever() {
@@ -216,6 +216,17 @@ impl<S: Stream, N: Named, B: Given> Desk<S, N, B> {
         }
         drop(kept);
         self.crowd.tend_back(observer, buffer);
+    }
+
+    // Sees the time by which replies are timed, and says whether a moment has passed in which calls that wait for slots weren't made again.
+    fn see_time<R: Clock>(&mut self, rt: &R) -> bool
+        ensures { self.new ≡ self.old }
+    {
+        let now = rt.monotonic().ok();
+        if let Some(now) = now {
+            self.crowd.see_time(now);
+        }
+        self.tries.pass(now)
     }
 
     /// Plays the Sync of each call that stands before one. The first calls the device, and the others find their slots covered.

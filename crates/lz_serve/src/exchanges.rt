@@ -1,7 +1,9 @@
 //! What has come of a client's text and wasn't told.
-ghost use Rattle.std.specs.Prelude.{◌≡◌, ◌≢◌, ◌++◌, ◌∷◌, [], All, IfSome, IsTrue, None, OnOk, drop, false, ◌↔◌};
+ghost use Rattle.std.specs.Prelude.{◌≡◌, ◌≢◌, ◌++◌, ◌∷◌, [], All, IfSome, IsTrue, None, OnOk, drop, false, take, true, ◌↔◌};
 ghost use Rattle.lz_serve.specs.Exchanges.{adding, asks, of_frame, of_line};
+ghost use Rattle.lz_serve.specs.Refusals.{cut_turns, kept_waiting, taken_turn};
 
+use crate::refusing::{keep_begun, refuse_all, taken};
 use crate::turn::{Turn, Wording};
 use lz_proto::{Item as LineItem, Request, bad_text};
 use lz_resp::{Item as FrameItem, Text};
@@ -15,6 +17,8 @@ pub struct Exchanges {
     alloc: Global,
     turns: VecDeque<Turn>,
     requests: VecDeque<Request>,
+    // the service stops: what comes is refused
+    stops: bool,
 }
 
 impl Model for Exchanges {
@@ -24,19 +28,20 @@ impl Model for Exchanges {
 
     ghost Value = { Pending };
 
-    ghost view = { λ e. record { turns = e.turns.items; waiting = e.requests.items } };
+    ghost view = { λ e. record { turns = e.turns.items; waiting = e.requests.items; stops = e.stops } };
 
     ghost invariant = { λ e. All (λ request. request ≢ Quit) e.requests.items };
 }
 
 impl Exchanges {
     pub(crate) fn new(alloc: Global) -> Exchanges
-        ensures { result ≡ record { turns = []; waiting = [] } }
+        ensures { result ≡ record { turns = []; waiting = []; stops = false } }
     {
         Exchanges {
             alloc,
             turns: VecDeque::new(alloc),
             requests: VecDeque::new(alloc),
+            stops: false,
         }
     }
 
@@ -46,7 +51,8 @@ impl Exchanges {
 
     /// What a line comes to has come.
     pub(crate) fn put_line(&mut self, item: LineItem) -> Result<(), AllocError>
-        ensures { OnOk result (self.new ≡ adding (of_line item ∷ []) self.old) }
+        ensures ok { OnOk result (self.new ≡ adding (of_line item ∷ []) self.old) }
+        ensures stops { self.new.stops ≡ self.old.stops }
     {
         match item {
             LineItem::Asks(Request::Quit) => self.put_turn(Turn::Ends(Text::of(self.alloc, b"")?)),
@@ -60,7 +66,8 @@ impl Exchanges {
 
     /// What a frame comes to has come.
     pub(crate) fn put_frame(&mut self, item: FrameItem) -> Result<(), AllocError>
-        ensures { OnOk result (self.new ≡ adding (of_frame item ∷ []) self.old) }
+        ensures ok { OnOk result (self.new ≡ adding (of_frame item ∷ []) self.old) }
+        ensures stops { self.new.stops ≡ self.old.stops }
     {
         match item {
             FrameItem::Asks(form, requests) => {
@@ -104,6 +111,20 @@ impl Exchanges {
         self.requests.pop_front();
     }
 
+    /// The service stops. Where so many requests of these turns were begun, each turn of which none was is refused, and so is what comes.
+    pub(crate) fn stop(&mut self, begun: usize) -> Result<(), AllocError>
+        ensures ok { OnOk result (self.new ≡ record { turns = cut_turns begun self.old.turns; waiting = take (kept_waiting begun self.old.turns) self.old.waiting; stops = true }) }
+        ensures stops { self.new.stops ≡ true }
+    {
+        self.stops = true;
+        let mut cut = VecDeque::new(self.alloc);
+        let waiting = keep_begun(begun, &mut self.turns, &mut cut)?;
+        refuse_all(self.alloc, &mut self.turns, &mut cut)?;
+        self.turns = cut;
+        self.requests.truncate(waiting);
+        Ok(())
+    }
+
     /// Whether requests wait.
     pub(crate) fn waits(&self) -> bool
         ensures some { IsTrue result ↔ (self.now.waiting ≢ []) }
@@ -134,10 +155,12 @@ impl Exchanges {
             .saturating_add(self.requests.capacity())
     }
 
-    // A turn that asks nothing.
+    // A turn that asks nothing, or is refused.
     fn put_turn(&mut self, turn: Turn) -> Result<(), AllocError>
-        ensures { OnOk result (self.new ≡ record self.old { turns = self.old.turns ++ turn ∷ [] }) }
+        ensures ok { OnOk result (self.new ≡ record self.old { turns = self.old.turns ++ taken_turn self.old.stops turn ∷ [] }) }
+        ensures stops { self.new.stops ≡ self.old.stops }
     {
+        let turn = taken(self.alloc, self.stops, turn)?;
         self.turns.push_back(turn)?;
         Ok(())
     }
@@ -145,8 +168,12 @@ impl Exchanges {
     // A line's request.
     fn put_request(&mut self, request: Request) -> Result<(), AllocError>
         requires { request ≢ Request.Quit }
-        ensures { OnOk result (self.new ≡ adding (asks Wording.Line (request ∷ []) ∷ []) self.old) }
+        ensures ok { OnOk result (self.new ≡ adding (asks Wording.Line (request ∷ []) ∷ []) self.old) }
+        ensures stops { self.new.stops ≡ self.old.stops }
     {
+        if self.stops {
+            return self.put_turn(Turn::Asks(Wording::Line, 1));
+        }
         self.requests.reserve(1)?;
         self.turns.push_back(Turn::Asks(Wording::Line, 1))?;
         self.requests.push_back_reserved(request);
@@ -156,8 +183,12 @@ impl Exchanges {
     // Requests, and the turn of their replies.
     fn put_requests(&mut self, wording: Wording, requests: &[Request]) -> Result<(), AllocError>
         requires { All (λ request. request ≢ Request.Quit) requests.now }
-        ensures { OnOk result (self.new ≡ adding (asks wording requests.now ∷ []) self.old) }
+        ensures ok { OnOk result (self.new ≡ adding (asks wording requests.now ∷ []) self.old) }
+        ensures stops { self.new.stops ≡ self.old.stops }
     {
+        if self.stops {
+            return self.put_turn(Turn::Asks(wording, requests.len()));
+        }
         self.turns.push_back(Turn::Asks(wording, requests.len()))?;
         for request in requests {
             self.requests.push_back(*request)?;

@@ -63,6 +63,8 @@ impl<O: Observer> Stream for Guest<'_, O> {
 
     ghost listed = { λ _. ⊤ };
 
+    ghost asked = { ⊥ };
+
     fn language(&self) -> Language {
         Language::Lines
     }

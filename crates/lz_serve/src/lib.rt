@@ -37,6 +37,7 @@ mod place;
 mod poller;
 mod queue;
 mod reader;
+mod refusing;
 mod replies;
 mod seated;
 mod server;

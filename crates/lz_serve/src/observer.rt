@@ -1,11 +1,12 @@
 //! What an operator is told of a service.
-ghost use Rattle.std.specs.Prelude.{◌≡◌};
+ghost use Rattle.std.specs.Prelude.{◌≡◌, true};
 ghost use Rattle.lz_serve.specs.Verbs.{verb_of};
 
 use crate::language::Language;
 use crate::listener::Listener;
 use lz_proto::{Reply, Request};
 use lz_resp::Figures;
+use std::time::Duration;
 use std::{fmt, io};
 
 /// What a service stands on.
@@ -116,6 +117,9 @@ impl Verb {
 
 /// Is told what an operator wants to know of a service, by any of its threads, and says when it is to end.
 pub trait Observer: Drop {
+    /// That somebody has asked for its end.
+    ghost asked: { Type 0 };
+
     /// The service stands, and is about to take its first connection from this listener.
     fn serving(&self, serving: Serving, listener: &Listener);
 
@@ -143,6 +147,9 @@ pub trait Observer: Drop {
     /// A command was replied to so. Where they are known, so many members were durable then.
     fn answered(&self, verb: Verb, reply: Reply, members: Option<usize>);
 
+    /// A reply was given so long after its connection was heard.
+    fn took(&self, time: Duration);
+
     /// What is known of the service now. A client has asked.
     fn figures(&self) -> Figures;
 
@@ -153,6 +160,7 @@ pub trait Observer: Drop {
     /// again. Told once.
     fn halted(&self);
 
-    /// Whether the service is to end: then no further command is begun, and those under way are answered.
-    fn stops(&self) -> bool;
+    /// Whether the service is to end: then no further line or frame is begun, and those that were are answered.
+    fn stops(&self) -> bool
+        ensures { result ≡ true → asked };
 }

@@ -5,13 +5,18 @@ ghost use Rattle.lz_board.specs.Seats.{part};
 ghost use Rattle.lz_serve.specs.Clients.{AwaitsBefore, AwaitsNoPage, AwaitsPage, ComesAfter, HasNone, HasRepliedBefore, HasSeenIn, HasTold, IsAskedBy, IsHeardOf, IsOwnOf, KeepsHeard, KeepsLines, KeepsLinesOf, KeepsOwn, KeepsSeen, Remains, TellsOf, TellsPageOf};
 ghost use Rattle.lz_serve.specs.Grants.{Promises};
 
+mod stop;
+
 use crate::asking::Granted;
 use crate::client::{Client, Question};
+use crate::clock::Clock;
 use crate::listed::Listed;
 use crate::observer::Observer;
 use crate::stream::Stream;
 use lz_resp::Scan;
 use lz_set::{Named, Pass};
+use std::time::Duration;
+use stop::may_read;
 
 /// How many pieces of one client are read in a turn, at most.
 const MOST_READS: usize = 16;
@@ -58,8 +63,12 @@ pub(crate) struct Place<S: Stream> {
     parts: bool,
     /// Its session is over, and what it still sends is thrown away.
     leaves: bool,
+    /// Its service stops, and its client is read so often yet.
+    left: Option<usize>,
     /// In which millisecond something came or went last.
     moved: u64,
+    /// When its connection was heard last.
+    heard: Option<Duration>,
 }
 
 impl<S: Stream> Place<S> {
@@ -74,12 +83,14 @@ impl<S: Stream> Place<S> {
             lists: false,
             parts: false,
             leaves: false,
+            left: None,
             moved: 0,
+            heard: None,
         }
     }
 
-    /// Takes a client in that is new, in this millisecond.
-    pub(crate) fn admit(&mut self, client: Client<S>, now: u64)
+    /// Takes a client in that is new, at this time.
+    pub(crate) fn admit(&mut self, client: Client<S>, clock: &Clock)
         ensures { self.new.client ≡ Some client }
     {
         self.client = Some(client);
@@ -89,17 +100,20 @@ impl<S: Stream> Place<S> {
         self.lists = false;
         self.parts = false;
         self.leaves = false;
-        self.moved = now;
+        self.left = None;
+        self.moved = clock.now();
+        self.heard = clock.seen();
     }
 
     /// Hands a reply to its client, if that is still the one whose line was answered, and says whether this has one for a
-    /// pass. This pass has seen what those had that answered the client, this reply included.
+    /// pass. This pass has seen what those had that answered the client, this reply included. The observer is told how long ago the connection
+    /// was heard.
     pub(crate) fn reply<N: Named, O: Observer>(
         &mut self,
         granted: Granted<N>,
         pass: &Pass,
         observer: &O,
-        now: u64,
+        clock: &Clock,
     ) -> bool
         requires promised { Promises N.board N.format S.promised S.listed }
         requires own { IsOwnOf self.old.client granted.question }
@@ -116,7 +130,10 @@ impl<S: Stream> Place<S> {
             return false;
         };
         client.reply(granted, pass, observer);
-        self.moved = now;
+        self.moved = clock.now();
+        if let (Some(heard), Some(now)) = (self.heard, clock.seen()) {
+            observer.took(now.saturating_sub(heard));
+        }
         self.may_ask()
     }
 
@@ -159,13 +176,14 @@ impl<S: Stream> Place<S> {
     }
 
     /// Its connection can be read or written. One whose session is over is waited for no longer because of that.
-    pub(crate) fn hear(&mut self, drains: bool, now: u64)
+    pub(crate) fn hear(&mut self, drains: bool, clock: &Clock)
         ensures { self.new.client ≡ self.old.client }
     {
         self.readable = true;
         self.drains = self.drains || drains;
+        self.heard = clock.seen();
         if !self.leaves {
-            self.moved = now;
+            self.moved = clock.now();
         }
     }
 
@@ -216,8 +234,8 @@ impl<S: Stream> Place<S> {
         self.client.as_mut()?.ask(pass)
     }
 
-    // Whether its client has a line for a pass.
-    fn may_ask(&self) -> bool
+    /// Whether its client has a line for a pass.
+    pub(crate) fn may_ask(&self) -> bool
         ensures { result ≡ false → HasNone self.now.client }
     {
         match &self.client {
@@ -262,7 +280,8 @@ impl<S: Stream> Place<S> {
             client.write();
         }
         if self.readable && !self.parts {
-            self.readable = read_pieces(client, observer, buffer, self.drains);
+            self.readable = client.is_occupied()
+                || may_read(&mut self.left) && read_pieces(client, observer, buffer, self.drains);
         }
         // What was told of the pieces that were read.
         if !holds_back && client.has_unsent() {

@@ -80,7 +80,8 @@ impl Reader {
 
     /// Takes the next piece of the text.
     pub(crate) fn feed(&mut self, piece: &[u8], exchanges: &mut Exchanges) -> Result<(), AllocError>
-        ensures { OnOk result ((more : List Exchange) × ReadsMore self.old piece.now more self.new × (exchanges.new ≡ adding more exchanges.old)) }
+        ensures ok { OnOk result ((more : List Exchange) × ReadsMore self.old piece.now more self.new × (exchanges.new ≡ adding more exchanges.old)) }
+        ensures stops { exchanges.new.stops ≡ exchanges.old.stops }
     {
         self.begin(exchanges.allocator(), piece);
         match self {
@@ -102,7 +103,8 @@ impl Reader {
 
     /// The text has ended.
     pub(crate) fn end(self, exchanges: &mut Exchanges) -> Result<(), AllocError>
-        ensures { OnOk result ((more : List Exchange) × EndsWith self more × (exchanges.new ≡ adding more exchanges.old)) }
+        ensures ok { OnOk result ((more : List Exchange) × EndsWith self more × (exchanges.new ≡ adding more exchanges.old)) }
+        ensures stops { exchanges.new.stops ≡ exchanges.old.stops }
     {
         match self {
             Reader::Lines(reader) => reader.end(exchanges),
@@ -135,7 +137,8 @@ impl Reader {
 
 impl LineReader {
     fn feed(&mut self, piece: &[u8], exchanges: &mut Exchanges) -> Result<(), AllocError>
-        ensures { OnOk result ((items : List ALine) × FeedsLines self.old piece.now items self.new × (exchanges.new ≡ adding (map of_line items) exchanges.old)) }
+        ensures ok { OnOk result ((items : List ALine) × FeedsLines self.old piece.now items self.new × (exchanges.new ≡ adding (map of_line items) exchanges.old)) }
+        ensures stops { exchanges.new.stops ≡ exchanges.old.stops }
     {
         self.lines.feed_into(piece, &mut self.items)?;
         let put = put_lines(&mut self.items, exchanges);
@@ -144,7 +147,8 @@ impl LineReader {
     }
 
     fn end(self, exchanges: &mut Exchanges) -> Result<(), AllocError>
-        ensures { OnOk result ((more : List Exchange) × EndsWith (Reader.Lines self) more × (exchanges.new ≡ adding more exchanges.old)) }
+        ensures ok { OnOk result ((more : List Exchange) × EndsWith (Reader.Lines self) more × (exchanges.new ≡ adding more exchanges.old)) }
+        ensures stops { exchanges.new.stops ≡ exchanges.old.stops }
     {
         match self.lines.end() {
             Some(bad) => exchanges.put_line(LineItem::Faulty(bad)),
@@ -155,7 +159,8 @@ impl LineReader {
 
 impl FrameReader {
     fn feed(&mut self, piece: &[u8], exchanges: &mut Exchanges) -> Result<(), AllocError>
-        ensures { OnOk result ((items : List AFrame) × FeedsFrames self.old piece.now items self.new × (exchanges.new ≡ adding (map of_frame items) exchanges.old)) }
+        ensures ok { OnOk result ((items : List AFrame) × FeedsFrames self.old piece.now items self.new × (exchanges.new ≡ adding (map of_frame items) exchanges.old)) }
+        ensures stops { exchanges.new.stops ≡ exchanges.old.stops }
     {
         self.frames.feed_into(piece, &mut self.items)?;
         let put = put_frames(&mut self.items, exchanges);
@@ -166,7 +171,8 @@ impl FrameReader {
 
 // The items of lines come after the exchanges that came before.
 fn put_lines(items: &mut VecDeque<LineItem>, exchanges: &mut Exchanges) -> Result<(), AllocError>
-    ensures { OnOk result (exchanges.new ≡ adding (map of_line items.old.items) exchanges.old) }
+    ensures ok { OnOk result (exchanges.new ≡ adding (map of_line items.old.items) exchanges.old) }
+    ensures stops { exchanges.new.stops ≡ exchanges.old.stops }
 {
     while let Some(item) = items.pop_front() {
         exchanges.put_line(item)?;
@@ -176,7 +182,8 @@ fn put_lines(items: &mut VecDeque<LineItem>, exchanges: &mut Exchanges) -> Resul
 
 // The items of frames come after the exchanges that came before.
 fn put_frames(items: &mut VecDeque<FrameItem>, exchanges: &mut Exchanges) -> Result<(), AllocError>
-    ensures { OnOk result (exchanges.new ≡ adding (map of_frame items.old.items) exchanges.old) }
+    ensures ok { OnOk result (exchanges.new ≡ adding (map of_frame items.old.items) exchanges.old) }
+    ensures stops { exchanges.new.stops ≡ exchanges.old.stops }
 {
     while let Some(item) = items.pop_front() {
         exchanges.put_frame(item)?;

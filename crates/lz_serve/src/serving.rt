@@ -6,6 +6,8 @@ ghost use Rattle.lz_serve.specs.Grants.{Promises};
 ghost use Rattle.lz_serve.specs.Halts.{IsCalmAfter};
 ghost use Rattle.lz_serve.specs.Services.{Serves, parts_of};
 
+mod stopping;
+
 use crate::crowd::Crowd;
 use crate::desk::Desk;
 use crate::free_pass::{FreePass, hand_back};
@@ -24,6 +26,7 @@ use std::marker::Brand;
 use std::sync::Wait;
 use std::sync::atomic::{AtomicBool, Ordering};
 use std::time::{Clock, Duration};
+use stopping::refuse_rest;
 
 /// For how many milliseconds, at its end, a loop goes on sending replies that are slowly taken, and how long each turn is then at most.
 const FAREWELL_MS: u64 = 1_000;
@@ -31,9 +34,9 @@ const FAREWELL_MS: u64 = 1_000;
 const FAREWELL_TURN_MS: u64 = 100;
 
 /// Serves connections, so many at once, by these passes in one thread, until a client was told that the service halted, here or by another loop, which
-/// sets `told`, the observer says that it is to end, or so many connections were served. Then the calls under way are played to their
-/// answers, and what is unsent is sent. Where the service halted each request that waits is answered too. The loop whose client was told
-/// so first tells the observer. Where no memory is left for its clients it serves none. It hands the poller back, from which no more
+/// sets `told`, the observer says that it is to end, or so many connections were served. Where it is to end what wasn't begun is refused. Then the calls
+/// under way are played to their answers, and what is unsent is sent. Where the service halted each request that waits is answered too. The loop whose
+/// client was told so first tells the observer. Where no memory is left for its clients it serves none. It hands the poller back, from which no more
 /// connections have come than so.
 #[tactic(auto, using(crate::proofs::JoinedPasses::calm_after))]
 pub fn serve_loop<D, G, N, R, O, P>(
@@ -55,6 +58,7 @@ where
     P: Poller,
     requires may_call { All (MayCall N.board) passes.items }
     requires promised { Promises N.board N.format P.Stream.promised P.Stream.listed }
+    requires asked { O.asked → P.Stream.asked }
     ensures served { Serves N.board (parts_of passes.items) passes result.0 }
     ensures sessions { 1 ≤ bounds.sessions → P.came result.1 ≤ P.came poller + bounds.sessions }
 {
@@ -92,6 +96,7 @@ where
     requires may_call { All (MayCall N.board) passes.items }
     requires calm { All (IsCalmAfter B.parts) passes.items }
     requires promised { Promises N.board N.format P.Stream.promised P.Stream.listed }
+    requires asked { O.asked → P.Stream.asked }
     ensures served { Serves N.board B.parts passes result.0 }
     ensures sessions { 1 ≤ bounds.sessions → P.came result.1 ≤ P.came poller + bounds.sessions }
 {
@@ -160,6 +165,7 @@ where
     O: Observer,
     P: Poller,
     requires promised { Promises N.board N.format P.Stream.promised P.Stream.listed }
+    requires asked { O.asked → P.Stream.asked }
     requires limit { (L.before ≡ P.came poller) × (L.sessions ≡ bounds.sessions) }
     ensures count { vec_len result.0 ≡ desk.given }
     ensures sessions { 1 ≤ bounds.sessions → P.came result.1 ≤ P.came poller + bounds.sessions }
@@ -190,6 +196,7 @@ where
     O: Observer,
     P: Poller,
     requires promised { Promises N.board N.format P.Stream.promised P.Stream.listed }
+    requires asked { O.asked → P.Stream.asked }
     ensures given { desk.new.given ≡ desk.old.given }
     ensures rests { desk.new.free ≡ desk.new.given }
 {
@@ -216,6 +223,16 @@ where
         }
         desk.play_turn(rt, set, observer, &mut buffer);
     }
+    refuse_rest(
+        rt,
+        poller,
+        set,
+        desk,
+        &mut ready,
+        observer,
+        told,
+        &mut buffer,
+    );
     desk.finish(rt, set, observer, &mut buffer);
     if desk.halted() && !told.swap(true, Ordering::SeqCst) {
         observer.halted();

@@ -200,6 +200,8 @@ impl<'a> Stream for Socket<'a> {
 
     ghost listed = { λ _. ⊤ };
 
+    ghost asked = { ⊤ };
+
     fn language(&self) -> Language {
         self.language
     }

@@ -44,6 +44,9 @@ pub trait Stream: Drop {
     /// What is so of the pages that are told on it.
     ghost listed: { Listing → Type 0 };
 
+    /// That its service was asked to stop: then what wasn't begun is refused on it.
+    ghost asked: { Type 0 };
+
     /// The language of its client.
     fn language(&self) -> Language
         ensures { IfSome (traffic self.now) (λ t. result ≡ t.spoken) };
@@ -57,7 +60,7 @@ pub trait Stream: Drop {
 
     /// Sends a beginning of the text.
     fn take(&mut self, text: &[u8]) -> Taken
-        requires { MayTake promised listed (traffic self.old) text.now }
+        requires { MayTake promised listed asked (traffic self.old) text.now }
         ensures bound { sent result ≤ length text.now }
         ensures some { result ≢ Taken.Count 0 }
         ensures taken { Takes (traffic self.old) (traffic self.new) result text.now };

@@ -96,6 +96,42 @@ fn the_service_itself_is_asked_in_turn(rt: HostRuntime) -> Result<(), Fail> {
 }
 
 #[test]
+fn a_stop_refuses_each_line_that_was_not_begun(rt: HostRuntime) -> Result<(), Fail> {
+    let mut talk = Conversation::new(rt.alloc(), Language::Lines);
+    talk.feed(b"add 1\nlook\nhas 2\nlook\n".as_slice())?;
+    let first = talk.next()?.ok_or("a request")?;
+    talk.stop()?;
+    talk.feed(b"remove 1\nquit\nadd 2\n".as_slice())?;
+    assert!(rt; talk.next()?.is_none() && !talk.tell()?);
+    assert!(rt; talk.note(1, first, Reply::Yes));
+    for _ in 0..6 {
+        assert!(rt; talk.tell()?);
+    }
+    assert!(rt; talk.unsent() == b"yes\nbad 2\nstopping\nbad 2\nstopping\n".as_slice());
+    assert!(rt; talk.is_over() && talk.next()?.is_none());
+    Ok(())
+}
+
+#[test]
+fn a_stop_leaves_no_frame_half_done(rt: HostRuntime) -> Result<(), Fail> {
+    let mut talk = Conversation::new(rt.alloc(), Language::Frames(Naming::Rooms));
+    talk.feed(b"sadd 0 1 2\r\nsadd 0 3 4\r\nsscan 0 0\r\nping\r\n".as_slice())?;
+    let first = talk.next()?.ok_or("a request")?;
+    talk.stop()?;
+    let second = talk.next()?.ok_or("a request")?;
+    assert!(rt; talk.next()?.is_none() && talk.scan().is_none());
+    assert!(rt; talk.note(1, first, Reply::Yes) && talk.note(2, second, Reply::No));
+    for _ in 0..4 {
+        assert!(rt; talk.tell()?);
+    }
+    assert!(rt;
+        talk.unsent()
+            == b":1\r\n-ERR stopping; nothing was done\r\n-ERR stopping; nothing was done\r\n+PONG\r\n".as_slice()
+    );
+    Ok(())
+}
+
+#[test]
 fn a_conversation_with_nothing_to_do_keeps_little_room(rt: HostRuntime) -> Result<(), Fail> {
     let mut talk = Conversation::new(rt.alloc(), Language::Lines);
     let piece = [b'\n'; LINES];

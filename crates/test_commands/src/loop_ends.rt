@@ -31,25 +31,38 @@ fn common(told: &[u8], replies: &[u8]) -> usize
     most
 }
 
-// Whether a client was told a beginning of its replies, and then of the halt, or a part of that.
-fn is_told_in_part(told: &[u8], replies: &[u8]) -> bool {
+// What a client is told of the lines whose replies would have been these, where its service stops before it begins them.
+fn refused(alloc: Global, replies: &[u8]) -> Option<Vec<u8>> {
+    let mut text = Vec::new(alloc);
+    let mut is_bad = false;
+    for byte in replies {
+        is_bad |= *byte == b'b';
+        if *byte == b'\n' {
+            let line: &[u8] = if is_bad { b"bad 2\n" } else { b"stopping\n" };
+            text.extend_from_slice(line).ok()?;
+            is_bad = false;
+        }
+    }
+    Some(text)
+}
+
+// Whether a client was told a beginning of its replies, and then of the halt, or a part of that, or that nothing was done of further lines.
+fn is_told_in_part(alloc: Global, told: &[u8], replies: &[u8]) -> Option<bool> {
     let same = common(told, replies);
     let rest = &told[same..];
     if rest.is_empty() {
-        return true;
+        return Some(true);
     }
     let is_line = same == 0 || replies.get(same.wrapping_sub(1)) == Some(&b'\n');
-    is_line && b"halted\n".as_slice().starts_with(rest)
+    let refused = refused(alloc, replies.get(same..)?)?;
+    let is_refused = refused.as_slice().starts_with(rest) && rest.ends_with(b"\n");
+    Some(is_line && (is_refused || b"halted\n".as_slice().starts_with(rest)))
 }
 
-// How many of its lines a client was answered, the halt not counted.
-fn lines_of(told: &[u8]) -> u64 {
-    let all = told.iter().filter(|byte| **byte == b'\n').count() as u64;
-    if told.ends_with(b"halted\n") {
-        all.saturating_sub(1)
-    } else {
-        all
-    }
+// How many of its lines a client was answered, the halt and those of which nothing was done not counted.
+fn lines_of(told: &[u8], replies: &[u8]) -> u64 {
+    let answered = &told[..common(told, replies)];
+    answered.iter().filter(|byte| **byte == b'\n').count() as u64
 }
 
 // Whether a client's key of this index is as it was after some number of its lines, between these two.
@@ -97,14 +110,10 @@ fn are_kept(
     let mut client = 0u64;
     for script in scripts {
         let told = sides.next()?.told.as_slice();
-        if !is_told_in_part(told, script.replies.as_slice())
-            || !are_left(
-                alloc,
-                keys,
-                client,
-                lines_of(told),
-                lines_of(told).saturating_add(more),
-            )?
+        let replies = script.replies.as_slice();
+        let lines = lines_of(told, replies);
+        if !is_told_in_part(alloc, told, replies)?
+            || !are_left(alloc, keys, client, lines, lines.saturating_add(more))?
         {
             return Some(false);
         }
@@ -156,19 +165,24 @@ fn a_failed_device_ends_the_loop_and_what_was_told_stays(rt: HostRuntime) -> Res
     Ok(())
 }
 
-// How many commands all clients were answered. A line that is none is told `bad 2`.
+// How many commands all clients were answered. A line that is none is told `bad 2`, and one of which nothing was done `stopping`.
 fn all_commands(network: &RefCell<Network>) -> Option<u64> {
     let network = network.try_borrow().ok()?;
     let mut all = 0u64;
     for side in network.sides.iter() {
         let told = side.told.as_slice();
-        let bad = told.iter().filter(|byte| **byte == b'b').count() as u64;
-        all = all.wrapping_add(lines_of(told).saturating_sub(bad));
+        let lines = told.iter().filter(|byte| **byte == b'\n').count() as u64;
+        let others = told
+            .iter()
+            .filter(|byte| **byte == b'b' || **byte == b'g')
+            .count() as u64;
+        all = all.wrapping_add(lines.saturating_sub(others));
     }
     Some(all)
 }
 
-// Many clients on a new set whose service is to end after so many replies. Each reply was sent, and the keys are those of these.
+// Many clients on a new set whose service is to end after so many replies. Each reply was sent, and the keys are those of these. Whatever was
+// read and not begun is told so.
 fn stop<R: Wait + Clock + AllocGlobal + Abort>(rt: &R, replies: u64) -> Option<()> {
     let alloc = rt.alloc();
     let scripts = all_scripts(alloc, LINES)?;

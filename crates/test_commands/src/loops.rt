@@ -20,7 +20,7 @@ use std::process::Abort;
 use std::sync::Wait;
 use std::sync::atomic::AtomicBool;
 use std::test::Fail;
-use std::time::Clock;
+use std::time::{Clock, Duration};
 use test_support::{keys_in, made};
 
 /// How many clients there are, how many at once, and by how many passes they are served.
@@ -41,6 +41,10 @@ struct Counts {
 }
 
 impl Observer for Counts {
+    ghost use Rattle.std.specs.Prelude.{⊤};
+
+    ghost asked = { ⊤ };
+
     fn serving(&self, _serving: Serving, _listener: &Listener) {}
 
     fn no_port(&self, error: io::Error) {
@@ -70,6 +74,8 @@ impl Observer for Counts {
     fn answered(&self, _verb: Verb, _reply: Reply, _members: Option<usize>) {
         self.answered.set(self.answered.get().wrapping_add(1));
     }
+
+    fn took(&self, _time: Duration) {}
 
     fn figures(&self) -> Figures {
         Figures::default()

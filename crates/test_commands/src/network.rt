@@ -99,6 +99,8 @@ impl<'a> Stream for Wire<'a> {
 
     ghost listed = { λ _. ⊤ };
 
+    ghost asked = { ⊤ };
+
     fn language(&self) -> Language {
         Language::Lines
     }

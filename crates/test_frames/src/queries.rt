@@ -14,10 +14,12 @@ fn queries_are_told_by_the_service(rt: HostRuntime) -> Result<(), Fail> {
     )?;
     let texts: [&[u8]; 4] = [
         b":3\r\n",
-        b"$450\r\n# Server\r\nredis_version:7.0.0\r\nredis_mode:standalone\r\nprocess_id:4711\r\nrun_id:0000000000000000000018446744073709551615\r\n\
-uptime_in_seconds:60\r\n\r\n# Clients\r\nconnected_clients:2\r\nmaxclients:100\r\n\r\n# Stats\r\ntotal_connections_received:9\r\n\
-total_commands_processed:14\r\n\r\n# Keyspace\r\ndb0:keys=3,expires=0,avg_ttl=0\r\n\r\n# Lazyset\r\nlazyset_version:1.8\r\nformat:2\r\n\
-slots:10\r\nmembers:3\r\nfree:6\r\nbuckets:16\r\npasses:4\r\nloops:1\r\nadds:5\r\nremoves:2\r\nlookups:4\r\nfull:1\r\n\r\n",
+        b"$588\r\n# Server\r\nredis_version:7.0.0\r\nredis_mode:standalone\r\nprocess_id:4711\r\nrun_id:0000000000000000000018446744073709551615\r\n\
+uptime_in_seconds:60\r\n\r\n# Clients\r\nconnected_clients:2\r\nmaxclients:100\r\n\r\n# Memory\r\nused_memory:64\r\nmaxmemory:160\r\n\r\n\
+# Stats\r\ntotal_connections_received:9\r\ntotal_commands_processed:14\r\ninstantaneous_ops_per_sec:7\r\n\r\n# Latencystats\r\n\
+latency_percentiles_usec_reply:p50=96,p99=1280\r\n\r\n# Keyspace\r\ndb0:keys=3,expires=0,avg_ttl=0\r\n\r\n# Lazyset\r\n\
+lazyset_version:1.8\r\nformat:2\r\nslots:10\r\nmembers:3\r\nfree:6\r\nbuckets:16\r\npasses:4\r\nloops:1\r\nadds:5\r\nremoves:2\r\n\
+lookups:4\r\nfull:1\r\n\r\n",
         b"$44\r\n# Keyspace\r\ndb0:keys=3,expires=0,avg_ttl=0\r\n\r\n",
         b"-ERR SHUTDOWN is taken over a Unix socket alone\r\n",
     ];
@@ -59,12 +61,15 @@ fn asks_for(item: Option<Item>, scan: &Scan) -> bool {
 }
 
 #[test]
-fn pages_are_of_the_room_that_is_named(rt: HostRuntime) -> Result<(), Fail> {
+fn pages_are_of_the_room_that_is_named_or_of_all(rt: HostRuntime) -> Result<(), Fail> {
     let mut frames = Frames::new(rt.alloc(), Naming::Rooms);
     let mut items = VecDeque::new(rt.alloc());
-    frames.feed_into(b"sscan 3 0\r\nSSCAN 3 512 COUNT 5000\r\n", &mut items)?;
+    frames.feed_into(
+        b"sscan 3 0\r\nSSCAN 3 512 COUNT 5000\r\nlz.scan 512 count 5000\r\n",
+        &mut items,
+    )?;
     let first = Scan {
-        room: 3,
+        room: Some(3),
         from: Slot::new(0),
         most: 10,
     };
@@ -74,13 +79,21 @@ fn pages_are_of_the_room_that_is_named(rt: HostRuntime) -> Result<(), Fail> {
         ..first
     };
     assert!(rt; asks_for(items.pop_front(), &first));
+    let all = Scan {
+        room: None,
+        ..second
+    };
     assert!(rt; asks_for(items.pop_front(), &second));
+    assert!(rt; asks_for(items.pop_front(), &all));
     let (Some(one), Some(other)) = (Key::in_room(3, 17), Key::in_room(2, 4)) else {
         return Err("keys".into());
     };
     let keys = [one, other];
     let text = first.text(rt.alloc(), keys.as_slice(), Some(Slot::new(512)))?;
     assert!(rt; text.as_bytes() == b"*2\r\n$3\r\n512\r\n*1\r\n$2\r\n17\r\n".as_slice());
+    let text = all.text(rt.alloc(), keys.as_slice(), Some(Slot::new(512)))?;
+    let told = b"*2\r\n$3\r\n512\r\n*2\r\n$19\r\n3000000000000000017\r\n$19\r\n2000000000000000004\r\n";
+    assert!(rt; text.as_bytes() == told.as_slice());
     let text = second.text(rt.alloc(), &[], None)?;
     assert!(rt; text.as_bytes() == b"*2\r\n$1\r\n0\r\n*0\r\n".as_slice());
     Ok(())
@@ -98,12 +111,17 @@ fn figures() -> Figures {
         most_clients: 100,
         sessions: 9,
         answered: 14,
+        rate: 7,
+        median_us: 96,
+        p99_us: 1_280,
         adds: 5,
         removes: 2,
         lookups: 4,
         full: 1,
         format: 2,
         slots: 10,
+        used_bytes: 64,
+        most_bytes: 160,
         members: 3,
         marks: 1,
         buckets: 16,

@@ -6,7 +6,7 @@ use Rattle.lz_slot.specs.declared.format.Format.{Format}
 use Rattle.lz_proto.{specs.{declared.{item.Item.{Item}, end.End.TheVariants.{Done}}, Lines.{Items}, Sessions.{Answered}}, proofs.Texts.{some_items}}
 use Rattle.lz_board.specs.Seats.{BoardId}
 use Rattle.lz_serve.specs.{declared.{language.Language.{Language, TheVariants.{Lines}}, reader.Reader.{Reader}}, Exchanges.{read_as}, LineSessions.{IsGranted, LinesCame}}
-use Rattle.lz_serve.{specs.{Grants.{AreGranted, IsGrant}, Listings.{IsListing}, Streams.{MayTake, Traffic}}, proofs.LineSessions.{lines_are_sessions}}
+use Rattle.lz_serve.{specs.{Grants.{AreGranted, IsGrant}, Listings.{IsListing}, Streams.{MayTake, Traffic}}, proofs.LineSessions.{going_on, lines_are_sessions, unasked}}
 use Rattle.test_threads.specs.Tapes.{IsTape}
 
 -- nothing has come and nothing was sent
@@ -68,14 +68,14 @@ sent_on sent text rest count =
 
 -- a beginning was sent of what might be
 pub told_on : (b : BoardId) (F : Format) (old : Traffic) (text sent piece new : List ℕ) (read count : ℕ) (ended : Bool) → traffic (take read text) ended sent ≡ old → IsTape b F text read ended sent
-    → MayTake (AreGranted b F) (IsListing b) (Some old) piece → new ≡ sent ++ take count piece → IsTape b F text read ended new
+    → MayTake (AreGranted b F) (IsListing b) ⊥ (Some old) piece → new ≡ sent ++ take count piece → IsTape b F text read ended new
 told_on b F old text sent piece new read count ended is tape may longer =
-    let may : MayTake (AreGranted b F) (IsListing b) (Some (traffic (take read text) ended sent)) piece = subst (λ (o : Traffic). MayTake (AreGranted b F) (IsListing b) (Some o) piece) (sym is) may in
+    let may : MayTake (AreGranted b F) (IsListing b) ⊥ (Some (traffic (take read text) ended sent)) piece = subst (λ (o : Traffic). MayTake (AreGranted b F) (IsListing b) ⊥ (Some o) piece) (sym is) may in
     by_talk may
   where
-    by_talk : MayTake (AreGranted b F) (IsListing b) (Some (traffic (take read text) ended sent)) piece → IsTape b F text read ended new
-    by_talk (connection, t, (grants, granted, at, spoken, goes), rest, is_rest) =
-        let s = lines_are_sessions (IsListing b) connection grants (take read text) sent t (ap (λ (l : Language). read_as l (take read text)) spoken) at in
+    by_talk : MayTake (AreGranted b F) (IsListing b) ⊥ (Some (traffic (take read text) ended sent)) piece → IsTape b F text read ended new
+    by_talk (connection, t, (grants, granted, at, spoken, goes), asked, rest, is_rest) =
+        let s = going_on connection grants (take read text) sent t (lines_are_sessions (IsListing b) connection grants (take read text) sent t (ap (λ (l : Language). read_as l (take read text)) spoken) at) (unasked t.stops asked) in
         let first = first_items ended text read s.done s.left t.reader tape.whole goes s.came in
         let split : sent ++ t.unsent ≡ new ++ (drop count piece ++ rest) =
         ap (λ (x : List ℕ). sent ++ x) is_rest ∙ sent_on sent piece rest count ∙ ap (λ (x : List ℕ). x ++ (drop count piece ++ rest)) (sym longer) in

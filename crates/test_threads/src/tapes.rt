@@ -21,7 +21,7 @@ use std::io;
 use std::marker::{Brand, Model, PhantomData};
 use std::sync::Wait;
 use std::test::Fail;
-use std::time::Clock;
+use std::time::{Clock, Duration};
 use test_support::{last_pass, made};
 
 /// How many bytes come at once, and how many are taken, at most: less than a line, and than a reply.
@@ -95,6 +95,8 @@ impl<'a, N: Named> Stream for Tape<'a, N> {
 
     ghost listed = { IsListing N.board };
 
+    ghost asked = { ⊥ };
+
     fn language(&self) -> Language {
         // What its contract sees is known where a field is read.
         let _ended = self.ended;
@@ -135,6 +137,8 @@ impl<'a, N: Named> Stream for Tape<'a, N> {
 struct Deaf;
 
 impl Observer for Deaf {
+    ghost asked = { ⊥ };
+
     fn serving(&self, _serving: Serving, _listener: &Listener) {}
 
     fn no_port(&self, error: io::Error) {
@@ -158,6 +162,8 @@ impl Observer for Deaf {
     fn crowded(&self) {}
 
     fn answered(&self, _verb: Verb, _reply: Reply, _members: Option<usize>) {}
+
+    fn took(&self, _time: Duration) {}
 
     fn figures(&self) -> Figures {
         Figures::default()

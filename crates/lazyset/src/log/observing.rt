@@ -2,6 +2,7 @@
 use crate::identity::process;
 use crate::level::Level;
 use crate::log::{Log, Stoppable};
+use crate::many::Many;
 use crate::watched::Watched;
 use lazyset_arguments::{MAJOR, MINOR};
 use lazyset_set_commands::format_number;
@@ -11,12 +12,19 @@ use lz_serve::{Lack, Listener, Observer, Serving, Verb, close_listener};
 use std::io;
 use std::sync::Wait;
 use std::sync::atomic::Ordering;
-use std::time::Clock;
+use std::time::{Clock, Duration};
+
+// The bytes of a slot in its file.
+const SLOT_BYTES: usize = 16;
 
 impl<'a, R> Observer for Log<'a, R>
 where
     R: Eprint + Clock + Wait + AllocGlobal,
 {
+    ghost use Rattle.std.specs.Prelude.{⊤};
+
+    ghost asked = { ⊤ };
+
     fn serving(&self, serving: Serving, listener: &Listener) {
         if let Ok(same) = listener.try_clone() {
             let _ = self.listener.set(self.rt, same);
@@ -109,10 +117,11 @@ where
         match (verb, reply) {
             (Verb::Add, Reply::Yes) => {
                 if let Some(share) = self.gauge.came(members) {
-                    let (members, slots) = (self.members(), self.gauge.slots());
+                    let members = Many::new(self.members(), "member", "members");
+                    let slots = Many::new(self.gauge.slots(), "slot", "slots");
                     self.say(
                         Level::Warning,
-                        format_args!("{share} % full: {members} members in {slots} slots"),
+                        format_args!("{share} % full: {members} in {slots}"),
                     );
                 }
             }
@@ -126,25 +135,36 @@ where
         }
     }
 
+    fn took(&self, time: Duration) {
+        self.latencies.count(time);
+    }
+
     fn figures(&self) -> Figures {
         let (buckets, passes, loops) = self.shape();
+        let age = self.age().unwrap_or(Duration::ZERO);
+        let (answered, slots) = (self.tally.all(), self.gauge.slots());
         Figures {
             major: MAJOR,
             minor: MINOR,
             process: process(),
             run: self.run,
-            seconds: self.seconds(),
+            seconds: age.as_secs() as usize,
             stoppable: matches!(self.listener.get(), Some(Listener::Path(_))),
             clients: self.guests.load(Ordering::SeqCst),
             most_clients: self.places.load(Ordering::SeqCst),
             sessions: self.sessions.load(Ordering::SeqCst),
-            answered: self.tally.all(),
+            answered,
+            rate: self.rate.at(age, answered),
+            median_us: self.latencies.within(50),
+            p99_us: self.latencies.within(99),
             adds: self.tally.adds(),
             removes: self.tally.removes(),
             lookups: self.tally.lookups(),
             full: self.tally.full(),
             format: format_number(self.format) as usize,
-            slots: self.gauge.slots(),
+            slots,
+            used_bytes: self.gauge.members().saturating_mul(SLOT_BYTES),
+            most_bytes: slots.saturating_mul(SLOT_BYTES),
             members: self.members(),
             marks: self.marks(),
             buckets,

@@ -109,6 +109,11 @@ impl<S: Stream, N: Named, B: Given> Desk<S, N, B> {
         self.crowd.scans() > 0 || self.has_commands()
     }
 
+    /// Whether no command is under way or waits, and no page. A client may send on.
+    pub(crate) fn has_done_all(&self) -> bool {
+        self.rests() && self.crowd.scans() == 0 && !self.crowd.has_lines()
+    }
+
     // Whether a command is under way, or one waits that can begin.
     pub(super) fn has_commands(&self) -> bool {
         !self.rests() || !self.free.is_empty() && !self.crowd.is_quiet()

@@ -38,6 +38,7 @@ invariant_of-self-in-Ok-Some g c =
           (known_so (AreBefore P seen old.under puts) g.S.Stream.listed connection (AreBefore P seen new.under its) traffic old
           (λ grants so. before_same P seen (old.under ++ awaited request ∷ []) new.under (puts ++ put ∷ []) its grants under is (before_more P seen old.under puts (awaited request) put grants more so)) (was.2 kept)),
       λ held. absurd (cc),
+      λ stops. was.4 (sym (ap (λ (t : Talk). t.stops) asked.1) ∙ stops),
     )
 
 pub returns-in-Ok-Some-clause-own : goal.returns-in-Ok-Some-clause-own

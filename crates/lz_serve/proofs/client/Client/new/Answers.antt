@@ -1,5 +1,6 @@
 use Rattle.lz_serve.proofs.client.Client.new.Goals as goal
-use Rattle.std.proofs.Common.{◌≡◌, List, [], IsSome, refl, ap, sym, subst}
+use Rattle.std.proofs.Common.{◌≡◌, List, [], IsSome, refl, ap, sym, ◌∙◌, subst}
+use mathlib.Core.Bool.{true≢false}
 use Rattle.lz_board.specs.declared.pass.Pass.{Pass}
 use Rattle.lz_serve.specs.{declared.language.Language.{Language}, Clients.{passes_of}, Conversations.{Talk, nothing_yet}, Lines.{AreBefore}}
 use Rattle.lz_serve.proofs.{LinesUnderWay.{none_before, none_earned}, TalksOnStreams.{begins}}
@@ -18,4 +19,5 @@ invariant_of-result g c =
       none_earned P c.args.number [] new.told new.under puts (ap (λ (t : Talk). t.under) nothing) none,
       λ kept. begins (AreBefore P [] new.under puts) g.S.Stream.listed c.args.number (g.S.Stream.traffic c.args.stream) c.language-language.result new c.requires.fresh (none_before P [] new.under puts c.requires.promised) nothing c.language-language.ensures,
       λ held. absurd (cc),
+      λ stops. absurd (true≢false (sym stops ∙ ap (λ (t : Talk). t.stops) nothing)),
     )

@@ -20,4 +20,5 @@ invariant_of-self g c =
       λ kept.
           known_so (AreBefore P seen t.under puts) g.S.Stream.listed from.connection (AreBefore P now t.under puts) (g.S.Stream.traffic from.stream) t (λ grants so. before_seen P seen now t.under puts grants more so) (was.2 kept),
       was.3,
+      was.4,
     )

@@ -1,5 +1,5 @@
 use Rattle.lz_serve.proofs.client.Client.put_page.Goals as goal
-use Rattle.std.proofs.Common.{◌<◌, IsSome, Option, length, refl, sym, ap, subst}
+use Rattle.std.proofs.Common.{◌<◌, IsSome, Option, length, refl, sym, ap, ◌∙◌, subst}
 use Rattle.lz_list.specs.Traces.{Begins}
 use Rattle.lz_board.specs.Seats.{part}
 use Rattle.lz_serve.specs.{declared.reader.Reader.{Reader}, Clients.{Asker, AwaitsPage, passes_of, seen_by}, Conversations.{Talk}}
@@ -27,6 +27,7 @@ invariant_of-self g c =
           same_lines P L seen from.connection traffic new was.under new.under puts under
           (page_or_not P L seen from.connection traffic c.in-Ok.told l was new puts so late c.in-Ok.ensures.told c.in-Ok.ensures.none (c.self.invariant.2 kept)),
       λ held kept. held_same was new (ap (λ (t : Talk). t.waiting) others) told under (page_ended c.in-Ok.told l was new c.in-Ok.ensures.told c.in-Ok.ensures.none) (c.self.invariant.3 held kept),
+      λ stops. c.self.invariant.4 (sym (ap (λ (t : Talk). t.stops) others) ∙ stops),
     )
 
 pub returns-in-Ok-clause-paged : goal.returns-in-Ok-clause-paged

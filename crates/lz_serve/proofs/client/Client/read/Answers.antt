@@ -1,7 +1,7 @@
 use Rattle.lz_serve.proofs.client.Client.read.Goals as goal
-use Rattle.std.proofs.Common.{refl, ap}
+use Rattle.std.proofs.Common.{refl, ap, sym, ◌∙◌}
 use mathlib.Core.Bool.{true≢false}
-use Rattle.lz_serve.{specs.{Clients.{passes_of, seen_by}, Conversations.{Talk}, Exchanges.{requests_in}, Lines.{AreBefore}}, proofs.HeldUp.{held_more}}
+use Rattle.lz_serve.{specs.{Clients.{passes_of, seen_by}, Conversations.{Talk}, Exchanges.{requests_in, taken}, Lines.{AreBefore}}, proofs.HeldUp.{held_more}}
 use Rattle.lz_serve.proofs.{LinesUnderWay.{earned_same}, TalksOnStreams.{fed, finished, same_lines}}
 
 pub invariant_of-self : goal.invariant_of-self
@@ -23,7 +23,8 @@ invariant_of-self g c =
           (fed (AreBefore P seen old.under puts) g.S.Stream.listed connection (g.S.Stream.traffic c.self.inside.stream) after c.in-Count.count c.receive.new.buffer old new c.in-Count.ensures.received c.in-Ok.ensures.ok (was.2 kept)),
       λ held kept.
           let step = c.in-Ok.ensures.ok in
-          held_more old new (requests_in step.2) (ap (λ (t : Talk). t.waiting) step.5) (ap (λ (t : Talk). t.told) step.5) under (ap (λ (t : Talk). t.ended) step.5) (was.3 held kept),
+          held_more old new (requests_in (taken old.stops step.2)) (ap (λ (t : Talk). t.waiting) step.5) (ap (λ (t : Talk). t.told) step.5) under (ap (λ (t : Talk). t.ended) step.5) (was.3 held kept),
+      λ stops. was.4 (sym (ap (λ (t : Talk). t.stops) others) ∙ stops),
     )
 
 pub invariant_of-self-in-Ok-finish : goal.invariant_of-self-in-Ok-finish
@@ -45,5 +46,6 @@ invariant_of-self-in-Ok-finish g c =
           (finished (AreBefore P seen old.under puts) g.S.Stream.listed connection (g.S.Stream.traffic c.self.inside.stream) after c.receive.new.buffer old new c.in-Over.ensures.received c.in-Ok-finish.ensures.ok (was.2 kept)),
       λ held kept.
           let step = c.in-Ok-finish.ensures.ok in
-          held_more old new (requests_in step.1) (ap (λ (t : Talk). t.waiting) step.4) (ap (λ (t : Talk). t.told) step.4) under (ap (λ (t : Talk). t.ended) step.4) (was.3 held kept),
+          held_more old new (requests_in (taken old.stops step.1)) (ap (λ (t : Talk). t.waiting) step.4) (ap (λ (t : Talk). t.told) step.4) under (ap (λ (t : Talk). t.ended) step.4) (was.3 held kept),
+      λ stops. was.4 (sym (ap (λ (t : Talk). t.stops) others) ∙ stops),
     )

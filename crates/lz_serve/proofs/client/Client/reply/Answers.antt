@@ -22,6 +22,7 @@ invariant_of-self g c =
       λ kept.
           known_so (AreBefore P seen t.under puts) g.S.Stream.listed from.connection (AreBefore P now t.under puts) (g.S.Stream.traffic from.stream) t (λ grants so. before_seen P seen now t.under puts grants more so) (was.2 kept),
       was.3,
+      was.4,
     )
 
 pub invariant_of-self-else-note : goal.invariant_of-self-else-note
@@ -35,12 +36,13 @@ invariant_of-self-else-note g c =
     let puts = passes_of from.puts.items in
     let traffic = g.S.Stream.traffic from.stream in
     let more : Begins seen now = subst (λ (p : Pass). Begins seen (part p).known) (sym c.of.ensures) (subst (λ (a : Asker). Begins a.seen (part c.args.pass.now).known) (sym c.self.view_is) c.requires.seen) in
-    let Holds : Talk → Type 0 = λ t. (from.ended ≡ false → IsSome t.reader) × AreEarned P now from.connection t.told t.under puts × (from.lost ≡ false → IsTalkOf (AreBefore P now t.under puts) g.S.Stream.listed from.connection traffic t) × (from.held ≡ true → from.lost ≡ false → IsHeldUp t) in
+    let Holds : Talk → Type 0 = λ t. (from.ended ≡ false → IsSome t.reader) × AreEarned P now from.connection t.told t.under puts × (from.lost ≡ false → IsTalkOf (AreBefore P now t.under puts) g.S.Stream.listed from.connection traffic t) × (from.held ≡ true → from.lost ≡ false → IsHeldUp t) × (t.stops ≡ true → g.S.Stream.asked) in
     subst Holds (sym (c.note.ensures.none c.if-note.false)) (
       was.0,
       earned_seen P from.connection seen now old.told old.under puts more was.1,
       λ kept. known_so (AreBefore P seen old.under puts) g.S.Stream.listed from.connection (AreBefore P now old.under puts) traffic old (λ grants so. before_seen P seen now old.under puts grants more so) (was.2 kept),
       was.3,
+      was.4,
     )
 
 pub invariant_of-self-then-note : goal.invariant_of-self-then-note
@@ -85,6 +87,7 @@ invariant_of-self-then-note g c =
           before_same P now (slice_set old.under (number - suc old.told) (replied request reply)) new.under puts puts grants under refl
           (before_noted P seen now old.under puts (number - suc old.told) request reply grants more noted.0.1 so)) (was.2 kept)),
       λ held. absurd (cc),
+      λ stops. was.4 (sym (ap (λ (t : Talk). t.stops) noted.1) ∙ stops),
     )
 
 pub returns-then-note-clause-heard : goal.returns-then-note-clause-heard

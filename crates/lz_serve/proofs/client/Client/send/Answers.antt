@@ -11,8 +11,8 @@ take-requires g c =
     let seen = seen_by from.seen in
     let puts = passes_of from.puts.items in
     let traffic = g.S.Stream.traffic from.stream in
-    subst (MayTake P g.S.Stream.listed traffic) (sym c.unsent-2.ensures)
-    (may_take P g.S.Stream.listed from.connection traffic from.talk (known_so (AreBefore P seen from.talk.under puts) g.S.Stream.listed from.connection P traffic from.talk (λ grants so. so.0) (c.self.invariant.2 c.if-self.false)))
+    subst (MayTake P g.S.Stream.listed g.S.Stream.asked traffic) (sym c.unsent-2.ensures)
+    (may_take P g.S.Stream.listed from.connection g.S.Stream.asked traffic from.talk c.self.invariant.4 (known_so (AreBefore P seen from.talk.under puts) g.S.Stream.listed from.connection P traffic from.talk (λ grants so. so.0) (c.self.invariant.2 c.if-self.false)))
 
 pub invariant_of-self : goal.invariant_of-self
 invariant_of-self g c =
@@ -33,4 +33,5 @@ invariant_of-self g c =
           (sent (AreBefore P seen old.under puts) g.S.Stream.listed from.connection (g.S.Stream.traffic from.stream) after c.in-Count.count old new (subst (Takes (g.S.Stream.traffic from.stream) after (taken.Count c.in-Count.count)) c.unsent-2.ensures c.in-Count.ensures.taken) others
           (was.2 c.if-self.false)),
       λ held kept. held_same old new (ap (λ (t : Talk). t.waiting) others) (ap (λ (t : Talk). t.told) others) under (λ goes. sym (ap (λ (t : Talk). t.ended) others) ∙ goes) (was.3 held kept),
+      λ stops. was.4 (sym (ap (λ (t : Talk). t.stops) others) ∙ stops),
     )

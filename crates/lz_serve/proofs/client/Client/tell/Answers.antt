@@ -20,6 +20,7 @@ invariant_of-self g c =
       s.earned,
       λ kept. s.talk (c.self.invariant.2 kept),
       λ held. absurd (cc),
+      λ stops. c.self.invariant.4 (sym s.stops ∙ stops),
     )
 
 pub returns-in-Ok-clause-kept : goal.returns-in-Ok-clause-kept

@@ -1,6 +1,6 @@
 use Rattle.lz_serve.specs.declared.turn.Turn.TheVariants as turn
 use Rattle.lz_serve.proofs.client.Client.tell_query.Goals as goal
-use Rattle.std.proofs.Common.{◌≡◌, ◌-◌, ℕ, zero, IsSome, Option, drop, sym, ap, subst, arith}
+use Rattle.std.proofs.Common.{◌≡◌, ◌-◌, ℕ, zero, IsSome, Option, drop, sym, ap, ◌∙◌, subst, arith}
 use Rattle.lz_serve.{specs.{declared.reader.Reader.{Reader}, Clients.{passes_of, seen_by}, Conversations.{Talk}}, proofs.HeldUp.{held_same, told_ended}}
 use Rattle.lz_serve.proofs.TalksOnStreams.{told_or_not}
 
@@ -21,4 +21,5 @@ invariant_of-self g c =
       λ held kept.
           held_same was new (ap (λ (t : Talk). t.waiting) others) same (ap (λ (t : Talk). t.under) others)
           (told_ended c.in-Ok.told was new (λ so. let q = c.in-Ok.ensures.told so in (turn.Tells q.0, q.1, q.2, (c.figures-figures.result, q.3))) c.in-Ok.ensures.none) (c.self.invariant.3 held kept),
+      λ stops. c.self.invariant.4 (sym s.stops ∙ stops),
     )

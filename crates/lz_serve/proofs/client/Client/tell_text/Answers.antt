@@ -1,5 +1,5 @@
 use Rattle.lz_serve.proofs.client.Client.tell_text.Goals as goal
-use Rattle.std.proofs.Common.{◌≡◌, ◌-◌, ℕ, zero, IsSome, Option, drop, sym, ap, subst, arith}
+use Rattle.std.proofs.Common.{◌≡◌, ◌-◌, ℕ, zero, IsSome, Option, drop, sym, ap, ◌∙◌, subst, arith}
 use Rattle.lz_serve.{specs.{declared.reader.Reader.{Reader}, Clients.{passes_of, seen_by}, Conversations.{Talk}}, proofs.HeldUp.{held_same, told_ended}}
 use Rattle.lz_serve.proofs.TalksOnStreams.{told_or_not}
 
@@ -17,4 +17,5 @@ invariant_of-self g c =
       s.earned,
       λ kept. s.talk (c.self.invariant.2 kept),
       λ held kept. held_same was new (ap (λ (t : Talk). t.waiting) others) same (ap (λ (t : Talk). t.under) others) (told_ended c.in-Ok.told was new c.in-Ok.ensures.told c.in-Ok.ensures.none) (c.self.invariant.3 held kept),
+      λ stops. c.self.invariant.4 (sym s.stops ∙ stops),
     )

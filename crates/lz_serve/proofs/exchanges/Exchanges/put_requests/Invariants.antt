@@ -7,5 +7,6 @@ invariant-loop-request l =
     record {
       turns : l.self-inside.turns.items ≡ l.initial.self-inside.turns.items;
       requests : l.self-inside.requests.items ≡ l.initial.self-inside.requests.items ++ take l.request-index l.requests;
+      stops : l.self-inside.stops ≡ l.initial.self-inside.stops;
       asks : All (λ request. request ≢ Quit) l.self-inside.requests.items;
     }
