@@ -16,12 +16,7 @@ const MODE: u32 = 0o600;
 
 /// Listens at this path, where nobody does, with so many who may wait. What a service that was killed has left there is taken away. The file
 /// has the mode that was named before anybody may connect.
-pub fn listen_at<R>(
-    rt: &R,
-    path: &str,
-    mode: Option<u32>,
-    backlog: i32,
-) -> io::Result<UnixListener>
+pub fn listen_at<R>(rt: &R, path: &str, mode: Option<u32>, backlog: i32) -> io::Result<UnixListener>
 where
     R: Files<File = File> + Net,
 {

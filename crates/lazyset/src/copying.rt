@@ -107,7 +107,7 @@ fn copy_from<R, I, A, W>(
 where
     R: Files<File = File> + Eprint + Clock + AllocGlobal,
     I: Read,
-    A: Write,
+    A: Write + Drop,
     W: Write + Drop,
     requires { IfSome wish.format (λ f. last_room_of f ≡ last_room) }
 {
@@ -174,7 +174,10 @@ where
     new.gather(rt.alloc());
     // What is said of the copy waits for its name.
     let mut told: Vec<u8> = Vec::new(rt.alloc());
-    let made = New { file: beside, ..set };
+    let made = New {
+        file: beside,
+        ..set
+    };
     let (status, new) = copy_over(rt, reader, asker, &mut told, made, new);
     asker.end();
     say_cause(rt, beside, new.cause());

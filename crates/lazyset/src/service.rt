@@ -198,7 +198,9 @@ where
     R: Env + Files<File = File> + AllocGlobal,
 {
     let Service {
-        options, chosen, ..
+        options,
+        chosen,
+        ..
     } = service;
     let has_levels = is_journal(rt);
     Surroundings {

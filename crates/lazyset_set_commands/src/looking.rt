@@ -3,12 +3,12 @@ ghost use Rattle.std.specs.Prelude.{◌≡◌, All, length, map};
 ghost use Rattle.lz_board.specs.Seats.{part};
 ghost use Rattle.lz_set.specs.Names.{MayCall};
 ghost use Rattle.lazyset_file_commands.specs.Marks.{texts_mark};
-ghost use Rattle.lazyset_set_commands.specs.Looks.{HasLooked};
+ghost use Rattle.lazyset_set_commands.specs.Looks.{HasLooked, is_yes};
 ghost use Rattle.lazyset_set_commands.specs.Services.{AreUnused};
 
 use lazyset_file_commands::TEXTS_MARK;
 use lz_disk::Disk;
-use lz_set::{Glance, Named, NoGate, Pass, Set};
+use lz_set::{Glance, GlanceFault, Named, NoGate, Pass, Set};
 use lz_slot::Key;
 
 /// Is told of a set's keys once it was opened.
@@ -35,9 +35,16 @@ where
     ensures looked { HasLooked texts_mark result (part pass.old) (part pass.new) }
 {
     match Key::of_rank(TEXTS_MARK) {
-        Some(mark) => matches!(set.glance(pass, mark), Ok(Glance::Yes)),
+        Some(mark) => is_yes(set.glance(pass, mark)),
         None => false,
     }
+}
+
+// Whether a glance has found its key for sure.
+fn is_yes(answer: Result<Glance, GlanceFault>) -> bool
+    ensures { result ≡ is_yes answer }
+{
+    matches!(answer, Ok(Glance::Yes))
 }
 
 // The same of the first of these passes, where there is one.
