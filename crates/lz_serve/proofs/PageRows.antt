@@ -1,6 +1,7 @@
 -- Worked exchanges that ask for a page.
 use Rattle.lz_board.specs.declared.answer.GlanceFault.TheVariants as fault
 use Rattle.lz_serve.specs.declared.turn.Turn.TheVariants as turn
+use Rattle.std.specs.Prelude.{unwrap_or}
 use Rattle.std.proofs.Common.{◌≡◌, ℕ, zero, suc, true, false, List, [], ◌∷◌, All, Ok, Err, Some, None, refl, sym, ap, ◌∙◌, subst, arith, codes, lit<}
 use Rattle.std.specs.Fmt.{digits}
 use Rattle.lz_list.specs.{Traces.{Begins}, declared.publishing.Publishing.{Publishing}}
@@ -12,7 +13,7 @@ use Rattle.lz_serve.specs.{Clients.{TellsPageAt, left, listed, nobody}, Conversa
 use Rattle.lz_serve.{specs.{Listings.{Listing, listing_text, told_text}, declared.turn.Turn.{Turn}}, proofs.ConversationRows.{any}}
 
 abbrev first : Scan
-first = record { room = 3; from = 0; most = 10 }
+first = record { room = Some 3; from = 0; most = 10 }
 
 -- what was listed for it, whatever was told before
 abbrev Is : Listing → List Grant → Type 0
@@ -91,8 +92,8 @@ too_old : (g : Grant) (l : Listing) (change : Publishing) → (part g.after).kno
 too_old g l change had none for = grind (arith, nothing_begun)
 
 -- a page that was listed for another room
-another_room : (l : Listing) → l.scan ≡ record { room = 2; from = 0; most = 10 } → IsPageFor any first [] l → ⊥
-another_room l is for = let same : 2 ≡ 3 = ap (λ (s : Scan). s.room) (sym is ∙ for.its) in absurd (omega (arith, same))
+another_room : (l : Listing) → l.scan ≡ record { room = Some 2; from = 0; most = 10 } → IsPageFor any first [] l → ⊥
+another_room l is for = let same : 2 ≡ 3 = ap (λ (s : Scan). unwrap_or s.room 0) (sym is ∙ for.its) in absurd (omega (arith, same))
 
 -- a page that nobody listed
 not_without_a_page : (said : List ℕ) (grants : List Grant) → IsTold (λ l. ⊥) 1 [] (lists first) grants said Done → ⊥
@@ -111,10 +112,10 @@ second_awaits : AwaitsPage (lister (turn.Says [] ∷ turn.Lists first ∷ [])) f
 second_awaits awaits = let its = awaits.2 in absurd (cc)
 
 abbrev room_of : List Turn → ℕ
-room_of (turn.Lists scan ∷ turns) = scan.room
+room_of (turn.Lists scan ∷ turns) = unwrap_or scan.room 0
 room_of other = 0
 
-another_awaits : AwaitsPage (lister (turn.Lists first ∷ [])) (record first { room = 2 }) → ⊥
+another_awaits : AwaitsPage (lister (turn.Lists first ∷ [])) (record first { room = Some 2 }) → ⊥
 another_awaits awaits = let same : ◌≡◌ {A = ℕ} 3 2 = ap room_of awaits.2 in absurd (omega (arith, same))
 
 -- none was told

@@ -1,5 +1,5 @@
 -- The clients of a service that stops, of which the first ones were refused what they had that wasn't begun.
-use Rattle.std.proofs.Common.{◌≡◌, ◌⊎◌, ◌≤◌, ◌<◌, inl, inr, ℕ, zero, suc, List, [], ◌∷◌, Option, Some, None, IfSome, length, slice_get, refl, sym, ap, subst, ◌∙◌, arith}
+use Rattle.std.proofs.Common.{◌≡◌, ◌⊎◌, ◌≤◌, ◌<◌, ◌+◌, inl, inr, ℕ, zero, suc, List, [], ◌∷◌, Option, Some, None, IfSome, length, slice_get, refl, sym, ap, subst, ◌∙◌, arith}
 use Rattle.std.proofs.lemmas.Bool.{cases_lt, cases_order}
 use Rattle.lz_serve.{specs.Clients.{Asker, Askers, ChangesAt, Keeps, RefusesAt, RefusesOf}, proofs.Crowds.{keeps_same, keeps_then}}
 
@@ -22,7 +22,7 @@ so_of : (before was now new : Option (Option Asker)) → before ≡ was → new 
 so_of before was now new old_is new_is so =
     subst (λ (o : Option (Option Asker)). IfSome o (λ a. IfSome new (λ b. RefusesOf a b))) (sym old_is) (subst (λ (n : Option (Option Asker)). IfSome was (λ a. IfSome n (λ b. RefusesOf a b))) (sym new_is) so)
 
-one_so : (count token : ℕ) (old mid new : Askers) → Refused count old mid → RefusesAt mid count new → ChangesAt count mid new → token < suc count → (token ≡ count) ⊎ ((token < count) ⊎ (count < token)) → RefusesAt old token new
+one_so : (count token : ℕ) (old mid new : Askers) → Refused count old mid → RefusesAt mid count new → ChangesAt count mid new → token < count + 1 → (token ≡ count) ⊎ ((token < count) ⊎ (count < token)) → RefusesAt old token new
 one_so count token old mid new was one changes low (inl same) =
     subst (λ (t : ℕ). RefusesAt old t new) (sym same)
     (so_of (slice_get old.clients count) (slice_get mid.clients count) (slice_get new.clients count) (slice_get new.clients count) (sym (was.others count (omega arith))) refl one)
@@ -30,7 +30,7 @@ one_so count token old mid new was one changes low (inr (inl less)) =
     so_of (slice_get old.clients token) (slice_get old.clients token) (slice_get mid.clients token) (slice_get new.clients token) refl (changes token (λ same. absurd (omega (arith, same, less)))) (was.refused token less)
 one_so count token old mid new was one changes low (inr (inr more)) = absurd (omega (arith, low, more))
 
-pub refused_one : (count : ℕ) (old mid new : Askers) → Refused count old mid → Keeps mid new → RefusesAt mid count new → ChangesAt count mid new → Refused (suc count) old new
+pub refused_one : (count : ℕ) (old mid new : Askers) → Refused count old mid → Keeps mid new → RefusesAt mid count new → ChangesAt count mid new → Refused (count + 1) old new
 refused_one count old mid new was keeps one changes =
     record {
       kept = keeps_then old mid new was.kept keeps;

@@ -8,10 +8,11 @@ use Rattle.lz_serve.proofs.Meetings.{some_mapped}
 pub calls-init : goal.calls-init
 calls-init g c =
     let from = c.self.inside in
+    let is = c.self.view_is ∙ c.see_time-tries.ensures in
     record {
-      given = ap (λ (p : Passes). p.given) c.self.view_is;
-      ends = subst (λ (p : Passes). p.ends ≡ true → (from.ends ≡ true) × All (AnswersOneOf p.calls) from.calls.items) c.self.view_is (λ over. (over, each_its_own from.calls.items));
-      within = subst (λ (p : Passes). from.crowd.begun + from.left ≤ p.begun + p.left) c.self.view_is (omega arith);
+      given = ap (λ (p : Passes). p.given) is;
+      ends = subst (λ (p : Passes). p.ends ≡ true → (from.ends ≡ true) × All (AnswersOneOf p.calls) from.calls.items) is (λ over. (over, each_its_own from.calls.items));
+      within = subst (λ (p : Passes). from.crowd.begun + from.left ≤ p.begun + p.left) is (omega arith);
       desk = c.self.invariant;
     }
 
