@@ -9,7 +9,6 @@ import signal
 import socket
 import stat
 import subprocess
-import sys
 import tempfile
 import threading
 import time
@@ -150,12 +149,26 @@ def try_group(program: Program) -> None:
         return
     with tempfile.TemporaryDirectory() as folder:
         os.chmod(folder, 0o711)
-        file, asks = os.path.join(folder, "f"), "import socket, sys; socket.socket(socket.AF_UNIX).connect(sys.argv[1])"
+        file = os.path.join(folder, "f")
         program.make(file, 8)
         for word, group, is_let_in in (("0660", os.getegid(), True), ("0660", OTHER, False), ("0600", os.getegid(), False), ("0666", OTHER, True)):
             with served(program, file, "--socket-mode", word):
-                ended = subprocess.run([sys.executable, "-c", asks, socket_of(file)], stderr=subprocess.DEVNULL, user=OTHER, group=group, extra_groups=[])
-                expect(ended.returncode == 0, is_let_in, f"that one of group {group} can connect at mode {word}")
+                expect(connects_as(group, socket_of(file)), is_let_in, f"that one of group {group} can connect at mode {word}")
+
+
+def connects_as(group: int, path: str) -> bool:
+    """Whether another user, of this group alone, can connect there. A process of its own tries it."""
+    child = os.fork()
+    if child == 0:
+        try:
+            os.setgroups([])
+            os.setgid(group)
+            os.setuid(OTHER)
+            socket.socket(socket.AF_UNIX).connect(path)
+            os._exit(0)
+        finally:
+            os._exit(1)
+    return os.waitpid(child, 0)[1] == 0
 
 
 def try_crowd(program: Program, folder: str) -> None:
