@@ -2,20 +2,19 @@
 ghost use Rattle.std.specs.Prelude.{◌≡◌};
 
 use crate::share::Share;
-use lz_slot::LAST_ROOM;
 use std::io;
 use std::io::Write;
 use std::time::Clock;
 
-// What stands before the room and the cursor of a question.
-const QUESTION: &str = "SSCAN";
+// What stands before the cursor of a question.
+const QUESTION: &str = "LZ.SCAN";
 
-/// A connection over which a service is asked for the pages of its rooms. What it was asked is what the connection was given.
+/// A connection over which a service is asked for the pages of its set. What it was asked is what the connection was given.
 #[derive(Drop)]
 pub struct Asked<'a, 'b, R: Eprint + Clock, A: Write> {
     asker: A,
     share: Share<'a, 'b, R>,
-    /// How many slots each room is asked about, once that is known.
+    /// How many slots it is asked about, once that is known.
     slots: u64,
 }
 
@@ -30,13 +29,12 @@ impl<'a, 'b, R: Eprint + Clock, A: Write> Asked<'a, 'b, R, A> {
         }
     }
 
-    /// Each room is asked about so many slots.
+    /// It is asked about so many slots.
     pub fn of_slots(&mut self, slots: u64)
         ensures { self.new.asker ≡ self.old.asker }
     {
         self.slots = slots;
-        self.share
-            .of_total(slots.saturating_mul(u64::from(LAST_ROOM) + 1));
+        self.share.of_total(slots);
     }
 
     /// All was asked.
@@ -50,23 +48,19 @@ impl<'a, 'b, R: Eprint + Clock, A: Write> Asked<'a, 'b, R, A> {
     fn reach(&mut self, bytes: &[u8])
         ensures { self.new.asker ≡ self.old.asker }
     {
-        if let Some((room, cursor)) = page_in(bytes) {
-            let before = self.slots.saturating_mul(room);
-            self.share
-                .reach(before.saturating_add(cursor.min(self.slots)));
+        if let Some(cursor) = cursor_in(bytes) {
+            self.share.reach(cursor.min(self.slots));
         }
     }
 }
 
-// The room and the cursor of a question for a page.
-fn page_in(bytes: &[u8]) -> Option<(u64, u64)> {
+// The cursor of a question for a page.
+fn cursor_in(bytes: &[u8]) -> Option<u64> {
     let mut words = str::from_utf8(bytes).ok()?.split(' ');
     if words.next()? != QUESTION {
         return None;
     }
-    let room = words.next()?.parse::<u64>().ok()?;
-    let cursor = words.next()?.parse::<u64>().ok()?;
-    Some((room, cursor))
+    words.next()?.parse::<u64>().ok()
 }
 
 impl<R: Eprint + Clock, A: Write> Write for Asked<'_, '_, R, A> {
