@@ -129,17 +129,17 @@ def slow(replies: Sequence[bytes], seconds: float) -> Iterator[int]:
 def try_copy(program: Program, folder: str) -> None:
     """A copy shows how far the service was asked, page by page, on a terminal and nowhere else."""
     file = os.path.join(folder, "f")
-    pages = (told(20, 3), told(40), told(60), *PAGES)
+    pages = (told(10, 3), *(told(cursor) for cursor in range(20, 70, 10)), *PAGES)
     for replies, words in (((bulk(ROWS), *pages), ()), (pages, ("70",)), ((bulk(ROWS), *pages), ("--replace",))):
         if not words or words[0] != "--replace":
             put(file, None)
-        with terminal() as (theirs, written), slow(replies, 0.2) as port:
+        with terminal() as (theirs, written), slow(replies, 0.5) as port:
             command = [program.path, "copy", str(port), file, *words]
             ended = subprocess.run(command, stdin=subprocess.DEVNULL, stdout=subprocess.PIPE, stderr=theirs, timeout=PATIENCE)
         expect((ended.stdout, ended.returncode), (b"copied 3\n", 0), f"a slow copy {words}")
         expect_shares("".join(written), str(port), f"a copy {words}")
     put(file, None)
-    with slow((bulk(ROWS), *pages), 0.2) as port:
+    with slow((bulk(ROWS), *pages), 0.5) as port:
         expect(program.run_loud("copy", str(port), file), (Ended("copied 3\n", 0), ""), "a copy without a terminal")
 
 

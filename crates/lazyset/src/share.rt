@@ -5,7 +5,7 @@ use std::os::unix::fs::FileTypeExt;
 use std::rt::Files;
 use std::time::Clock;
 
-// Standard error, as a file.
+// Standard output and standard error, as files.
 const OUTPUT: &str = "/proc/self/fd/1";
 
 const ERROR: &str = "/proc/self/fd/2";
