@@ -126,13 +126,13 @@ def try_order(program: Program, file: str) -> None:
     needs_strace()
     trace = f"{file}.trace"
     program.make(file, 8)
-    before = ["strace", "-f", "-qq", "-o", trace, "-e", "trace=bind,chmod,fchmodat,fchmodat2,listen"]
+    before = ["strace", "-f", "-qq", "-o", trace, "-e", "trace=bind,chmod,fchmodat,?fchmodat2,listen"]
     with served(program, file, "--socket-mode", "0660", before=before):
         pass
     with open(trace, encoding="ascii", errors="replace") as lines:
         calls = [found[0] for found in (re.findall(r"(\w+)\(", line) for line in lines) if found]
     expect([call.replace("fchmodat", "chmod").replace("chmod2", "chmod") for call in calls], ["bind", "chmod", "listen"], "the calls for its socket")
-    refuses = ["strace", "-f", "-qq", "-o", os.devnull, "-e", "trace=chmod,fchmodat,fchmodat2", "-e", "inject=chmod,fchmodat,fchmodat2:error=EPERM"]
+    refuses = ["strace", "-f", "-qq", "-o", os.devnull, "-e", "trace=chmod,fchmodat,?fchmodat2", "-e", "inject=chmod,fchmodat,?fchmodat2:error=EPERM"]
     words = ("serve", file, "-", "2", "--socket", socket_of(file), "--socket-mode", "0660")
     ended, said = program.run_loud(*words, before=refuses)
     why = f"lazyset: serve {file}: noport: Operation not permitted (os error 1)"

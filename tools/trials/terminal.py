@@ -127,9 +127,9 @@ def slow(replies: Sequence[bytes], seconds: float) -> Iterator[int]:
 
 
 def try_copy(program: Program, folder: str) -> None:
-    """A copy shows how far the service was asked, page by page, on a terminal and nowhere else."""
+    """A copy shows how far the service was asked, on a terminal and nowhere else."""
     file = os.path.join(folder, "f")
-    pages = (told(10, 3), *(told(cursor) for cursor in range(20, 70, 10)), *PAGES)
+    pages = (told(10, 3), *map(told, range(20, 70, 10)), *PAGES)
     for replies, words in (((bulk(ROWS), *pages), ()), (pages, ("70",)), ((bulk(ROWS), *pages), ("--replace",))):
         if not words or words[0] != "--replace":
             put(file, None)

@@ -9,13 +9,13 @@ use std::time::Clock;
 // What stands before the cursor of a question.
 const QUESTION: &str = "LZ.SCAN";
 
-/// A connection over which a service is asked for the pages of its set. What it was asked is what the connection was given.
+/// A connection over which a service is asked for pages of its keys. What it was asked is what the connection was given.
 #[derive(Drop)]
 pub struct Asked<'a, 'b, R: Eprint + Clock, A: Write> {
     asker: A,
     share: Share<'a, 'b, R>,
-    /// How many slots it is asked about, once that is known.
-    slots: u64,
+    /// The last slot that it is asked about, once that is known.
+    last: u64,
 }
 
 impl<'a, 'b, R: Eprint + Clock, A: Write> Asked<'a, 'b, R, A> {
@@ -25,7 +25,7 @@ impl<'a, 'b, R: Eprint + Clock, A: Write> Asked<'a, 'b, R, A> {
         Asked {
             asker,
             share,
-            slots: 0,
+            last: 0,
         }
     }
 
@@ -33,7 +33,7 @@ impl<'a, 'b, R: Eprint + Clock, A: Write> Asked<'a, 'b, R, A> {
     pub fn of_slots(&mut self, slots: u64)
         ensures { self.new.asker ≡ self.old.asker }
     {
-        self.slots = slots;
+        self.last = slots.saturating_sub(1);
         self.share.of_total(slots);
     }
 
@@ -49,7 +49,7 @@ impl<'a, 'b, R: Eprint + Clock, A: Write> Asked<'a, 'b, R, A> {
         ensures { self.new.asker ≡ self.old.asker }
     {
         if let Some(cursor) = cursor_in(bytes) {
-            self.share.reach(cursor.min(self.slots));
+            self.share.reach(cursor.min(self.last));
         }
     }
 }

@@ -70,7 +70,5 @@ fn end_of(step: usize) -> usize {
         return step;
     }
     let doubling = (step / 4).saturating_sub(1).min(63);
-    (step % 4 + 5)
-        .wrapping_shl(doubling as u32)
-        .wrapping_sub(1)
+    (step % 4 + 5).wrapping_shl(doubling as u32).wrapping_sub(1)
 }

@@ -1,7 +1,7 @@
 -- What a service leaves whose passes were handed back.
-use Rattle.std.proofs.Common.{◌≡◌, ◌⊎◌, inl, inr, ⊎_elim, All, Bool, true, false, ℕ, ◌≤◌, ◌<◌, zero, suc, List, [], ◌∷◌, length, map, refl, sym, ap, ◌∙◌, subst}
+use Rattle.std.proofs.Common.{◌≡◌, ◌⊎◌, inl, inr, ⊎_elim, All, Bool, true, false, ℕ, ◌≤◌, ◌<◌, zero, suc, List, [], ◌∷◌, length, map, slice_set, refl, sym, ap, ◌∙◌, subst}
 use Rattle.std.proofs.{Common.{Some, None, eq-eqb}, lemmas.{Bool.{eqb-true}, List.{get_or-map, length-map}}}
-use Rattle.std.proofs.lemmas.List.{Elements.{All-from_recursion, All-map, recursion_from_All}, Folds.{Any-from_list_any, list_any-from_Any}}
+use Rattle.std.proofs.lemmas.List.{Elements.{All-from_recursion, All-map, All-set, recursion_from_All}, Folds.{Any-from_list_any, list_any-from_Any}}
 use Rattle.std.specs.{Prelude.{◌==◌, ◌||◌, Option, get_or}, List.{AllByRecursion, Any, list_any}}
 use mathlib.Core.Bool.{true≢false}
 use Rattle.lz_slot.specs.{declared.command.Command.{Command}, Histories.{History}}
@@ -29,6 +29,17 @@ all_new b ps new = sym (length-map ps (λ p. part p)) ∙ (ap (λ (l : List Part
 -- a new pass has made no call
 pub new_unused : (b : BoardId) (ps : List Pass) → AreNew b ps → AreUnused (map (λ p. part p) ps)
 new_unused b ps new = All-map (λ (h : Part). h.steps ≡ []) (λ p. part p) ps (λ k d low. ap (λ (h : Part). h.steps) (new.new k d low).1)
+
+each_unused : (ps : List Pass) → AllByRecursion (λ (h : Part). h.steps ≡ []) (map (λ p. part p) ps) → AllByRecursion (λ (p : Pass). (part p).steps ≡ []) ps
+each_unused [] all = tt
+each_unused (p ∷ ps) all = (all.0, each_unused ps all.1)
+
+-- nor has one of them, once the first has looked
+pub unused_first : (ps : List Pass) (old new : Pass) → 0 < length ps → old ≡ get_or ps 0 old → (part new).steps ≡ (part old).steps → AreUnused (map (λ p. part p) ps) → AreUnused (map (λ p. part p) (slice_set ps 0 new))
+unused_first ps old new some first same unused =
+    let each : All (λ (p : Pass). (part p).steps ≡ []) ps = All-from_recursion (λ (p : Pass). (part p).steps ≡ []) ps (each_unused ps (recursion_from_All (λ (h : Part). h.steps ≡ []) (map (λ p. part p) ps) unused)) in
+    let none : (part new).steps ≡ [] = same ∙ ap (λ (p : Pass). (part p).steps) first ∙ each 0 old some in
+    All-map (λ (h : Part). h.steps ≡ []) (λ p. part p) (slice_set ps 0 new) (All-set (λ (p : Pass). (part p).steps ≡ []) ps 0 new none each)
 
 -- and none was cut off of passes that have made none
 pub unused_calm : (parts : List Part) → AreUnused parts → All IsCalm parts

@@ -1,6 +1,7 @@
 use Rattle.lazyset_set_commands.proofs.looking.has_mark.Goals as goal
-use Rattle.std.proofs.Common.{ℕ, lit≤, subst}
-use Rattle.lz_board.specs.{declared.{answer.{Glance.{Glance}, GlanceFault.{GlanceFault}}, view.Part.{Part}}, Glances.{Glances}, Seats.{part}}
+use Rattle.std.proofs.Common.{ℕ, lit≤, subst, sym}
+use mathlib.Core.Bool.{true≢false}
+use Rattle.lz_board.specs.{Glances.{Glances}, Seats.{part}}
 
 pub returns-in-Some-clause-looked : goal.returns-in-Some-clause-looked
 returns-in-Some-clause-looked g c = record {
@@ -11,4 +12,4 @@ returns-in-Some-clause-looked g c = record {
 }
 
 pub returns-in-None-clause-looked : goal.returns-in-None-clause-looked
-returns-in-None-clause-looked g c = absurd (c.in-None.ensures.range.1 (lit≤ tt))
+returns-in-None-clause-looked g c = absurd (true≢false (sym (c.in-None.ensures.range.1 (lit≤ tt))))
