@@ -56,6 +56,16 @@ def expect_shares(text: str, name: str, what: str) -> None:
     expect(text.rindex(CLEARED) > text.rindex(f"{found[-1]} %"), True, f"that the shares of {what} are gone")
 
 
+def try_fault(program: Program, folder: str) -> None:
+    """A command line that isn't understood is told once where both outputs are a terminal, and on both where they aren't."""
+    ended, said = program.run_loud("frob")
+    first = ended.text.splitlines()[0]
+    expect((ended.status, said), (2, f"lazyset: {first}\n"), "a fault without a terminal")
+    with terminal() as (theirs, written):
+        subprocess.run([program.path, "frob"], stdin=subprocess.DEVNULL, stdout=theirs, stderr=theirs, timeout=PATIENCE)
+    expect("".join(written), ended.text.replace("\n", "\r\n"), "what a terminal shows")
+
+
 def slowed() -> List[str]:
     return ["strace", "-f", "-qq", "-o", os.devnull, "-e", "trace=pread64", "-e", f"inject=pread64:delay_exit={SLOW}"]
 
@@ -134,6 +144,7 @@ def try_copy(program: Program, folder: str) -> None:
 
 
 TRIALS = (
+    ("what a terminal shows of a fault", try_fault),
     ("what a terminal shows of a run", try_run),
     ("what a terminal shows of a service", try_serve),
     ("what a terminal shows of a copy", try_copy),

@@ -46,13 +46,16 @@ mod way_out;
 mod words;
 
 use crate::commands::run;
+use crate::share::are_terminals;
 use std::process::ExitCode;
 
 fn main(rt: HostRuntime) -> ExitCode {
     match run(&rt) {
         Ok(status) => ExitCode::from(status.code()),
         Err(fault) => {
-            if let Some(words) = fault.words() {
+            if let Some(words) = fault.words()
+                && !are_terminals(&rt)
+            {
                 let _ = eprintln!(rt; "lazyset: {words}");
             }
             // Where standard output fails too, the status alone is left to tell.

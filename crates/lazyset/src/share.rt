@@ -5,7 +5,9 @@ use std::os::unix::fs::FileTypeExt;
 use std::rt::Files;
 use std::time::Clock;
 
-// Standard error, as a file.
+// Standard output and standard error, as files.
+const OUTPUT: &str = "/proc/self/fd/1";
+
 const ERROR: &str = "/proc/self/fd/2";
 
 /// Says on standard error, where that is a terminal, which share of a file was read or written, or of a service asked: once a second, from
@@ -89,8 +91,17 @@ impl<'a, 'b, R: Eprint + Clock> Share<'a, 'b, R> {
 
 /// Whether standard error is a terminal.
 pub fn is_terminal<R: Files<File = File>>(rt: &R) -> bool {
-    match rt.metadata(ERROR) {
-        Ok(facts) if facts.file_type().is_char_device() => match File::open(rt, ERROR) {
+    is_terminal_at(rt, ERROR)
+}
+
+/// Whether standard output is a terminal too: what both are told would stand there twice.
+pub fn are_terminals<R: Files<File = File>>(rt: &R) -> bool {
+    is_terminal_at(rt, OUTPUT) && is_terminal(rt)
+}
+
+fn is_terminal_at<R: Files<File = File>>(rt: &R, path: &str) -> bool {
+    match rt.metadata(path) {
+        Ok(facts) if facts.file_type().is_char_device() => match File::open(rt, path) {
             Ok(file) => file.is_terminal(),
             Err(_) => false,
         },

@@ -48,14 +48,14 @@ fn is_yes(answer: Result<Glance, GlanceFault>) -> bool
 }
 
 // The same of the first of these passes, where there is one.
-pub(crate) fn first_sees_mark<D, N>(set: &Set<D, NoGate, N>, passes: &mut [Pass]) -> bool
+pub(crate) fn first_sees_mark<D, N>(set: &Set<D, NoGate, N>, passes: &mut Vec<Pass>) -> bool
 where
     D: Disk,
     N: Named,
-    requires { All (MayCall N.board) passes.old }
-    ensures may_call { All (MayCall N.board) passes.new }
-    ensures count { length passes.new ≡ length passes.old }
-    ensures unused { AreUnused (map (λ p. part p) passes.old) → AreUnused (map (λ p. part p) passes.new) }
+    requires { All (MayCall N.board) passes.old.items }
+    ensures may_call { All (MayCall N.board) passes.new.items }
+    ensures count { length passes.new.items ≡ length passes.old.items }
+    ensures unused { AreUnused (map (λ p. part p) passes.old.items) → AreUnused (map (λ p. part p) passes.new.items) }
 {
     if passes.is_empty() {
         return false;

@@ -120,7 +120,7 @@ where
     };
     observer.serving(serving, &listener);
     let mut passes = fresh;
-    let mark = first_sees_mark(&set, passes.as_mut_slice());
+    let mark = first_sees_mark(&set, &mut passes);
     observer.found(serving.members, mark);
     if !tell_place(writer, path, port) {
         return (Status::Failed, set.close());
