@@ -334,8 +334,9 @@ where
     P: Poller,
     ensures { Keeps crowd.old crowd.new }
 {
+    let began = note_time(rt, crowd);
     crowd.part_all(observer, buffer);
-    if let Ok(began) = rt.monotonic() {
+    if let Some(began) = began {
         'turns: for _ in 0..u64::MAX {
             if crowd.is_empty() || !is_within(rt, began) {
                 break;
@@ -346,6 +347,15 @@ where
         }
     }
     crowd.close_all();
+}
+
+// Notes the time: a client whose session ends now is waited for from now on, however long the turn was before.
+fn note_time<R: Clock, S: Stream>(rt: &R, crowd: &mut Crowd<S>) -> Option<Duration>
+    ensures { crowd.new ≡ crowd.old }
+{
+    let now = rt.monotonic().ok()?;
+    crowd.note_time(now);
+    Some(now)
 }
 
 // For how long it is waited for something to be heard: not at all where a client sends on.
