@@ -31,7 +31,12 @@ pub(crate) fn scan(
     let Some(room) = room_of(argument(arguments, 1)) else {
         return Ok(Item::Says(no_room(alloc)?));
     };
-    page_from(alloc, Some(room), argument(arguments, 2), after(arguments, 3))
+    page_from(
+        alloc,
+        Some(room),
+        argument(arguments, 2),
+        after(arguments, 3),
+    )
 }
 
 /// A page of all rooms.

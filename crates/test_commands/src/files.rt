@@ -41,7 +41,14 @@ fn run<R: Wait + Clock + AllocGlobal>(rt: &R, file: MemoryDisk, lines: &[u8]) ->
     let mut printed: Vec<u8> = Vec::new(rt.alloc());
     let mut file = file;
     suit(&mut file);
-    let (status, disk) = run_on(rt, &mut input, &mut printed, &NoHeed, FileDisk::over(file), 1);
+    let (status, disk) = run_on(
+        rt,
+        &mut input,
+        &mut printed,
+        &NoHeed,
+        FileDisk::over(file),
+        1,
+    );
     Ran {
         code: status.code(),
         printed,

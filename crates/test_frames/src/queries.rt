@@ -92,7 +92,8 @@ fn pages_are_of_the_room_that_is_named_or_of_all(rt: HostRuntime) -> Result<(), 
     let text = first.text(rt.alloc(), keys.as_slice(), Some(Slot::new(512)))?;
     assert!(rt; text.as_bytes() == b"*2\r\n$3\r\n512\r\n*1\r\n$2\r\n17\r\n".as_slice());
     let text = all.text(rt.alloc(), keys.as_slice(), Some(Slot::new(512)))?;
-    let told = b"*2\r\n$3\r\n512\r\n*2\r\n$19\r\n3000000000000000017\r\n$19\r\n2000000000000000004\r\n";
+    let told =
+        b"*2\r\n$3\r\n512\r\n*2\r\n$19\r\n3000000000000000017\r\n$19\r\n2000000000000000004\r\n";
     assert!(rt; text.as_bytes() == told.as_slice());
     let text = second.text(rt.alloc(), &[], None)?;
     assert!(rt; text.as_bytes() == b"*2\r\n$1\r\n0\r\n*0\r\n".as_slice());
