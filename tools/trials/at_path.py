@@ -132,11 +132,14 @@ def try_order(program: Program, file: str) -> None:
         calls = [found[0] for found in (re.findall(r"(\w+)\(", line) for line in lines) if found]
     expect([call.replace("fchmodat", "chmod").replace("chmod2", "chmod") for call in calls], ["bind", "chmod", "listen"], "the calls for its socket")
     refuses = ["strace", "-f", "-qq", "-o", os.devnull, "-e", "trace=chmod,fchmodat,?fchmodat2", "-e", "inject=chmod,fchmodat,?fchmodat2:error=EPERM"]
-    words = ("serve", file, "-", "2", "--socket", socket_of(file), "--socket-mode", "0660")
+    # A file of its own: the service before it may have that one for a moment more.
+    other = f"{file}.other"
+    program.make(other, 8)
+    words = ("serve", other, "-", "2", "--socket", socket_of(other), "--socket-mode", "0660")
     ended, said = program.run_loud(*words, before=refuses)
-    why = f"lazyset: serve {file}: noport: Operation not permitted (os error 1)"
+    why = f"lazyset: serve {other}: noport: Operation not permitted (os error 1)"
     expect((ended, said.splitlines()[-1]), (Ended("noport\n", 1), why), "a mode that can't be had")
-    expect(os.path.lexists(socket_of(file)), False, "whether its socket is there yet")
+    expect(os.path.lexists(socket_of(other)), False, "whether its socket is there yet")
 
 
 # Somebody else's number.
