@@ -7,20 +7,13 @@ use std::alloc::{AllocError, Global};
 use std::test::Fail;
 use test_support::{Narrow, Slow};
 
-// Room 0 in two pages, which tell 17 twice.
+// Two pages of all rooms, which tell 17 twice, and the key 8 of room 3.
 const FIRST: &[u8] = b"*2\r\n$4\r\n4096\r\n*2\r\n$2\r\n17\r\n$1\r\n5\r\n";
 
-const SECOND: &[u8] = b"*2\r\n$1\r\n0\r\n*1\r\n$2\r\n17\r\n";
-
-// Room 3 in one page.
-const THIRD: &[u8] = b"*2\r\n$1\r\n0\r\n*1\r\n$1\r\n8\r\n";
-
-// A room of no members.
-const NONE: &[u8] = b"*2\r\n$1\r\n0\r\n*0\r\n";
+const SECOND: &[u8] = b"*2\r\n$1\r\n0\r\n*2\r\n$2\r\n17\r\n$19\r\n3000000000000000008\r\n";
 
 // What the service is asked.
-const ASKED: &[u8] =
-    b"SSCAN 0 0 COUNT 256\r\nSSCAN 0 4096 COUNT 256\r\nSSCAN 1 0 COUNT 256\r\nSSCAN 2 0 COUNT 256\r\nSSCAN 3 0 COUNT 256\r\nSSCAN 4 0 COUNT 256\r\nSSCAN 5 0 COUNT 256\r\nSSCAN 6 0 COUNT 256\r\nSSCAN 7 0 COUNT 256\r\nSSCAN 8 0 COUNT 256\r\nSSCAN 9 0 COUNT 256\r\nSSCAN 10 0 COUNT 256\r\nSSCAN 11 0 COUNT 256\r\nSSCAN 12 0 COUNT 256\r\nSSCAN 13 0 COUNT 256\r\nSSCAN 14 0 COUNT 256\r\nSSCAN 15 0 COUNT 256\r\n";
+const ASKED: &[u8] = b"LZ.SCAN 0 COUNT 256\r\nLZ.SCAN 4096 COUNT 256\r\n";
 
 // A file of format 3 with four slots that holds 17, 5 and 3:8.
 const COPIED: [u8; 80] = [
@@ -31,13 +24,10 @@ const COPIED: [u8; 80] = [
     0, 0, 0, 0, 0, 0, 0, 0, 0, 0, 0, 0, 0, 0, 0, 0,
 ];
 
-// The replies of a whole scan, and after it what is no part of one.
+// The replies of a whole scan.
 fn replies(alloc: Global) -> Result<Vec<u8>, AllocError> {
     let mut text = Vec::from_slice(alloc, FIRST)?;
     text.extend_from_slice(SECOND)?;
-    for room in 1..16 {
-        text.extend_from_slice(if room == 3 { THIRD } else { NONE })?;
-    }
     Ok(text)
 }
 
@@ -84,7 +74,7 @@ fn copy(alloc: Global, text: &[u8], step: usize, slots: u64) -> Result<Copied, A
 }
 
 #[test]
-fn a_copy_asks_for_each_room_and_holds_each_key_once(rt: HostRuntime) -> Result<(), Fail> {
+fn a_copy_asks_page_by_page_and_holds_each_key_once(rt: HostRuntime) -> Result<(), Fail> {
     let text = replies(rt.alloc())?;
     for step in [1, 7, 4_096] {
         let copied = copy(rt.alloc(), text.as_slice(), step, 4)?;
@@ -115,7 +105,7 @@ const NO_PAGES: [&[u8]; 8] = [
     b"bad 2\n",
     b"*2\r\n$2\r\n00\r\n",
     b"*2\r\n$1\r\n0\r\n*1\r\n$3\r\nred\r\n",
-    b"*2\r\n$1\r\n0\r\n*1\r\n$19\r\n1000000000000000000\r\n",
+    b"*2\r\n$1\r\n0\r\n*1\r\n$20\r\n16000000000000000000\r\n",
     b"*3\r\n$1\r\n0\r\n",
     b"*2\r\n$1\r\n0\r\n*8193\r\n",
 ];
@@ -155,10 +145,10 @@ fn a_copy_that_has_no_room_is_refused(rt: HostRuntime) -> Result<(), Fail> {
 #[test]
 fn a_request_that_fails_ends_a_copy(rt: HostRuntime) -> Result<(), Fail> {
     let text = replies(rt.alloc())?;
-    for room in 0..ASKED.len() {
+    for count in 0..ASKED.len() {
         let mut disk = disk_with(rt.alloc(), &[])?;
         let mut reader = text.as_slice();
-        let mut asker = Narrow::new(rt.alloc(), room);
+        let mut asker = Narrow::new(rt.alloc(), count);
         let mut printed: Vec<u8> = Vec::new(rt.alloc());
         let status = copy_on(
             rt.alloc(),
@@ -170,7 +160,7 @@ fn a_request_that_fails_ends_a_copy(rt: HostRuntime) -> Result<(), Fail> {
             Format::Three,
         );
         let is_told = status.code() == 1 && printed.as_slice() == b"noread\n".as_slice();
-        assert!(rt; is_told && disk.calls() == 0, "after {room} bytes");
+        assert!(rt; is_told && disk.calls() == 0, "after {count} bytes");
     }
     Ok(())
 }
