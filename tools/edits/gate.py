@@ -12,8 +12,8 @@ TURNS = 8
 
 # Seconds of a processor, by the record, that the gate gives to edits that are void: all of them take four times as long.
 MOST_SECONDS = 1800.0
-# For this part of all edits the record has to hold. It rises as lines are written, up to four fifths.
-LEAST_HELD = 0.75
+# For this part of all edits the record has to hold.
+LEAST_HELD = 0.8
 
 
 class Choice(NamedTuple):
