@@ -181,3 +181,7 @@ def tell(listener: socket.socket, told: bytes) -> None:
     with client:
         client.recv(64)
         client.sendall(told)
+        # A look writes more than once: what comes after is read, so that no write of it fails.
+        client.shutdown(socket.SHUT_WR)
+        while client.recv(64):
+            pass

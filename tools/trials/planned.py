@@ -49,7 +49,8 @@ def try_flood(program: Program, folder: str) -> None:
 
         def flood() -> None:
             with suppress(OSError):
-                client.sendall(b"add 17\n" * (FLOOD // 7))
+                # Each of the first 900 waits for a sync, so most are left when the stop comes.
+                client.sendall(b"".join(b"add %d\n" % (number % 900) for number in range(FLOOD // 8)))
                 client.shutdown(socket.SHUT_WR)
 
         sender = threading.Thread(target=flood)
@@ -62,7 +63,7 @@ def try_flood(program: Program, folder: str) -> None:
         told.append(received(client))
     answered, refused = parted(told[0], REFUSED_LINE)
     expect(len(answered) > 1 and refused > 0, True, "that some were answered, and some refused")
-    expect(answered, [b"yes\n"] + [b"no\n"] * (len(answered) - 1), "what it was told before")
+    expect(answered, [b"yes\n"] * len(answered), "what it was told before")
 
 
 def parted(told: bytes, refusal: bytes) -> Tuple[List[bytes], int]:
