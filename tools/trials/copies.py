@@ -154,8 +154,9 @@ def try_cut_off(program: Program, folder: str) -> None:
 
 
 @contextmanager
-def endless(pages: Sequence[bytes]) -> Iterator[int]:
-    """A port where one client is told these pages, one for each request, and again from the first one on. A frame of no words asks for nothing."""
+def endless(pages: Sequence[bytes], seconds: float = 0) -> Iterator[int]:
+    """A port where one client is told these pages, one for each request, after so long each, and again from the first one on. A frame of no words asks
+    for nothing."""
     with socket.create_server(("127.0.0.1", 0)) as listener:
 
         def answer() -> None:
@@ -164,6 +165,7 @@ def endless(pages: Sequence[bytes]) -> Iterator[int]:
                 told_next = itertools.cycle(pages)
                 for line in asked:
                     if line != b"*0\r\n":
+                        time.sleep(seconds)
                         client.sendall(next(told_next))
 
         thread = threading.Thread(target=answer)

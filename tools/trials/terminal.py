@@ -5,15 +5,13 @@ from __future__ import annotations
 import os
 import pty
 import re
-import socket
 import subprocess
 import threading
-import time
 from contextlib import contextmanager, suppress
-from typing import Iterator, List, Sequence, Tuple
+from typing import Iterator, List, Tuple
 
 from trials.copied_shapes import PAGES, ROWS
-from trials.copies import told
+from trials.copies import endless, told
 from trials.faults import needs_strace
 from trials.files import put
 from trials.plain import held
@@ -106,26 +104,6 @@ def try_serve(program: Program, folder: str) -> None:
         expect(begins, ["opening", "opened", "serving:", "asked", "stopped:"], f"the log of {what}")
 
 
-@contextmanager
-def slow(replies: Sequence[bytes], seconds: float) -> Iterator[int]:
-    """A port where one client is told these, one for each request, after so long each. A frame of no words asks for nothing."""
-    with socket.create_server(("127.0.0.1", 0)) as listener:
-
-        def answer() -> None:
-            client, _ = listener.accept()
-            with client, client.makefile("rb") as asked, suppress(OSError):
-                left = iter(replies)
-                for line in asked:
-                    if line != b"*0\r\n":
-                        time.sleep(seconds)
-                        client.sendall(next(left))
-
-        thread = threading.Thread(target=answer)
-        thread.start()
-        yield listener.getsockname()[1]
-        thread.join(PATIENCE)
-
-
 def try_copy(program: Program, folder: str) -> None:
     """A copy shows how far the service was asked, on a terminal and nowhere else."""
     file = os.path.join(folder, "f")
@@ -133,13 +111,13 @@ def try_copy(program: Program, folder: str) -> None:
     for replies, words in (((bulk(ROWS), *pages), ()), (pages, ("70",)), ((bulk(ROWS), *pages), ("--replace",))):
         if not words or words[0] != "--replace":
             put(file, None)
-        with terminal() as (theirs, written), slow(replies, 0.5) as port:
+        with terminal() as (theirs, written), endless(replies, 0.5) as port:
             command = [program.path, "copy", str(port), file, *words]
             ended = subprocess.run(command, stdin=subprocess.DEVNULL, stdout=subprocess.PIPE, stderr=theirs, timeout=PATIENCE)
         expect((ended.stdout, ended.returncode), (b"copied 3\n", 0), f"a slow copy {words}")
         expect_shares("".join(written), str(port), f"a copy {words}")
     put(file, None)
-    with slow((bulk(ROWS), *pages), 0.5) as port:
+    with endless((bulk(ROWS), *pages), 0.5) as port:
         expect(program.run_loud("copy", str(port), file), (Ended("copied 3\n", 0), ""), "a copy without a terminal")
 
 
