@@ -75,7 +75,9 @@ loads =
 abbrev pinned : List Note
 pinned = note_by 1 (Played Pin Done) None ∷ note_by 1 (Called (Has 9) Two) None ∷ note_by 0 (Found 1 2) None ∷ []
 
-one_call : IsOneCall shape 1 Two (Has 9) Yes (note_by 1 (Played Answer Done) None ∷ load_note 1 (record { word = Link 0; value = 8589934592; at = 4 }) ∷ load_note 1 (record { word = Key 0; value = 9; at = 4 }) ∷ load_note 1 (record { word = Head 0; value = 1; at = 4 }) ∷ load_note 1 (record { word = Halt; value = 0; at = 4 }) ∷ note_by 1 (Played Pin Done) None ∷ note_by 1 (Called (Has 9) Two) None ∷ [])
+one_call : IsOneCall shape 1 Two (Has 9) Yes (note_by 1 (Played Answer Done) None ∷ load_note 1 (record { word = Link 0; value = 8589934592; at = 4 }) ∷ load_note 1
+    (record { word = Key 0; value = 9; at = 4 }) ∷ load_note 1 (record { word = Head 0; value = 1; at = 4 }) ∷ load_note 1
+    (record { word = Halt; value = 0; at = 4 }) ∷ note_by 1 (Played Pin Done) None ∷ note_by 1 (Called (Has 9) Two) None ∷ [])
 one_call = record {
   moment = 0;
   within = load_note 1 (record { word = Link 0; value = 8589934592; at = 4 }) ∷ load_note 1 (record { word = Key 0; value = 9; at = 4 }) ∷ load_note 1 (record { word = Head 0; value = 1; at = 4 }) ∷ load_note 1 (record { word = Halt; value = 0; at = 4 }) ∷ note_by 1 (Played Pin Done) None ∷ [];
@@ -95,7 +97,9 @@ not_worn_yet new P Q h = let last = h.0 in absurd (omega (arith, last))
 abbrev later : List Note
 later = note_by 2 (Played Reserve Done) (Some (key_prepared 1 12)) ∷ note_by 2 (Played Reserve Done) None ∷ pinned
 
-spliced : splice P0 1 loads later ≡ (note_by 2 (Played Reserve Done) (Some (key_prepared 1 12)) ∷ load_note 1 (record { word = Link 0; value = 8589934592; at = 4 }) ∷ load_note 1 (record { word = Key 0; value = 9; at = 4 }) ∷ load_note 1 (record { word = Head 0; value = 1; at = 4 }) ∷ load_note 1 (record { word = Halt; value = 0; at = 4 }) ∷ note_by 2 (Played Reserve Done) None ∷ pinned)
+spliced : splice P0 1 loads later ≡ (note_by 2 (Played Reserve Done) (Some (key_prepared 1 12)) ∷ load_note 1
+    (record { word = Link 0; value = 8589934592; at = 4 }) ∷ load_note 1 (record { word = Key 0; value = 9; at = 4 }) ∷ load_note 1
+    (record { word = Head 0; value = 1; at = 4 }) ∷ load_note 1 (record { word = Halt; value = 0; at = 4 }) ∷ note_by 2 (Played Reserve Done) None ∷ pinned)
 spliced = refl
 
 pin_counts : pin_after 1 later ≡ 3

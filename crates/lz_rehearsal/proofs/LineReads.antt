@@ -34,14 +34,19 @@ pub stop_line : (text : List ℕ) (r : Option Line) → nat_lt most_length (leng
     → r ≡ bare Stop (take (length text - 4) (drop 4 text)) → r ≡ line_read text
 stop_line text r short no_call no_turn no_until no_finish no_trip is found = found ∙ ap (bare Stop) (take_rest text 4) ∙ sym (rw (short, no_call, no_turn, no_until, no_finish, no_trip, is) refl)
 
-pub crash_line : (text : List ℕ) (r : Option Line) → nat_lt most_length (length text) ≡ false → Differs text (codes "call ") → Differs text (codes "turn ") → Differs text (codes "until ") → Differs text (codes "finish ") → Differs text (codes "trip") → Differs text (codes "stop") → Begins text (codes "crash ")
+pub crash_line : (text : List ℕ) (r : Option Line) → nat_lt most_length (length text) ≡ false → Differs text (codes "call ") → Differs text (codes "turn ")
+    → Differs text (codes "until ") → Differs text (codes "finish ") → Differs text (codes "trip") → Differs text (codes "stop") → Begins text (codes "crash ")
     → r ≡ crash_read (take (length text - 6) (drop 6 text)) → r ≡ line_read text
 crash_line text r short no_call no_turn no_until no_finish no_trip no_stop is found = found ∙ ap crash_read (take_rest text 6) ∙ sym (rw (short, no_call, no_turn, no_until, no_finish, no_trip, no_stop, is) refl)
 
-pub open_line : (text : List ℕ) (r : Option Line) → nat_lt most_length (length text) ≡ false → Differs text (codes "call ") → Differs text (codes "turn ") → Differs text (codes "until ") → Differs text (codes "finish ") → Differs text (codes "trip") → Differs text (codes "stop") → Differs text (codes "crash ") → Begins text (codes "open")
+pub open_line : (text : List ℕ) (r : Option Line) → nat_lt most_length (length text) ≡ false → Differs text (codes "call ") → Differs text (codes "turn ") → Differs text
+    (codes "until ") → Differs text (codes "finish ") → Differs text (codes "trip") → Differs text (codes "stop") → Differs text (codes "crash ") → Begins text
+    (codes "open")
     → r ≡ bare Open (take (length text - 4) (drop 4 text)) → r ≡ line_read text
 open_line text r short no_call no_turn no_until no_finish no_trip no_stop no_crash is found = found ∙ ap (bare Open) (take_rest text 4) ∙ sym (rw (short, no_call, no_turn, no_until, no_finish, no_trip, no_stop, no_crash, is) refl)
 
-pub show_line : (text : List ℕ) (r : Option Line) → nat_lt most_length (length text) ≡ false → Differs text (codes "call ") → Differs text (codes "turn ") → Differs text (codes "until ") → Differs text (codes "finish ") → Differs text (codes "trip") → Differs text (codes "stop") → Differs text (codes "crash ") → Differs text (codes "open") → Begins text (codes "show")
+pub show_line : (text : List ℕ) (r : Option Line) → nat_lt most_length (length text) ≡ false → Differs text (codes "call ") → Differs text (codes "turn ") → Differs text
+    (codes "until ") → Differs text (codes "finish ") → Differs text (codes "trip") → Differs text (codes "stop") → Differs text (codes "crash ") → Differs text
+    (codes "open") → Begins text (codes "show")
     → r ≡ bare Show (take (length text - 4) (drop 4 text)) → r ≡ line_read text
 show_line text r short no_call no_turn no_until no_finish no_trip no_stop no_crash no_open is found = found ∙ ap (bare Show) (take_rest text 4) ∙ sym (rw (short, no_call, no_turn, no_until, no_finish, no_trip, no_stop, no_crash, no_open, is) refl)

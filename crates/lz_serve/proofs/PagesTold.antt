@@ -77,7 +77,9 @@ pub nobody_here : {X : Type 0} (P : Asker → Type 0) (f : X → Option Asker) (
 nobody_here {X} P f clients places xs at same are past = grind (arith, slice_get, nobody_there, slice_get_past)
 
 -- who awaits what is the same where the clients are
-pub awaits_same : (old new : List (Option Asker)) (token : ℕ) (r : Option Scan) → new ≡ old → IfSome r (λ scan. IsSomeAnd (slice_get new token) (λ client. IsSomeAnd client (λ a. AwaitsPage a scan))) → IfSome r (λ scan. IsSomeAnd (slice_get old token) (λ client. IsSomeAnd client (λ a. AwaitsPage a scan)))
+pub awaits_same : (old new : List (Option Asker)) (token : ℕ) (r : Option Scan) → new ≡ old → IfSome r
+    (λ scan. IsSomeAnd (slice_get new token) (λ client. IsSomeAnd client (λ a. AwaitsPage a scan))) → IfSome r
+    (λ scan. IsSomeAnd (slice_get old token) (λ client. IsSomeAnd client (λ a. AwaitsPage a scan)))
 awaits_same old new token r same = subst (λ (l : List (Option Asker)). IfSome r (λ scan. IsSomeAnd (slice_get l token) (λ client. IsSomeAnd client (λ a. AwaitsPage a scan)))) same
 
 pub awaits_none_same : (old new : List (Option Asker)) (token : ℕ) → new ≡ old → IfSome (slice_get new token) (λ client. IfSome client AwaitsNoPage) → IfSome (slice_get old token) (λ client. IfSome client AwaitsNoPage)

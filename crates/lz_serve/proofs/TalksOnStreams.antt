@@ -166,7 +166,13 @@ module _ (P : List Grant → Type 0) (L : Listing → Type 0) (seen : Trace) (co
   paged None l old new puts next goes so late step was = tt
   paged (Some s) l old new puts next goes so late step was =
       moved (AreBefore P seen old.under puts) L connection s old new was.0 was was.1
-      (stands.page_told L connection was.0 s.received s.taken old new was.2 [] goes l next (record { so = so; its = refl; late = All-weaker (IsBefore seen old.under puts) (λ e. Begins (part e.after).known (part l.before).known) (λ e is. begins_before (part e.after).known seen (part l.before).known is.seen_so late) was.0 was.1.1 }) step)
+      (stands.page_told L connection was.0 s.received s.taken old new was.2 [] goes l next
+      (record {
+        so = so;
+        its = refl;
+        late = All-weaker (IsBefore seen old.under puts) (λ e. Begins (part e.after).known (part l.before).known)
+            (λ e is. begins_before (part e.after).known seen (part l.before).known is.seen_so late) was.0 was.1.1;
+      }) step)
       (ap (λ (t : Talk). t.spoken) step) (ap (λ (t : Talk). t.reader) step)
 
   -- where that was told, or nothing was

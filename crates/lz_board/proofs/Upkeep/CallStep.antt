@@ -35,8 +35,15 @@ module _ (z : Sizes) (opened : Trace) (slots id : ℕ) where
   saws_at ns held me i q is at low high =
       let back : pass_at z (index z (PinOf q)) ≡ q = omega arith in
       subst (λ (x : Me Note View × ℕ). Allows (Keeps z opened) slots id x.0 x.1 (λ n. n) (Saw (step slots x.1 0 0 none) x.0)) (λ j. (sym is j, sym at j))
-      (λ s k len here bound. let r = saws z opened slots id q ns held [] low high s k len here bound in
-      (r.0, r.1, r.2, r.3, subst (λ p. (◌≡◌ {A = Me Note View} (r.0, carried_after [] r.1) (found_view p (slice_index s.words (index z (PinOf q))) (pen_view z opened ns held), [])) × PinTold z ns p (slice_index s.words (index z (PinOf q))) × ((h : Part) → IsPart held h → h.number ≡ p → h.pin ≡ slice_index s.words (index z (PinOf q)))) (sym back) r.4))
+      (λ s k len here bound. let r = saws z opened slots id q ns held [] low high s k len here bound in (
+        r.0,
+        r.1,
+        r.2,
+        r.3,
+        subst (λ p. (◌≡◌ {A = Me Note View} (r.0, carried_after [] r.1)
+            (found_view p (slice_index s.words (index z (PinOf q))) (pen_view z opened ns held), [])) × PinTold z ns p (slice_index s.words (index z (PinOf q))) ×
+            ((h : Part) → IsPart held h → h.number ≡ p → h.pin ≡ slice_index s.words (index z (PinOf q)))) (sym back) r.4,
+      ))
 
   pub enters_at : (h : Part) (me : Me Note View) (i m : ℕ) → me ≡ (alone h, []) → i ≡ index z (PinOf h.number) → 1 ≤ h.number → h.number ≤ z.passes → is_calling z h.steps ≡ false → h.pin ≤ m → m ≤ last_pin
       → Allows (Keeps z opened) slots id me i (λ _. m) (λ _. Entered (step slots i m 0 none) me m)

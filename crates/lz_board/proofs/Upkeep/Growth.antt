@@ -119,7 +119,9 @@ module _ (opened : Trace) where
 -- A slot that all passes have left stood on no chain since the pin of a pass that is inside.
 pub left_away : (z : Sizes) (opened : Trace) (ns : List Note) (g : Part) (s : ℕ) → Knows z opened ns g → AllLeft z opened ns s → IsInside g.pin → IsAway z.buckets g.begun (trace_of opened ns) s
 left_away z opened ns g s k (inl never) inside = λ b stood. never b (stood_longer z.buckets b opened g.begun (trace_of opened ns) (suc s) k.began stood)
-left_away z opened ns g s k (inr left) inside = λ b stood. l.away b (stood_longer z.buckets b (trace_of opened l.sight.rest) g.begun (trace_of opened ns) (suc s) (extends_both (trace_of opened l.sight.rest) g.begun (trace_of opened ns) (subst (λ m. Extends (trace_of opened m) (trace_of opened l.sight.rest)) (sym l.sight.within.1) (trace_rest opened l.sight.within.0 l.sight.rest l.sight.note)) k.from bound) stood)
+left_away z opened ns g s k (inr left) inside = λ b stood. l.away b (stood_longer z.buckets b (trace_of opened l.sight.rest) g.begun (trace_of opened ns) (suc s)
+    (extends_both (trace_of opened l.sight.rest) g.begun (trace_of opened ns) (subst (λ m. Extends (trace_of opened m) (trace_of opened l.sight.rest))
+    (sym l.sight.within.1) (trace_rest opened l.sight.within.0 l.sight.rest l.sight.note)) k.from bound) stood)
   where
     l : HasLeft z opened ns g.number s
     l = left g.number k.numbered.0 k.numbered.1

@@ -163,7 +163,9 @@ module _ (z : Sizes) (opened : Trace) where
         words = λ u shared. shared_stays s.words k.long p m low high u shared ∙ k.words u shared ∙ ap (λ l. word_after z.buckets (trace_of opened l) u) same ∙ ap (λ x. word_after z.buckets x u) (sym quiet ∙ sym trace');
         pins = λ q one most. ⊎_elim
             (λ (here : q ≡ p). subst (λ r. PinTold z now r (slice_index ws (index z (PinOf r)))) (sym here) (subst (PinTold z now p) (sym (pin_set s.words k.long p m low high ∙ is)) (told_own z opened ns h n own_knows may (suc h.pin) moves.0 worn)))
-            (λ (away : q ≢ p). subst (PinTold z now q) (sym (pin_stays s.words k.long p m low high q one most away)) (told_other z opened ns h n own_knows may q (slice_index s.words (index z (PinOf q))) away (subst (λ l. PinTold z l q (slice_index s.words (index z (PinOf q)))) same (k.pins q one most))))
+            (λ (away : q ≢ p). subst (PinTold z now q) (sym (pin_stays s.words k.long p m low high q one most away))
+            (told_other z opened ns h n own_knows may q (slice_index s.words (index z (PinOf q))) away
+            (subst (λ l. PinTold z l q (slice_index s.words (index z (PinOf q)))) same (k.pins q one most))))
             (cases_eq q p);
         views = replaced F s.views id v fits others;
       } in

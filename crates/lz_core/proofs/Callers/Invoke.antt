@@ -105,7 +105,11 @@ module _ (shape : Shape) (disk : Option Past) (callers : List (Option OpenCall))
         one = has_one disk world.one;
         count = same_count callers (a - 1) (Some (made shape (calls + 1) c outcome)) ∙ world.count;
         on_it = on_set shape callers (a - 1) (Some (made shape (calls + 1) c outcome)) (refl, refl, (omega arith, room)) world.on_it;
-        ran = runs_on shape (world_shown shape (Some over) disk callers calls tripped) (world_shown shape (Some over') disk (slice_set callers (a - 1) (Some (made shape (calls + 1) c outcome))) (calls + 1) tripped) (CallOf a c) (Calls a c) (called (calls + 1) a c ∷ []) world.ran goes (quiet_goes shape (world_shown shape (Some over) disk callers calls tripped) (world_shown shape (Some over') disk (slice_set callers (a - 1) (Some (made shape (calls + 1) c outcome))) (calls + 1) tripped) (CallOf a c) (Calls a c) (called (calls + 1) a c ∷ []) world.ran goes refl);
+        ran = runs_on shape (world_shown shape (Some over) disk callers calls tripped)
+            (world_shown shape (Some over') disk (slice_set callers (a - 1) (Some (made shape (calls + 1) c outcome))) (calls + 1) tripped) (CallOf a c) (Calls a c)
+            (called (calls + 1) a c ∷ []) world.ran goes (quiet_goes shape (world_shown shape (Some over) disk callers calls tripped)
+            (world_shown shape (Some over') disk (slice_set callers (a - 1) (Some (made shape (calls + 1) c outcome))) (calls + 1) tripped) (CallOf a c) (Calls a c)
+            (called (calls + 1) a c ∷ []) world.ran goes refl);
       }
     where
       has_one : (d : Option Past) → HasOne (Some over) d → HasOne (Some over') d

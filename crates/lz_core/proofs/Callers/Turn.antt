@@ -136,7 +136,13 @@ module _ (shape : Shape) (over : YardOver Past) (disk : Option Past) (callers : 
   pub turn_taken : (mark : Option HistoryEvent) → mark_list mark ≡ marks_of_turn (call_shown (slice_index_or callers (a - 1) None)) → TakesTurn old a outcome (mark_list mark) new
   turn_taken mark same =
       let told = told_by (mark_list mark) same ∙ one_mark mark in
-      record { done = λ other. (goes_done (mark_list mark) told other, no_call_made other); failed = goes_failed (mark_list mark) told; of_run = subst AreMarksOfRun (sym same) (marks_of_call shape (slice_index_or callers (a - 1) None) (called_on shape over disk callers calls a world e is)); tripped = refl }
+      record {
+        done = λ other. (goes_done (mark_list mark) told other, no_call_made other);
+        failed = goes_failed (mark_list mark) told;
+        of_run = subst AreMarksOfRun
+            (sym same) (marks_of_call shape (slice_index_or callers (a - 1) None) (called_on shape over disk callers calls a world e is));
+        tripped = refl;
+      }
 
 -- what the caller takes
 take_by : (call : Option OpenCall) (own : OpenCall) (outcome : Outcome) → call ≡ Some own → MayTake own.caller.progress outcome → IfSome call (λ under_way. MayTake under_way.caller.progress outcome)

@@ -50,7 +50,9 @@ module _ (buckets : ℕ) where
     linked_here slots h may =
         let same : (bucket_of buckets k == bucket_of buckets k) ≡ true = grind (arith, nat_tests) in
         record {
-          shows = rw same (shows_insert (next_link buckets (bucket_of buckets k) P) (next_link buckets (bucket_of buckets k) (linked k s p ∷ P)) (λ t. key_word t P) k s 0 (chain_of buckets k P) may.key h.shows (omega arith) may.no_node may.link (place_of buckets k P) refl (linked_at (place_of buckets k P) refl) (linked_off (bucket_of buckets k)));
+          shows = rw same (shows_insert (next_link buckets (bucket_of buckets k) P) (next_link buckets (bucket_of buckets k) (linked k s p ∷ P))
+              (λ t. key_word t P) k s 0 (chain_of buckets k P) may.key h.shows (omega arith) may.no_node may.link (place_of buckets k P) refl
+              (linked_at (place_of buckets k P) refl) (linked_off (bucket_of buckets k)));
           within = rw same (within_insert (bucket_of buckets k) k s (chain_of buckets k P) refl h.within);
         }
 
@@ -73,7 +75,9 @@ module _ (buckets : ℕ) where
         let there = has_on (next_link buckets (bucket_of buckets k) P) (λ t. key_word t P) k s 0 (chain_of buckets k P) h.shows (omega arith) may.key may.stands in
         let next = next_is_above (next_link buckets (bucket_of buckets k) P) (λ t. key_word t P) k s 0 (chain_of buckets k P) h.shows (omega arith) may.key may.stands in
         record {
-          shows = rw same (shows_without (next_link buckets (bucket_of buckets k) P) (next_link buckets (bucket_of buckets k) (unlinked k s p ∷ P)) (λ t. key_word t P) k 0 (chain_of buckets k P) h.shows there (place_of buckets k P) refl (unlinked_at (place_of buckets k P) refl ∙ next) (unlinked_off (bucket_of buckets k)));
+          shows = rw same (shows_without (next_link buckets (bucket_of buckets k) P) (next_link buckets (bucket_of buckets k) (unlinked k s p ∷ P))
+              (λ t. key_word t P) k 0 (chain_of buckets k P) h.shows there (place_of buckets k P) refl (unlinked_at (place_of buckets k P) refl ∙ next)
+              (unlinked_off (bucket_of buckets k)));
           within = rw same (within_without (bucket_of buckets k) k (chain_of buckets k P) h.within);
         }
 

@@ -96,7 +96,9 @@ module _ (w : Words) (pred : Place) (s : ℕ) (table : IsTable w) (sorted : IsSo
 
   link_shown : ShowsChain (redirect w pred (suc s)) (home w key) (insert key s may.before.chain)
   link_shown = shown_there w key (suc s) pred link_place small may.before (insert key s may.before.chain)
-      (shows_insert nexts (next_in (redirect w pred (suc s)) (home w key)) keys key s 0 may.before.chain refl may.before.shown.shows (omega arith) none (may.next ∙ leads ∙ sym between.1) (place_number pred) (sym between.0) (next_at_place w (suc s) (home w key) pred link_place may.before.bucket small) (λ y off. next_off_place w (suc s) (home w key) y pred off))
+      (shows_insert nexts (next_in (redirect w pred (suc s)) (home w key)) keys key s 0 may.before.chain refl may.before.shown.shows (omega arith) none
+      (may.next ∙ leads ∙ sym between.1) (place_number pred) (sym between.0) (next_at_place w (suc s) (home w key) pred link_place may.before.bucket small)
+      (λ y off. next_off_place w (suc s) (home w key) y pred off))
       (within_insert (length w.heads) (home w key) key s may.before.chain refl may.before.shown.within)
       (slots_insert (length w.links) key s may.before.chain may.slot may.before.shown.in_range)
 

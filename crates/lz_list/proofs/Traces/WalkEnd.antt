@@ -21,7 +21,8 @@ on_without_other next keys j s x (n ∷ c) h other there = grind (arith, on_with
 
 module _ (buckets slots : ℕ) (P0 : Trace) where
   -- a node leaves its chain only by its own unlinking
-  pub leaves : (k s : ℕ) (e : Publishing) (P : Trace) → Lawful buckets slots (e ∷ P) → key_word s P ≡ k → on 0 (chain_of buckets k P) (suc s) ≡ true → on 0 (chain_of buckets k (e ∷ P)) (suc s) ≡ false → (member k P ≡ false) × (is_removed (linking k P) P ≡ true) × (is_marked s (e ∷ P) ≡ is_marked s P)
+  pub leaves : (k s : ℕ) (e : Publishing) (P : Trace) → Lawful buckets slots (e ∷ P) → key_word s P ≡ k → on 0 (chain_of buckets k P) (suc s) ≡ true → on 0
+      (chain_of buckets k (e ∷ P)) (suc s) ≡ false → (member k P ≡ false) × (is_removed (linking k P) P ≡ true) × (is_marked s (e ∷ P) ≡ is_marked s P)
   leaves k s e P law key there off = grind (arith, on_insert, words_show_chain, on_without_other)
 
   pub mark_stays : (b s : ℕ) (e : Publishing) (P : Trace) → IsKept buckets P0 e P → Stood buckets b P0 P (suc s) → is_marked s P ≡ true → is_marked s (e ∷ P) ≡ true

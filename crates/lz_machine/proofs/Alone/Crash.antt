@@ -176,7 +176,9 @@ module _ (start : Start) (a : ℕ) (service : Service) (disk : Medium) (M : Hist
               → HasSet start.shape.slots (record { start = life.start; history = mark_of i reply ∷ life.history }) t
           sets life t h old leaves list = elim (cases_Bool (has_cut life.history)) [
             | inl cut ↦
-                let was = old t (inl (subst (λ (d : Medium). IsImage d t) same (only_images a (record { yard = after.0; callers = set_of_pass service.callers a None }) new (away None h.others) (subst (IsQuietCall (record { yard = after.0; callers = set_of_pass service.callers a None }) a) (sym (same_caller None)) tt) t leaves))) in (
+                let was = old t (inl (subst (λ (d : Medium). IsImage d t) same (only_images a
+                (record { yard = after.0; callers = set_of_pass service.callers a None }) new (away None h.others)
+                (subst (IsQuietCall (record { yard = after.0; callers = set_of_pass service.callers a None }) a) (sym (same_caller None)) tt) t leaves))) in (
                   was.0,
                   was.1,
                   subst (λ (H : History). IsPlain life.start (mark_of i reply ∷ H) was.0) (sym told.1)
@@ -212,7 +214,12 @@ module _ (start : Start) (a : ℕ) (service : Service) (disk : Medium) (M : Hist
       e = next_event y (call_of_at i c at)
 
       of_reply : Option Reply → Point
-      of_reply r = point (Up (record { yard = (line y a (next_event y (call_of_at i c at))).0; callers = set_of_pass service.callers a (moved_on r (call_of_at i c at) (progress_after (line y a (next_event y (call_of_at i c at))).0.shape c at (line y a (next_event y (call_of_at i c at))).1)) }) (medium_after (line_call y a (next_event y (call_of_at i c at))) disk))
+      of_reply r = point (Up (record {
+        yard = (line y a (next_event y (call_of_at i c at))).0;
+        callers = set_of_pass service.callers a
+            (moved_on r (call_of_at i c at) (progress_after (line y a (next_event y (call_of_at i c at))).0.shape c at (line y a (next_event y (call_of_at i c at))).1));
+      })
+          (medium_after (line_call y a (next_event y (call_of_at i c at))) disk))
           (mark_of_turn i r ++ M) (turn_publishes service a (Some (call_of_at i c at)) ++ P) calls
 
       halts : (y.words.halt ≡ 1) → IsHalting at → ((line y a e).0.words.halt ≡ 1) × IsHalting (progress_after (line y a e).0.shape c at (line y a e).1) × (medium_after (line_call y a e) disk ≡ disk)
@@ -244,7 +251,12 @@ module _ (start : Start) (a : ℕ) (service : Service) (disk : Medium) (M : Hist
       (goes_alone caller is (line_failed y a (next_event y caller)) new P (λ halt halting. absurd (subst (λ (call : DeviceCall). MayFail call disk new) (halting_quiet y a caller.command caller.progress halting) may)))
     where
       of_reply : Option Reply → Point
-      of_reply r = point (Up (record { yard = (line_failed y a (next_event y caller)).0; callers = set_of_pass service.callers a (moved_on r caller (progress_after (line_failed y a (next_event y caller)).0.shape caller.command caller.progress (line_failed y a (next_event y caller)).1)) }) new) M P calls
+      of_reply r = point (Up (record {
+        yard = (line_failed y a (next_event y caller)).0;
+        callers = set_of_pass service.callers a
+            (moved_on r caller (progress_after (line_failed y a (next_event y caller)).0.shape caller.command caller.progress
+            (line_failed y a (next_event y caller)).1));
+      }) new) M P calls
 
   -- a look
   look_alone : caller_at service.callers a ≡ None → IsSound start (point_after before (Looks a)) → AloneAt start a (point_after before (Looks a))
@@ -312,11 +324,15 @@ module _ (start : Start) (a : ℕ) (shape : Shape) (disk : Medium) (M : History)
       lives_stay start a down (point_after down (Crashes u)) (λ life st h. tt) (λ life t h old leaves list. old t (subst (IsImage disk) (sym (rest_image u t leaves)) may)) (lives (start_keys start) M) sound sound' (λ t leaves. left_at start (point_after down (Crashes u)) t sound' leaves) alone
   down_alone Opens own may sound' = open_alone may
   down_alone (OpenFails why true) own may sound' =
-      lives_stay start a down (point_after down (OpenFails why true)) (λ life st h. tt) (λ life t h old leaves list. old t (subst (IsImage disk) (sym (rest_image disk.seen t leaves)) read_image)) (lives (start_keys start) M) sound sound' (λ t leaves. left_at start (point_after down (OpenFails why true)) t sound' leaves) alone
+      lives_stay start a down (point_after down (OpenFails why true)) (λ life st h. tt)
+      (λ life t h old leaves list. old t (subst (IsImage disk) (sym (rest_image disk.seen t leaves)) read_image)) (lives (start_keys start) M) sound sound'
+      (λ t leaves. left_at start (point_after down (OpenFails why true)) t sound' leaves) alone
   down_alone (OpenFails why false) own may sound' = grind (arith, lives_stay, left_at)
   down_alone _ own may sound' = absurd may
 
-step_alone : (start : Start) (a : ℕ) (w : State) (M : History) (P : Trace) (calls : ℕ) (step : Transition) → IsOwn a step → MayStep w step → IsSound start (point w M P calls) → AloneAt start a (point w M P calls) → IsSound start (point_after (point w M P calls) step) → AloneAt start a (point_after (point w M P calls) step)
+step_alone : (start : Start) (a : ℕ) (w : State) (M : History) (P : Trace) (calls : ℕ) (step : Transition) → IsOwn a step → MayStep w step → IsSound start
+    (point w M P calls) → AloneAt start a (point w M P calls) → IsSound start (point_after (point w M P calls) step) → AloneAt start a
+    (point_after (point w M P calls) step)
 step_alone start a (Up service disk) M P calls step own may sound alone sound' = up_alone start a service disk M P calls sound alone step own may sound'
 step_alone start a (Down shape disk) M P calls step own may sound alone sound' = down_alone start a shape disk M P calls sound alone step own may sound'
 

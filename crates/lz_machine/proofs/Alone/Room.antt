@@ -113,8 +113,13 @@ module _ (F : Format) (N i a n : ℕ) (c : Command) (M : History) (S : Keys) (en
   sized_reply Yes plain each adds tells told = (not_old F c Yes tells (λ same. cc), (λ T was. has_room N i i i a c M S T t new ended holds plain was), sized)
   sized_reply No plain each adds tells told = (not_old F c No tells (λ same. cc), (λ T was. room_no N c T), sized)
   sized_reply (Full counts) plain each adds tells told =
-      let add = adds counts refl in
-      (not_old F c (Full counts) tells (λ same. cc), (λ T was. subst (λ (d : Command). IsFull N d T) (sym add.1) (is_full N i i i a add.0 M S T t new ended holds (subst (λ (d : Command). IsPlain S (mark_of i (Full counts) ∷ Call i a d ∷ M) new) add.1 plain) (each add.0 add.1 counts refl) was)), sized)
+      let add = adds counts refl in (
+        not_old F c (Full counts) tells (λ same. cc),
+        (λ T was. subst (λ (d : Command). IsFull N d T) (sym add.1)
+            (is_full N i i i a add.0 M S T t new ended holds (subst (λ (d : Command). IsPlain S (mark_of i (Full counts) ∷ Call i a d ∷ M) new) add.1 plain)
+            (each add.0 add.1 counts refl) was)),
+        sized,
+      )
   sized_reply OldFile plain each adds tells told = (told refl, sized)
   sized_reply _ plain each adds tells told = sized
 
@@ -195,7 +200,8 @@ module _ (start : Start) (a : ℕ) (service : Service) (disk : Medium) (M : Hist
   sized_turn None is may sound full alone after sized = absurd may
   sized_turn (Some caller) is may sound full alone after sized = sized_point caller.number caller.command caller.progress is sound full alone after sized
 
-sized_step : (start : Start) (a : ℕ) (w : State) (M : History) (P : Trace) (calls : ℕ) (step : Transition) → HasFormat (format_of start.text) w → IsOwn a step → MayStep w step → IsSound start (point w M P calls) → FullAt a w P → AloneAt start a (point w M P calls) → AloneAt start a (point_after (point w M P calls) step)
+sized_step : (start : Start) (a : ℕ) (w : State) (M : History) (P : Trace) (calls : ℕ) (step : Transition) → HasFormat (format_of start.text) w → IsOwn a step
+    → MayStep w step → IsSound start (point w M P calls) → FullAt a w P → AloneAt start a (point w M P calls) → AloneAt start a (point_after (point w M P calls) step)
     → AreSized (format_of start.text) start.shape.slots (lives (start_keys start) M) → AreSized (format_of start.text) start.shape.slots (lives (start_keys start) (point_after (point w M P calls) step).marks)
 sized_step start a (Up service disk) M P calls (Calls b c) named is_own may sound full alone after sized = sized_mark (format_of start.text) start.shape.slots (suc calls) b c (lives (start_keys start) M) sized
 sized_step start a (Up service disk) M P calls (Turn b) named is_own may sound full alone after sized =

@@ -178,7 +178,9 @@ module _ (M1 : History) (i : ℕ) (c : Command) (M : History) (latest : IsLatest
           once = λ j. grind (arith, count_append j R (i ∷ []), once j);
           answered = λ j answer at. listed_before j i R (apart j answer at) (subst (IsListed j) is (fits.answered j answer (latest.answers j answer at)));
           not_refused = λ j at listed. fits.not_refused j (latest.refuses j at) (subst (IsListed j) (sym is) (listed_left j R (i ∷ []) listed));
-          order = λ j l at one other. earlier_before j l i R (λ same. none (subst (λ (q : ℕ). IsListed q R) same other)) (subst (IsEarlier j l) is (fits.order j l (latest.earlier j l at) (subst (IsListed j) (sym is) (listed_left j R (i ∷ []) one)) (subst (IsListed l) (sym is) (listed_left l R (i ∷ []) other))));
+          order = λ j l at one other. earlier_before j l i R (λ same. none (subst (λ (q : ℕ). IsListed q R) same other))
+              (subst (IsEarlier j l) is (fits.order j l (latest.earlier j l at) (subst (IsListed j) (sym is) (listed_left j R (i ∷ []) one))
+              (subst (IsListed l) (sym is) (listed_left l R (i ∷ []) other))));
           runs = runs_before M1 i c M latest S R runs.0 none runs.1;
         };
         answer = subst (λ (d : Command). (answer : Bool) → IsAnswered M1 i answer → reply d (runs.0 (key_of d)) ≡ answer) same_command runs.2.2;

@@ -82,7 +82,9 @@ module _ (n calls : ℕ) (service : Service) (disk : Medium) (life : Life) (P : 
   either s k lt at =
       let own : on 0 (chain_of service.yard.shape.buckets (key_word s P) P) (suc s) ≡ true = subst (λ (q : ℕ). on 0 (chain_of service.yard.shape.buckets q P) (suc s) ≡ true) (sym at.1) at.0 in
       let stands = (node_stands n calls service.yard service.callers disk life.history P notes up.sound s lt own).0 in
-      subst (λ (q : ℕ). IsReadShut (slot_at t s) ⊎ (slot_at t s ≡ Member q)) (stands.key ∙ at.1) (one_or_other service.yard.vault.format (stage_in service.yard.vault.cells s) (cell_in service.yard.vault.cells s).key (slot_at t s) (reads n calls service.yard service.callers disk life.history P notes up.sound t image s lt))
+      subst (λ (q : ℕ). IsReadShut (slot_at t s) ⊎ (slot_at t s ≡ Member q)) (stands.key ∙ at.1)
+      (one_or_other service.yard.vault.format (stage_in service.yard.vault.cells s) (cell_in service.yard.vault.cells s).key (slot_at t s)
+      (reads n calls service.yard service.callers disk life.history P notes up.sound t image s lt))
 
   -- a node's key that the image lacks is read at no slot
   lacking : (s k : ℕ) → s < N → IsNodeOf service.yard P s k → now k ≡ false → IsReadShut (slot_at t s)
@@ -198,7 +200,10 @@ module _ (n calls : ℕ) (service : Service) (disk : Medium) (life : Life) (P : 
       let rows = entries service.yard.shape.passes service.callers notes in
       let ledger = rows_ledger n calls service.yard service.callers disk life.history P notes up.sound t image tail in
       fits_from life.history (numbers (listed (kept_rows P drop rows) (length P) ++ tail.rows)) (kept_keys n P drop 0) life.start now (λ k. kept_first n P drop may_drop k ∙ up.began.members k)
-      (listed_fits n P (kept_rows P drop rows) tail.rows life.history (kept_ledger n P drop may_drop rows tail.rows life.history ledger up.sound.ledger.settled) service.yard.shape.buckets N drop now up.sound.trace.lawful may_drop (λ j early late. kept_fits n P drop may_drop j (publishing j P) rows (up.sound.ledger.changes j early late)) (rows_lead n calls service.yard service.callers disk life.history P notes up.sound t image tail (kept_keys n P drop (length P)) keeps))
+      (listed_fits n P (kept_rows P drop rows) tail.rows life.history
+      (kept_ledger n P drop may_drop rows tail.rows life.history ledger up.sound.ledger.settled) service.yard.shape.buckets N drop now up.sound.trace.lawful may_drop
+      (λ j early late. kept_fits n P drop may_drop j (publishing j P) rows (up.sound.ledger.changes j early late))
+      (rows_lead n calls service.yard service.callers disk life.history P notes up.sound t image tail (kept_keys n P drop (length P)) keeps))
 
   image_holds : Holds t N now
   image_holds =
@@ -210,7 +215,9 @@ module _ (n calls : ℕ) (service : Service) (disk : Medium) (life : Life) (P : 
         size = vouches.size t image ∙ ap (λ (q : ℕ). 16 + 16 * q) count;
         head = vouches.head t image
             ∙ (λ i. open_byte ∷ header_body (names i) (count i));
-        no_bad_key = λ i lt. no_bad_key (cell_in service.yard.vault.cells i).key (slot_at t i) (one_or_other service.yard.vault.format (stage_in service.yard.vault.cells i) (cell_in service.yard.vault.cells i).key (slot_at t i) (reads n calls service.yard service.callers disk life.history P notes up.sound t image i lt));
+        no_bad_key = λ i lt. no_bad_key (cell_in service.yard.vault.cells i).key (slot_at t i)
+            (one_or_other service.yard.vault.format (stage_in service.yard.vault.cells i) (cell_in service.yard.vault.cells i).key (slot_at t i)
+            (reads n calls service.yard service.callers disk life.history P notes up.sound t image i lt));
         no_key_twice = λ i j k lt lt' is is'. read_once n calls service.yard service.callers disk life.history P notes up.sound t image i j k lt lt' is is';
         set = λ k. (λ has. found_in t N k has, λ (i, lt, is). in_found t N k i lt is);
       }

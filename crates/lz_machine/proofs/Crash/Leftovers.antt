@@ -133,7 +133,9 @@ module _ (start : Start) (a : ℕ) (service : Service) (disk : Medium) (M : Hist
   left_of_caller t (inr image) = left_on (course y a (next_event y caller)) (next_event y caller) t refl refl image
 
 -- a text that a crash inside a call of the device may leave
-pub left_inside : (start : Start) (a : ℕ) (service : Service) (disk : Medium) (M : History) (P : Trace) (calls : ℕ) (t : List ℕ) → IsSound start (point (Up service disk) M P calls) → LeftInside service disk a (caller_at service.callers a) t → IsLeft (point (Up service disk) M P calls) t (lives (start_keys start) M)
+pub left_inside : (start : Start) (a : ℕ) (service : Service) (disk : Medium) (M : History) (P : Trace) (calls : ℕ) (t : List ℕ) → IsSound start
+    (point (Up service disk) M P calls) → LeftInside service disk a (caller_at service.callers a) t → IsLeft (point (Up service disk) M P calls) t
+    (lives (start_keys start) M)
 left_inside start a service disk M P calls t sound left = go (caller_at service.callers a) refl left
   where
     go : (who : Option Caller) → caller_at service.callers a ≡ who → LeftInside service disk a who t → IsLeft (point (Up service disk) M P calls) t (lives (start_keys start) M)

@@ -68,7 +68,8 @@ module _ (callers : List (Option Caller)) (a : ℕ) (caller : Caller) (at : call
     each = by_actor (λ b. CallerSound (view_of shape vault' actors' b) (pin_in pins b) (caller_at (moving callers a caller next) b) (notes'.begun b) P' (notes'.changed b)) a
         (carry shape.buckets shape.passes vault'.format vault'.cells vault'.dead P' x (actor_in actors' a) (pin_in pins a) (pin_in pins a) (Some (moved caller next)) (caller_at (moving callers a caller next) a) (notes.begun a) (notes'.begun a) changed (notes'.changed a)
         hand_a refl moved_same (begun a) changed_a mine)
-        (λ b other. carry shape.buckets shape.passes vault'.format vault'.cells vault'.dead P' (actor_in actors b) (actor_in actors' b) (pin_in pins b) (pin_in pins b) (caller_at callers b) (caller_at (moving callers a caller next) b) (notes.begun b) (notes'.begun b) (notes.changed b) (notes'.changed b)
+        (λ b other. carry shape.buckets shape.passes vault'.format vault'.cells vault'.dead P' (actor_in actors b) (actor_in actors' b) (pin_in pins b) (pin_in pins b)
+        (caller_at callers b) (caller_at (moving callers a caller next) b) (notes.begun b) (notes'.begun b) (notes.changed b) (notes'.changed b)
         (others b other) refl (moved_other b other) (begun b) (changed_b b other) (theirs b other));
   }
 

@@ -121,7 +121,9 @@ module _ (n calls : ℕ) (y : Yard) (callers : List (Option Caller)) (disk : Med
       slots = open_slots;
       locks = locks;
       callers = callers_moved callers a (call_at i (Add k) at) is next y.shape y.vault vault' y.words.pins y.actors actors' P P notes notes x (notes.changed a) hands hand_a hand_b (λ b. refl) refl (λ b other. refl) mine
-          (λ b other. caller_vaulted y.shape.buckets y.shape.passes y.vault.format y.vault.cells cells' y.vault.dead dead' (actor_in y.actors b) (notes.begun b) P (notes.changed b) dies (λ t slot. cell_stays y.vault.cells s new t (hand_apart b t other slot)) (pin_in y.words.pins b) (caller_at callers b) (sound.callers.each b))
+          (λ b other. caller_vaulted y.shape.buckets y.shape.passes y.vault.format y.vault.cells cells' y.vault.dead dead' (actor_in y.actors b) (notes.begun b) P
+          (notes.changed b) dies (λ t slot. cell_stays y.vault.cells s new t (hand_apart b t other slot)) (pin_in y.words.pins b) (caller_at callers b)
+          (sound.callers.each b))
           sound.callers;
       reuse = reuse_turn y.shape y.words.pins y.uses y.actors actors' P notes.begun slot_still sound.reuse;
       ledger = ledger_turn callers a (call_at i (Add k) at) is next n calls y.shape.passes P M notes sound.ledger;
@@ -199,7 +201,9 @@ module _ (n calls : ℕ) (y : Yard) (callers : List (Option Caller)) (disk : Med
     has = sound.locks.has;
     rests = by_actor (λ b. RestsOn y.shape.buckets (actor_in y.actors b).hold (actor_in y.actors b) P') a
         (subst (λ (q : LockPhase). RestsOn y.shape.buckets q (actor_in y.actors a) P') (sym h.0) checked_published)
-        (λ b other. rests_prepared y.shape.buckets y.shape.slots s (link_prepared s v) (actor_in y.actors b) P sound.trace.lawful loose (λ node place. link_leaves y.shape.buckets s v (actor_in y.actors b) P (λ t slot. hand_apart b t other slot) node place) (actor_in y.actors b).hold (sound.locks.rests b));
+        (λ b other. rests_prepared y.shape.buckets y.shape.slots s (link_prepared s v) (actor_in y.actors b) P sound.trace.lawful loose
+        (λ node place. link_leaves y.shape.buckets s v (actor_in y.actors b) P (λ t slot. hand_apart b t other slot) node place) (actor_in y.actors b).hold
+        (sound.locks.rests b));
   }
 
   -- what is said of callers stays, the adder's too: no key word is changed, and no pass that is inside has stood on the slot

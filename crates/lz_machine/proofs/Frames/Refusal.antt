@@ -57,7 +57,9 @@ module _ (n calls : ℕ) (y : Yard) (callers : List (Option Caller)) (disk : Med
     hands = length-set_of_pass y.actors a x ∙ sound.callers.hands;
     each = by_actor (λ b. CallerSound (view_of y.shape y.vault actors' b) (pin_in y.words.pins b) (caller_at callers b) (notes.begun b) P (notes.changed b)) a
         (subst (λ (q : Option Caller). CallerSound (view_of y.shape y.vault actors' a) (pin_in y.words.pins a) q (notes.begun a) P (notes.changed a)) (sym none) idle_caller)
-        (λ b other. carry y.shape.buckets y.shape.passes y.vault.format y.vault.cells y.vault.dead P (actor_in y.actors b) (actor_in actors' b) (pin_in y.words.pins b) (pin_in y.words.pins b) (caller_at callers b) (caller_at callers b) (notes.begun b) (notes.begun b) (notes.changed b) (notes.changed b) (other_hand b other) refl refl refl refl (sound.callers.each b));
+        (λ b other. carry y.shape.buckets y.shape.passes y.vault.format y.vault.cells y.vault.dead P (actor_in y.actors b) (actor_in actors' b) (pin_in y.words.pins b)
+        (pin_in y.words.pins b) (caller_at callers b) (caller_at callers b) (notes.begun b) (notes.begun b) (notes.changed b) (notes.changed b)
+        (other_hand b other) refl refl refl refl (sound.callers.each b));
   }
 
   invoked_tails : TailsSound y.shape y.vault.cells actors' P callers (entries y.shape.passes callers notes) M

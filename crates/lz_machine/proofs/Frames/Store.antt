@@ -67,7 +67,9 @@ module _ (shape : Shape) (words : Words) (P : Trace) (trace : TraceSound shape w
         lawful = law;
         some = trace.some;
         small = small;
-        heads = ap (λ (l : List ℕ). slice_set l b n) trace.heads ∙ table_set shape.buckets (λ c. word_after buckets P (head_at c)) (λ c. word_after buckets (e ∷ P) (head_at c)) b n lt (subst (λ (q : ℕ). head_word buckets q (e ∷ P) ≡ n) (sym bucket) at) (λ c other. head_off c (inl (λ same. other (same ∙ sym bucket))));
+        heads = ap (λ (l : List ℕ). slice_set l b n) trace.heads ∙ table_set shape.buckets (λ c. word_after buckets P (head_at c))
+            (λ c. word_after buckets (e ∷ P) (head_at c)) b n lt (subst (λ (q : ℕ). head_word buckets q (e ∷ P) ≡ n) (sym bucket) at)
+            (λ c other. head_off c (inl (λ same. other (same ∙ sym bucket))));
         links = trace.links ∙ table_same shape.slots (λ t. word_after buckets P (link_at t)) (λ t. word_after buckets (e ∷ P) (link_at t)) (λ t. cc (node_off t (λ is. absurd (omega (arith, is))), flags t));
         keys = trace.keys ∙ table_same shape.slots (λ t. word_after buckets P (key_at t)) (λ t. word_after buckets (e ∷ P) (key_at t)) word;
         halt = trace.halt ∙ sym halt;

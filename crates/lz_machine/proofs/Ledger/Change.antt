@@ -114,11 +114,14 @@ no_times j [] other = refl
 no_times j (q ∷ L) other = let here = other q (inl refl) in grind (arith, nat_tests, here, no_times j L (λ x at. other x (inr at)))
 
 -- an open call that has changed nothing has no row
-pub no_entry : (n calls passes : ℕ) (callers : List (Option Caller)) (P : Trace) (M : History) (notes : Notes) (a : ℕ) (caller : Caller) → caller_at callers a ≡ Some caller → notes.changed a ≡ None → LedgerSound n calls passes callers P M notes → times caller.number (entries passes callers notes) ≡ 0
+pub no_entry : (n calls passes : ℕ) (callers : List (Option Caller)) (P : Trace) (M : History) (notes : Notes) (a : ℕ) (caller : Caller)
+    → caller_at callers a ≡ Some caller → notes.changed a ≡ None → LedgerSound n calls passes callers P M notes → times caller.number (entries passes callers notes) ≡ 0
 no_entry n calls passes callers P M notes a caller at none sound = grind (arith, nat_tests, times_append, no_times, pending_open, none-some)
 
 -- the tail of an open call that writes a gate
-pub own_tail : (n calls passes : ℕ) (callers : List (Option Caller)) (P : Trace) (M : History) (notes : Notes) (a : ℕ) (caller : Caller) → caller_at callers a ≡ Some caller → notes.changed a ≡ None → may_have_tail caller.progress ≡ true → LedgerSound n calls passes callers P M notes → HasTail caller.command callers (entries passes callers notes) M
+pub own_tail : (n calls passes : ℕ) (callers : List (Option Caller)) (P : Trace) (M : History) (notes : Notes) (a : ℕ) (caller : Caller)
+    → caller_at callers a ≡ Some caller → notes.changed a ≡ None → may_have_tail caller.progress ≡ true → LedgerSound n calls passes callers P M notes
+    → HasTail caller.command callers (entries passes callers notes) M
 own_tail n calls passes callers P M notes a caller at none may sound = record {
   number = caller.number;
   under_way = sound.open_call a caller at;
@@ -211,7 +214,9 @@ module _ (n calls passes : ℕ) (callers : List (Option Caller)) (e : Publishing
   ledger_changed = record {
     opened = omega (arith, sound.opened);
     ledger = subst (λ (l : List Row). IsLedger n (e ∷ P) l [] M) (sym parts.is) ledger_now;
-    settled = subst (Each (IsSettledEntry (e ∷ P))) (sym parts.is) (each_insert r (IsSettledEntry (e ∷ P)) parts.front parts.back (record { told = λ does answered. absurd (none-some _ answered) }) (subst (Each (IsSettledEntry (e ∷ P))) parts.was (settled_grow n e P old sound.ledger.each sound.settled)));
+    settled = subst (Each (IsSettledEntry (e ∷ P))) (sym parts.is) (each_insert r (IsSettledEntry (e ∷ P)) parts.front parts.back
+        (record { told = λ does answered. absurd (none-some _ answered) }) (subst (Each (IsSettledEntry (e ∷ P))) parts.was
+        (settled_grow n e P old sound.ledger.each sound.settled)));
     changes = λ j early late. subst (λ (l : List Row). IsChangeOf (publishing j (e ∷ P)) (change_at j l)) (sym parts.is) (change_then j early late);
     numbered = sound.numbered;
     refused = sound.refused;

@@ -257,8 +257,30 @@ module _ (n calls passes : ℕ) (callers : List (Option Caller)) (P : Trace) (M 
     no_row = elim (cases_eq h.number i) [
       | inl mine ↦
           let count = same (h.stays a caller at (sym mine)) in
-          omega (arith, ap (times h.number) new_is, times_new i E F B pended last (all_pend (notes.changed a)) is_last.all none_left h.number, ap (λ (q : ℕ). times q last) mine, ap (λ (q : ℕ). times q pended) mine, count, h.no_row, ap (times h.number) old_is, times_old i E F B pended last (all_pend (notes.changed a)) is_last.all none_left h.number)
-      | inr other ↦ omega (arith, ap (times h.number) new_is, times_new i E F B pended last (all_pend (notes.changed a)) is_last.all none_left h.number, none_of i h.number last is_last.all other, h.no_row, ap (times h.number) old_is, times_old i E F B pended last (all_pend (notes.changed a)) is_last.all none_left h.number)
+          omega (
+            arith,
+            ap (times h.number) new_is,
+            times_new i E F B pended last (all_pend (notes.changed a)) is_last.all none_left h.number,
+            ap
+                (λ (q : ℕ). times q last) mine,
+            ap (λ (q : ℕ). times q pended) mine,
+            count,
+            h.no_row,
+            ap (times h.number) old_is,
+            times_old i E F B pended last
+                (all_pend (notes.changed a)) is_last.all none_left h.number,
+          )
+      | inr other ↦ omega (
+        arith,
+        ap (times h.number) new_is,
+        times_new i E F B pended last
+            (all_pend (notes.changed a)) is_last.all none_left h.number,
+        none_of i h.number last is_last.all other,
+        h.no_row,
+        ap
+            (times h.number) old_is,
+        times_old i E F B pended last (all_pend (notes.changed a)) is_last.all none_left h.number,
+      )
     ];
     stays = λ b one is number. let old = is_open b one is in h.stays b one old.1 number;
   }

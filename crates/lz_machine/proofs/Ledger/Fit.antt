@@ -14,7 +14,9 @@ pub none_early : (n j : ℕ) (P : Trace) (rows : List Row) → j < n → Each (I
 none_early n j P [] lt each = refl
 none_early n j P (r ∷ rows) lt each = grind (arith, nat_tests, each.0.early, none_early n j P rows lt each.1)
 
-pub listed_runs : (buckets slots n : ℕ) (P : Trace) (drop : Keys) (rows : List Row) → Lawful buckets slots P → MayDrop n P drop → Each (IsRowOf n P) rows → ((j : ℕ) → n ≤ j → j < length P → RowsFit P drop j (publishing j P) (change_at j rows)) → Leads (kept_keys n P drop 0) (listed rows (length P)) (kept_keys n P drop (length P))
+pub listed_runs : (buckets slots n : ℕ) (P : Trace) (drop : Keys) (rows : List Row) → Lawful buckets slots P → MayDrop n P drop → Each (IsRowOf n P) rows →
+    ((j : ℕ) → n ≤ j → j < length P → RowsFit P drop j (publishing j P) (change_at j rows)) → Leads (kept_keys n P drop 0) (listed rows (length P))
+    (kept_keys n P drop (length P))
 listed_runs buckets slots n P drop rows law may each fit = listed_leads (kept_keys n P drop) rows (each_weaker (IsRowOf n P) (IsRight (kept_keys n P drop)) (row_is_right n P drop may) rows each) (length P) moves
   where
     moves : (j : ℕ) → j < length P → Moves (kept_keys n P drop j) (kept_keys n P drop (suc j)) (change_at j rows)
@@ -89,14 +91,19 @@ module _ (n : ℕ) (P : Trace) (rows tail : List Row) (M : History) (ledger : Is
   order_fits i j before at_i at_j =
       let r = row_of i (listed rows (length P) ++ tail) at_i in
       let q = row_of j (listed rows (length P) ++ tail) at_j in
-      subst (λ (x : ℕ). IsEarlier x j (numbers (listed rows (length P) ++ tail))) r.2 (subst (λ (y : ℕ). IsEarlier r.0.number y (numbers (listed rows (length P) ++ tail))) q.2 (earlier_rows r.0 q.0 (listed rows (length P) ++ tail) (go r.0 q.0 (subst (λ (x : ℕ). IsBefore M x q.0.number) (sym r.2) (subst (λ (y : ℕ). IsBefore M i y) (sym q.2) before)) (has_append r.0 (listed rows (length P)) tail r.1) (has_append q.0 (listed rows (length P)) tail q.1))))
+      subst (λ (x : ℕ). IsEarlier x j (numbers (listed rows (length P) ++ tail))) r.2
+      (subst (λ (y : ℕ). IsEarlier r.0.number y (numbers (listed rows (length P) ++ tail))) q.2
+      (earlier_rows r.0 q.0 (listed rows (length P) ++ tail) (go r.0 q.0 (subst (λ (x : ℕ). IsBefore M x q.0.number) (sym r.2)
+      (subst (λ (y : ℕ). IsBefore M i y) (sym q.2) before)) (has_append r.0 (listed rows (length P)) tail r.1) (has_append q.0 (listed rows (length P)) tail q.1))))
     where
       go : (r q : Row) → IsBefore M r.number q.number → HasRow r (listed rows (length P)) ⊎ HasRow r tail → HasRow q (listed rows (length P)) ⊎ HasRow q tail → Stands r q (listed rows (length P) ++ tail)
       go r q before (inr last) _ = grind (arith, nat_tests, was_answered, none-some, each_has, has_right)
       go r q before (inl first) (inr last) = stands_across r q (listed rows (length P)) tail first last
       go r q before (inl first) (inl second) = grind (arith, nat_tests, has_listed, stands_left, listed_order, within)
 
-  pub listed_fits : (buckets slots : ℕ) (drop T : Keys) → Lawful buckets slots P → MayDrop n P drop → ((j : ℕ) → n ≤ j → j < length P → RowsFit P drop j (publishing j P) (change_at j rows)) → Leads (kept_keys n P drop (length P)) tail T → Fits (kept_keys n P drop 0) M (numbers (listed rows (length P) ++ tail)) T
+  pub listed_fits : (buckets slots : ℕ) (drop T : Keys) → Lawful buckets slots P → MayDrop n P drop →
+      ((j : ℕ) → n ≤ j → j < length P → RowsFit P drop j (publishing j P) (change_at j rows)) → Leads (kept_keys n P drop (length P)) tail T → Fits
+      (kept_keys n P drop 0) M (numbers (listed rows (length P) ++ tail)) T
   listed_fits buckets slots drop T law may fit tail_leads = record {
     once = λ i. omega (arith, count_rows i (listed rows (length P) ++ tail), times_append i (listed rows (length P)) tail, listed_times rows (length P) i, times_filter (is_within (length P)) i rows, ledger.once i);
     answered = λ i a is.
@@ -106,7 +113,9 @@ module _ (n : ℕ) (P : Trace) (rows tail : List Row) (M : History) (ledger : Is
         let r = row_of i (listed rows (length P) ++ tail) at in
         (called_row r.0 r.1).not_refused (subst (λ (x : ℕ). IsRefused M x) (sym r.2) is);
     order = order_fits;
-    runs = runs_rows M (listed rows (length P) ++ tail) (kept_keys n P drop 0) T (each_all (IsRowIn M) (listed rows (length P) ++ tail) called_row) (leads_append (kept_keys n P drop 0) (kept_keys n P drop (length P)) T (listed rows (length P)) tail (listed_runs buckets slots n P drop rows law may ledger.each fit) tail_leads);
+    runs = runs_rows M (listed rows (length P) ++ tail) (kept_keys n P drop 0) T (each_all (IsRowIn M) (listed rows (length P) ++ tail) called_row)
+        (leads_append (kept_keys n P drop 0) (kept_keys n P drop (length P)) T (listed rows (length P)) tail
+        (listed_runs buckets slots n P drop rows law may ledger.each fit) tail_leads);
   }
     where
       called_row : (r : Row) → HasRow r (listed rows (length P) ++ tail) → IsRowIn M r

@@ -40,13 +40,19 @@ module _ (n : ℕ) (P : Trace) (drop : Keys) (may : MayDrop n P drop) where
   pub kept_ledger : (entries tail : List Row) (M : History) → IsLedger n P entries tail M → Each (IsSettledEntry P) entries → IsLedger n P (kept_rows P drop entries) tail M
   kept_ledger entries tail M h settled_ones = record {
     each = each_weaker _ (IsRowOf n P) (λ r facts. facts.0) _ (each_filter (IsRowOf n P) (is_kept P drop) entries h.each);
-    calls = each_all (IsRowIn M) (kept_rows P drop entries ++ tail) (λ r at. each_has (IsRowIn M) r (entries ++ tail) h.calls (⊎_elim (λ left. has_left r entries tail (has_filter_of (is_kept P drop) r entries left)) (λ right. has_right r entries tail right) (has_append r (kept_rows P drop entries) tail at)));
+    calls = each_all (IsRowIn M) (kept_rows P drop entries ++ tail) (λ r at. each_has (IsRowIn M) r (entries ++ tail) h.calls
+        (⊎_elim (λ left. has_left r entries tail (has_filter_of (is_kept P drop) r entries left)) (λ right. has_right r entries tail right)
+        (has_append r (kept_rows P drop entries) tail at)));
     tail_open = h.tail_open;
     once = λ i. omega (arith, h.once i, times_filter (is_kept P drop) i entries);
     answered = λ i a is.
         let found = h.answered i a is in
-        let row = each_has (IsRowIn M) found.0 (entries ++ tail) h.calls (has_left found.0 entries tail found.1) in
-        (found.0, has_filter (is_kept P drop) found.0 entries found.1 (answered_is_kept found.0 a (each_has (IsRowOf n P) found.0 entries h.each found.1) (each_has (IsSettledEntry P) found.0 entries settled_ones found.1) (row.answers a (subst (λ (x : ℕ). IsAnswered M x a) (sym found.2) is))), found.2);
+        let row = each_has (IsRowIn M) found.0 (entries ++ tail) h.calls (has_left found.0 entries tail found.1) in (
+          found.0,
+          has_filter (is_kept P drop) found.0 entries found.1 (answered_is_kept found.0 a (each_has (IsRowOf n P) found.0 entries h.each found.1)
+              (each_has (IsSettledEntry P) found.0 entries settled_ones found.1) (row.answers a (subst (λ (x : ℕ). IsAnswered M x a) (sym found.2) is))),
+          found.2,
+        );
     order = λ r q at_r at_q before.
         let o = h.order r q (has_filter_of (is_kept P drop) r entries at_r) (has_filter_of (is_kept P drop) q entries at_q) before in
         (stands_filter (is_kept P drop) r q entries o.0 (has_passes (is_kept P drop) r entries at_r) (has_passes (is_kept P drop) q entries at_q), o.1, o.2);

@@ -76,7 +76,9 @@ module _ (n : ℕ) (P : Trace) (drop : Keys) (may : MayDrop n P drop) where
         let at : reply r.command (kept_keys n P drop r.position (key_of r.command)) ≡ true =
         ap (reply r.command) (members_before (key_of r.command) r.position h.early (λ _. change_before (key_of r.command) r.position P c.within c.changed)) ∙ c.was in
         record {
-          answer = ⊎_elim (λ none. subst (λ (o : Option Bool). MatchOption o (Unit {0}) (λ a. reply r.command (kept_keys n P drop r.position (key_of r.command)) ≡ a)) (sym none) tt) (λ some. subst (λ (o : Option Bool). MatchOption o (Unit {0}) (λ a. reply r.command (kept_keys n P drop r.position (key_of r.command)) ≡ a)) (sym some) at) c.answer;
+          answer = ⊎_elim (λ none. subst (λ (o : Option Bool). MatchOption o (Unit {0}) (λ a. reply r.command (kept_keys n P drop r.position (key_of r.command)) ≡ a))
+              (sym none) tt) (λ some. subst (λ (o : Option Bool). MatchOption o (Unit {0}) (λ a. reply r.command (kept_keys n P drop r.position (key_of r.command)) ≡ a))
+              (sym some) at) c.answer;
           quiet = λ none. absurd (false≢true (sym none ∙ does));
         }
     | inr none ↦ ⊎_elim
@@ -108,7 +110,9 @@ module _ (n : ℕ) (P : Trace) (drop : Keys) (may : MayDrop n P drop) where
   -- the membership moves by the rows of each publishing that is kept
   module _ (L : List Row) (j : ℕ) (early : n ≤ j) (late : j < length P) where
     -- a change of k to v, by a command that does it too
-    move_by : (e : Publishing) (k : ℕ) (c : Command) (v : Bool) → publishing j P ≡ e → ((q : ℕ) → k ≢ q → changes_key q e ≡ false) → changes_key k e ≡ true → member k (e ∷ upto j P) ≡ v → member k (upto j P) ≡ not v → ((q : ℕ) (b : Bool) → k ≢ q → moved q c b ≡ b) → ((b : Bool) → moved k c b ≡ v) → (gone : Bool) → (drop k && (last_change k P == suc j)) ≡ gone → IsChange gone c L → Moves (kept_keys n P drop j) (kept_keys n P drop (suc j)) L
+    move_by : (e : Publishing) (k : ℕ) (c : Command) (v : Bool) → publishing j P ≡ e → ((q : ℕ) → k ≢ q → changes_key q e ≡ false) → changes_key k e ≡ true → member k
+        (e ∷ upto j P) ≡ v → member k (upto j P) ≡ not v → ((q : ℕ) (b : Bool) → k ≢ q → moved q c b ≡ b) → ((b : Bool) → moved k c b ≡ v) → (gone : Bool) →
+        (drop k && (last_change k P == suc j)) ≡ gone → IsChange gone c L → Moves (kept_keys n P drop j) (kept_keys n P drop (suc j)) L
     move_by e k c v is others does becomes_v was_not moves_other moves_k true d fit = grind (arith, nat_tests, cases_eq, dropped, stays)
     move_by e k c v is others does becomes_v was_not moves_other moves_k false d fit = grind (arith, nat_tests, after_at, cases_eq, becomes, stays)
 

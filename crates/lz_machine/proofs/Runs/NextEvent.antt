@@ -81,7 +81,14 @@ module _ (n calls : ℕ) (y : Yard) (callers : List (Option Caller)) (disk : Med
       (publishes y (actor_at y a) a e ++ P) notes
 
   plays_goes : (e : Event) → (words_after y (actor_at y a) a e).pins ≡ y.words.pins → is_change e ≡ false → SoundAfter e → After e Plays
-  plays_goes e pins quiet sound = (notes, turned_same (yard_done y (actor_at y a) a e) (outcome_of y (actor_at y a) e) (medium_after (call_of y (actor_at y a) e) disk) (publishes y (actor_at y a) a e) pins refl sound, noted_same y.words.pins (words_after y (actor_at y a) a e).pins P notes.begun pins, told_quiet (words_after y (actor_at y a) a e).pins y a e P notes.changed quiet)
+  plays_goes e pins quiet sound = (
+    notes,
+    turned_same (yard_done y (actor_at y a) a e) (outcome_of y (actor_at y a) e) (medium_after (call_of y (actor_at y a) e) disk)
+        (publishes y (actor_at y a) a e) pins refl sound,
+    noted_same y.words.pins (words_after y (actor_at y a) a e).pins P notes.begun pins,
+    told_quiet
+        (words_after y (actor_at y a) a e).pins y a e P notes.changed quiet,
+  )
 
   -- turns that leave the pins and the notes
   pub plays_turn : (e : Event) → is_played_dead e ≡ false → is_before_pin at ≡ false → course_alive y a (pin_of y a) e ≡ Plays → (words_after y (actor_at y a) a e).pins ≡ y.words.pins → is_change e ≡ false

@@ -48,7 +48,8 @@ module _ (n calls : ℕ) (y : Yard) (callers : List (Option Caller)) (disk : Med
     each = by_actor (λ b. CallerSound (view_of y.shape y.vault actors' b) (pin_in pins' b) (caller_at (ending callers a) b) (notes'.begun b) P (notes'.changed b)) a
         (subst (λ (q : Option Caller). CallerSound (view_of y.shape y.vault actors' a) (pin_in pins' a) q (notes.begun a) P (notes'.changed a)) (sym (gone callers notes a how.last (call_at i c (Answering says)) is))
         (subst (λ (q : Option ℕ). CallerSound (view_of y.shape y.vault actors' a) (pin_in pins' a) None (notes.begun a) P q) (sym (none_now callers notes a how.last (call_at i c (Answering says)) is)) mine))
-        (λ b other. carry y.shape.buckets y.shape.passes y.vault.format y.vault.cells y.vault.dead P (actor_in y.actors b) (actor_in actors' b) (pin_in y.words.pins b) (pin_in pins' b) (caller_at callers b) (caller_at (ending callers a) b) (notes.begun b) (notes'.begun b) (notes.changed b) (notes'.changed b)
+        (λ b other. carry y.shape.buckets y.shape.passes y.vault.format y.vault.cells y.vault.dead P (actor_in y.actors b) (actor_in actors' b) (pin_in y.words.pins b)
+        (pin_in pins' b) (caller_at callers b) (caller_at (ending callers a) b) (notes.begun b) (notes'.begun b) (notes.changed b) (notes'.changed b)
         (others b other) (same_pins b other) (stays_open callers notes a how.last (call_at i c (Answering says)) is b other) refl (changed_still callers notes a how.last (call_at i c (Answering says)) is b other) (sound.callers.each b));
   }
 
@@ -158,7 +159,8 @@ module _ (n calls : ℕ) (y : Yard) (callers : List (Option Caller)) (disk : Med
     played_sound calm = answered_sound (actor_in y.actors a).slot refl calm
 
 -- what the call relies on, inside
-rests_of : (c : Command) (says : Reply) (a : ℕ) (y : Yard) (P0 P : Trace) (changed : Option ℕ) → is_before_pin (Answering says) ≡ false → Relies (view_of y.shape y.vault y.actors a) c (Answering says) P0 P changed → MayAnswer c says P0 P changed × (((actor_in y.actors a).hold ≡ Nothing) ⊎ (halt_word P ≡ 1))
+rests_of : (c : Command) (says : Reply) (a : ℕ) (y : Yard) (P0 P : Trace) (changed : Option ℕ) → is_before_pin (Answering says) ≡ false → Relies
+    (view_of y.shape y.vault y.actors a) c (Answering says) P0 P changed → MayAnswer c says P0 P changed × (((actor_in y.actors a).hold ≡ Nothing) ⊎ (halt_word P ≡ 1))
 rests_of c says a y P0 P changed inside h = grind (arith, nat_tests, false≢true)
 
 -- and outside, where it was refused

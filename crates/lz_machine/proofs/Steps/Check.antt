@@ -64,7 +64,8 @@ module _ (shape : Shape) (words : Words) (P : Trace) (trace : TraceSound shape w
 three_tests : (p q r : Bool) → (not p && not q && r) ≡ true → (p ≡ false) × (q ≡ false) × (r ≡ true)
 three_tests p q r is = grind arith
 
-module _ (n calls : ℕ) (y : Yard) (callers : List (Option Caller)) (disk : Medium) (M : History) (P : Trace) (notes : Notes) (a i : ℕ) (c : Command) (sound : Sound n calls y callers disk M P notes) (aim : Option ℕ) (curr : Option ℕ) (is : caller_at callers a ≡ Some (call_at i c (Checking aim curr))) where
+module _ (n calls : ℕ) (y : Yard) (callers : List (Option Caller)) (disk : Medium) (M : History) (P : Trace) (notes : Notes) (a i : ℕ) (c : Command)
+    (sound : Sound n calls y callers disk M P notes) (aim : Option ℕ) (curr : Option ℕ) (is : caller_at callers a ≡ Some (call_at i c (Checking aim curr))) where
   abbrev at : Progress
   at = Checking aim curr
 

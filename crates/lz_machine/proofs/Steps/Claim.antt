@@ -28,7 +28,9 @@ pub aimed_same : (buckets passes : ℕ) (format : Format) (cells : List Cell) (d
     → IsAimed (record { buckets = buckets; passes = passes; format = format; cells = cells; dead = dead; actor = old }) k P aim → IsAimed (record { buckets = buckets; passes = passes; format = format; cells = cells; dead = dead; actor = new }) k P aim
 aimed_same buckets passes format cells dead old new k P aim same h = grind (arith, nat_tests)
 
-module _ (n calls : ℕ) (y : Yard) (callers : List (Option Caller)) (disk : Medium) (M : History) (P : Trace) (notes : Notes) (a i : ℕ) (c : Command) (sound : Sound n calls y callers disk M P notes) (aim : Option ℕ) (pred : Place) (curr : Option ℕ) (is : caller_at callers a ≡ Some (call_at i c (Claiming aim pred curr))) where
+module _ (n calls : ℕ) (y : Yard) (callers : List (Option Caller)) (disk : Medium) (M : History) (P : Trace) (notes : Notes) (a i : ℕ) (c : Command)
+    (sound : Sound n calls y callers disk M P notes) (aim : Option ℕ) (pred : Place) (curr : Option ℕ)
+    (is : caller_at callers a ≡ Some (call_at i c (Claiming aim pred curr))) where
   abbrev at : Progress
   at = Claiming aim pred curr
 

@@ -9,7 +9,8 @@ use Rattle.lz_machine.specs.{declared.caller.Progress.{Progress}, Yards.{Yard}, 
 use Rattle.lz_machine.{specs.{Runs.{Caller, caller_at}, Notes.{Notes}, CallersSound.{is_before_pin}, Sound.{Sound}}, proofs.Frames.OneActor.{moving}}
 use Rattle.lz_machine.proofs.Steps.{Hop.{call_at, goes_on_keeps, dead_keeps}, Sync.{died_keeps}}
 
-module _ (n calls : ℕ) (y : Yard) (callers : List (Option Caller)) (disk : Medium) (M : History) (P : Trace) (notes : Notes) (a i : ℕ) (c : Command) (at : Progress) (is : caller_at callers a ≡ Some (call_at i c at)) (sound : Sound n calls y callers disk M P notes) (inside : is_before_pin at ≡ false) where
+module _ (n calls : ℕ) (y : Yard) (callers : List (Option Caller)) (disk : Medium) (M : History) (P : Trace) (notes : Notes) (a i : ℕ) (c : Command) (at : Progress)
+    (is : caller_at callers a ≡ Some (call_at i c at)) (sound : Sound n calls y callers disk M P notes) (inside : is_before_pin at ≡ false) where
   -- no sync is left
   pub dies_keeps : Sound n calls (with_vault y (died y.vault)) (moving callers a (call_at i c at) (progress_after y.shape c at Dead)) disk M P notes
   dies_keeps = dead_keeps n calls (with_vault y (died y.vault)) callers disk M P notes a i c at is (died_keeps n calls y callers disk M P notes sound) inside refl

@@ -56,7 +56,12 @@ module _ (n calls : ℕ) (y : Yard) (callers : List (Option Caller)) (disk : Med
       let mine : s ≡ slot_of (actor_at y a) = sym (ap (λ (q : Option ℕ). unwrap_or q 0) (known c (Playing (Writing s) 0) is).1) in
       subst (λ (cells : List Cell). Sound n calls (with_vault y (record y.vault { cells = cells; dead = true })) (moving callers a (call_at i c (Playing (Writing s) 0)) (halts Device)) new M P notes)
       (sym (key_cells y.vault.format (stage_in y.vault.cells (slot_of (actor_at y a))) (slot_of (actor_at y a)) (key_of c) y.vault.cells (cells_after y (actor_at y a) (WriteKey (key_of c)))))
-      (subst (λ (q : ℕ). Sound n calls (with_vault y (record y.vault { cells = slice_set y.vault.cells q (record { stage = stage_put y.vault.format (stage_in y.vault.cells q); key = key_of c }); dead = true })) (moving callers a (call_at i c (Playing (Writing s) 0)) (halts Device)) new M P notes) mine
+      (subst (λ (q : ℕ). Sound n calls (with_vault y (record y.vault {
+        cells = slice_set y.vault.cells q
+            (record { stage = stage_put y.vault.format (stage_in y.vault.cells q); key = key_of c });
+        dead = true;
+      }))
+      (moving callers a (call_at i c (Playing (Writing s) 0)) (halts Device)) new M P notes) mine
       (write_key_fails_keeps n calls y callers disk M P notes up.sound a i c s is alive new (subst (λ (q : ℕ). MayFail (key_call y.vault.format (stage_in y.vault.cells q) q (key_of c)) disk new) (sym mine) fails))))
 
   -- the write that opens a gate fails

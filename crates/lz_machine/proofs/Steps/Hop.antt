@@ -43,7 +43,9 @@ module _ (n calls : ℕ) (y : Yard) (callers : List (Option Caller)) (disk : Med
       let me = own n calls y callers disk M P notes a i c (Walking aim look) is sound in
       let inside = own_inside n calls y callers disk M P notes a i c (Walking aim look) is sound refl in
       let h = me.stands.2 in
-      goes_on_keeps n calls y callers disk M P notes a i c (Walking aim look) is sound _ refl (λ none is. absurd (false≢true is)) (hop_after y.shape y.words P sound.trace (few_slots sound.images) (notes.begun a) (me.quiet inside) (me.begins inside) y.shape.passes y.vault.format y.vault.cells y.vault.dead _ (notes.changed a) c aim look h.0 h.1 h.3 h.2)
+      goes_on_keeps n calls y callers disk M P notes a i c (Walking aim look) is sound _ refl (λ none is. absurd (false≢true is))
+      (hop_after y.shape y.words P sound.trace (few_slots sound.images) (notes.begun a) (me.quiet inside)
+      (me.begins inside) y.shape.passes y.vault.format y.vault.cells y.vault.dead _ (notes.changed a) c aim look h.0 h.1 h.3 h.2)
 
   halts_now : (d : Command) → halt_word P ≡ 1 → MayAnswer d Halted (notes.begun a) P (notes.changed a)
   halts_now (Add k) is = is

@@ -146,7 +146,9 @@ tail_still M calls a c d first callers rows rows' same low high below h = record
   ];
 }
 
-module _ (n calls a : ℕ) (c : Command) (y : Yard) (callers : List (Option Caller)) (disk : Medium) (P : Trace) (M : History) (notes : Notes) (low : 1 ≤ a) (high : a ≤ length callers) (none : caller_at callers a ≡ None) (even : pin_in y.words.pins a % 2 ≡ 0) (first : Progress) (side : IsSide (pin_in y.words.pins a) first)
+module _ (n calls a : ℕ) (c : Command) (y : Yard) (callers : List (Option Caller)) (disk : Medium) (P : Trace) (M : History) (notes : Notes) (low : 1 ≤ a)
+    (high : a ≤ length callers) (none : caller_at callers a ≡ None) (even : pin_in y.words.pins a % 2 ≡ 0) (first : Progress)
+    (side : IsSide (pin_in y.words.pins a) first)
     (relies : IsEmptyHanded (actor_in y.actors a) P → notes.changed a ≡ None → Relies (view_of y.shape y.vault y.actors a) c first (notes.begun a) P (notes.changed a)) where
   new_caller : CallersSound y.shape y.vault y.words.pins y.actors callers P notes → CallerSound (view_of y.shape y.vault y.actors a) (pin_in y.words.pins a) (Some (started (suc calls) c first)) (notes.begun a) P (notes.changed a)
   new_caller h = grind (arith, none)
@@ -163,7 +165,9 @@ module _ (n calls a : ℕ) (c : Command) (y : Yard) (callers : List (Option Call
   free : CallersSound y.shape y.vault y.words.pins y.actors callers P notes → notes.changed a ≡ None
   free h = (subst (λ (q : Option Caller). CallerSound (view_of y.shape y.vault y.actors a) (pin_in y.words.pins a) q (notes.begun a) P (notes.changed a)) none (h.each a)).stands.1
 
-  calling_tails : CallersSound y.shape y.vault y.words.pins y.actors callers P notes → LedgerSound n calls y.shape.passes callers P M notes → TailsSound y.shape y.vault.cells y.actors P callers (entries y.shape.passes callers notes) M → TailsSound y.shape y.vault.cells y.actors P (calling callers a (suc calls) c first) (entries y.shape.passes (calling callers a (suc calls) c first) notes) (Call (suc calls) a c ∷ M)
+  calling_tails : CallersSound y.shape y.vault y.words.pins y.actors callers P notes → LedgerSound n calls y.shape.passes callers P M notes
+      → TailsSound y.shape y.vault.cells y.actors P callers (entries y.shape.passes callers notes) M → TailsSound y.shape y.vault.cells y.actors P
+      (calling callers a (suc calls) c first) (entries y.shape.passes (calling callers a (suc calls) c first) notes) (Call (suc calls) a c ∷ M)
   calling_tails old ledger h =
       let same = same_entries n calls y.shape.passes a c first callers P M notes (free old) ledger in
       record {
@@ -217,7 +221,8 @@ module _ (n calls : ℕ) (service : Service) (disk : Medium) (life : Life) (P : 
 
   pub call_up : UpSound n (suc calls) (record { yard = invoked service.yard a c; callers = calling service.callers a (suc calls) c (begun service.yard.vault.format c) }) disk
       (record { start = life.start; history = Call (suc calls) a c ∷ life.history }) P notes
-  call_up = calling_up n calls a c (invoked service.yard a c) service.callers disk P life.history notes may.0.0 in_callers none (even_of (pin_of service.yard a) may.2) (begun service.yard.vault.format c) (begun_side (pin_of service.yard a) (is_old_file service.yard.vault.format c) (even_of (pin_of service.yard a) may.2))
+  call_up = calling_up n calls a c (invoked service.yard a c) service.callers disk P life.history notes may.0.0 in_callers none (even_of (pin_of service.yard a) may.2)
+      (begun service.yard.vault.format c) (begun_side (pin_of service.yard a) (is_old_file service.yard.vault.format c) (even_of (pin_of service.yard a) may.2))
       (λ idle unchanged. begun_relies (view_of service.yard.shape service.yard.vault (invoked service.yard a c).actors a) c (notes.begun a) P (notes.changed a)
       (noted_refusal n calls service.yard service.callers disk life.history P notes a c may.0.0 in_actors none up.sound) idle unchanged)
       life.start (invoked_up n calls service.yard service.callers disk life P notes a c may.0.0 in_actors none up)

@@ -168,7 +168,9 @@ module _ (n calls : ℕ) (y : Yard) (callers : List (Option Caller)) (disk : Med
   linked_locks = turned_locks y.shape y.locks y.actors actors' P a hand_b sound.locks P'
       (λ q lock. my_lock q (subst (λ (z : Actor). HasLock z q) hand_a lock).among)
       (subst (λ (q : Actor). RestsOn y.shape.buckets q.hold q P') (sym hand_a) tt)
-      (λ b other. pair_published y.shape.buckets (linked k s a) (actor_in y.actors b) P (λ rest. linked_leaves y.shape.buckets y.shape.slots k s a (actor_in y.actors b) P sound.trace.lawful (pred_apart b other rest) (λ t slot it. other (sound.slots.one_hand b a t slot (h.1 ∙ ap Some (sym it))))) (sound.locks.rests b))
+      (λ b other. pair_published y.shape.buckets (linked k s a) (actor_in y.actors b) P
+      (λ rest. linked_leaves y.shape.buckets y.shape.slots k s a (actor_in y.actors b) P sound.trace.lawful (pred_apart b other rest)
+      (λ t slot it. other (sound.slots.one_hand b a t slot (h.1 ∙ ap Some (sym it))))) (sound.locks.rests b))
 
   linked_reuse : ReuseSound y.shape y.words.pins y.uses actors' P' notes.begun
   linked_reuse = reuse_published y.shape y.vault.cells y.vault.dead y.uses y.actors actors' (linked k s a) P y.words.pins notes.begun linked_slots (λ b t slot. (held_then b t slot).2) sound.reuse
@@ -223,7 +225,9 @@ module _ (n calls : ℕ) (y : Yard) (callers : List (Option Caller)) (disk : Med
   linked_tails =
       record {
         adding = λ b t slot opened. let old = held_then b t slot in tail_turn callers a (call_at i (Add k) at) is (Playing (Adding s) 2) y.shape.passes notes' in_passes (λ none is'. refl) (Add (cell_in y.vault.cells t).key) M
-            (tail_changed n calls y.shape.passes callers (linked k s a) P M notes a (call_at i (Add k) at) is in_passes h.3 shows was (row_of (call_at i (Add k) at) (length P), refl, refl) sound.ledger (Add (cell_in y.vault.cells t).key) (λ e. other_adder b t old.0 old.2 opened (add_same e)) (sound.tails.adding b t old.2 opened));
+            (tail_changed n calls y.shape.passes callers (linked k s a) P M notes a (call_at i (Add k) at) is in_passes h.3 shows was
+            (row_of (call_at i (Add k) at) (length P), refl, refl) sound.ledger (Add (cell_in y.vault.cells t).key)
+            (λ e. other_adder b t old.0 old.2 opened (add_same e)) (sound.tails.adding b t old.2 opened));
         removing = λ t on_it unmarked shut. tail_turn callers a (call_at i (Add k) at) is (Playing (Adding s) 2) y.shape.passes notes' in_passes (λ none is'. refl) (Remove (cell_in y.vault.cells t).key) M (elim (cases_eq t s) [
           | inl it ↦ absurd (opened_written (stage_in y.vault.cells s) opened_s (subst (λ (q : ℕ). IsGateWritten (stage_in y.vault.cells q)) it shut))
           | inr other ↦ tail_changed n calls y.shape.passes callers (linked k s a) P M notes a (call_at i (Add k) at) is in_passes h.3 shows was (row_of (call_at i (Add k) at) (length P), refl, refl) sound.ledger (Remove (cell_in y.vault.cells t).key) remove_add
@@ -253,7 +257,9 @@ module _ (n calls : ℕ) (y : Yard) (callers : List (Option Caller)) (disk : Med
         locks = linked_locks;
         callers = subst (λ (q : List ℕ). CallersSound y.shape y.vault q actors' callers' P' notes') same linked_callers;
         reuse = subst (λ (q : List ℕ). ReuseSound y.shape q y.uses actors' P' notes.begun) same linked_reuse;
-        ledger = ledger_turn callers a (call_at i (Add k) at) is (Playing (Adding s) 2) n calls y.shape.passes P' M notes' (ledger_changed n calls y.shape.passes callers (linked k s a) P M notes a (call_at i (Add k) at) is in_passes h.3 shows (ap not law.0.no_member) (row_of (call_at i (Add k) at) (length P), refl, refl) sound.ledger);
+        ledger = ledger_turn callers a (call_at i (Add k) at) is (Playing (Adding s) 2) n calls y.shape.passes P' M notes'
+            (ledger_changed n calls y.shape.passes callers (linked k s a) P M notes a (call_at i (Add k) at) is in_passes h.3 shows (ap not law.0.no_member)
+            (row_of (call_at i (Add k) at) (length P), refl, refl) sound.ledger);
         tails = linked_tails;
       }
 

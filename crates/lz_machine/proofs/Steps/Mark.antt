@@ -198,7 +198,9 @@ module _ (n calls : ℕ) (y : Yard) (callers : List (Option Caller)) (disk : Med
   marked_tails =
       record {
         adding = λ b t slot opened. tail_turn callers a (call_at i (Remove k) at) is (Playing (Removing s) 2) y.shape.passes notes' in_passes (λ none is'. refl) (Add (cell_in y.vault.cells t).key) M
-            (tail_changed n calls y.shape.passes callers (marked k s a) P M notes a (call_at i (Remove k) at) is in_passes h.2.2 shows was_member (row_of (call_at i (Remove k) at) (length P), refl, refl) sound.ledger (Add (cell_in y.vault.cells t).key) add_remove (sound.tails.adding b t (sym (slot_still b) ∙ slot) opened));
+            (tail_changed n calls y.shape.passes callers (marked k s a) P M notes a (call_at i (Remove k) at) is in_passes h.2.2 shows was_member
+            (row_of (call_at i (Remove k) at) (length P), refl, refl) sound.ledger (Add (cell_in y.vault.cells t).key) add_remove
+            (sound.tails.adding b t (sym (slot_still b) ∙ slot) opened));
         removing = λ t on_it unmarked shut. tail_turn callers a (call_at i (Remove k) at) is (Playing (Removing s) 2) y.shape.passes notes' in_passes (λ none is'. refl) (Remove (cell_in y.vault.cells t).key) M (elim (cases_eq t s) [
           | inl it ↦ absurd (false≢true (sym unmarked ∙ ap (λ (q : ℕ). is_marked q P') it ∙ now_marked))
           | inr other ↦ tail_changed n calls y.shape.passes callers (marked k s a) P M notes a (call_at i (Remove k) at) is in_passes h.2.2 shows was_member (row_of (call_at i (Remove k) at) (length P), refl, refl) sound.ledger (Remove (cell_in y.vault.cells t).key)
@@ -215,7 +217,9 @@ module _ (n calls : ℕ) (y : Yard) (callers : List (Option Caller)) (disk : Med
     locks = marked_locks;
     callers = marked_callers;
     reuse = marked_reuse;
-    ledger = ledger_turn callers a (call_at i (Remove k) at) is (Playing (Removing s) 2) n calls y.shape.passes P' M notes' (ledger_changed n calls y.shape.passes callers (marked k s a) P M notes a (call_at i (Remove k) at) is in_passes h.2.2 shows was_member (row_of (call_at i (Remove k) at) (length P), refl, refl) sound.ledger);
+    ledger = ledger_turn callers a (call_at i (Remove k) at) is (Playing (Removing s) 2) n calls y.shape.passes P' M notes'
+        (ledger_changed n calls y.shape.passes callers (marked k s a) P M notes a (call_at i (Remove k) at) is in_passes h.2.2 shows was_member
+        (row_of (call_at i (Remove k) at) (length P), refl, refl) sound.ledger);
     tails = marked_tails;
   }
 

@@ -47,7 +47,8 @@ pinned words a = set words (pin_at a) (get words (pin_at a) + 1)
 pub trace_pinned : (shape : Shape) (words : Words) (P : Trace) (a : ℕ) → TraceSound shape words P → TraceSound shape (pinned words a) P
 trace_pinned shape words P a h = grind (arith, length-set_of_pass)
 
-module _ (shape : Shape) (cells : List Cell) (dead : Bool) (pins : List ℕ) (uses : List Use) (actors : List Actor) (P : Trace) (notes : Notes) (a : ℕ) (low : 1 ≤ a) (high : a ≤ length pins) (slots : SlotsSound shape cells dead uses actors P) (reuse : ReuseSound shape pins uses actors P notes.begun) where
+module _ (shape : Shape) (cells : List Cell) (dead : Bool) (pins : List ℕ) (uses : List Use) (actors : List Actor) (P : Trace) (notes : Notes) (a : ℕ) (low : 1 ≤ a)
+    (high : a ≤ length pins) (slots : SlotsSound shape cells dead uses actors P) (reuse : ReuseSound shape pins uses actors P notes.begun) where
   abbrev v : ℕ
   v = pin_in pins a
 
@@ -116,7 +117,8 @@ module _ (n calls : ℕ) (y : Yard) (callers : List (Option Caller)) (disk : Med
     each = by_actor (λ b. CallerSound (view_of y.shape y.vault y.actors b) (pin_in (set_of_pass y.words.pins a to) b) (caller_at callers' b) (notes'.begun b) P (notes'.changed b)) a
         (carry y.shape.buckets y.shape.passes y.vault.format y.vault.cells y.vault.dead P (actor_in y.actors a) (actor_in y.actors a) to (pin_in (set_of_pass y.words.pins a to) a) (caller_at callers' a) (caller_at callers' a) P0 (notes'.begun a) (notes.changed a) (notes'.changed a)
         refl (of_pass_same y.words.pins a to 0 low in_pins) refl begun_a (changed a) mine)
-        (λ b other. carry y.shape.buckets y.shape.passes y.vault.format y.vault.cells y.vault.dead P (actor_in y.actors b) (actor_in y.actors b) (pin_in y.words.pins b) (pin_in (set_of_pass y.words.pins a to) b) (caller_at callers b) (caller_at callers' b) (notes.begun b) (notes'.begun b) (notes.changed b) (notes'.changed b)
+        (λ b other. carry y.shape.buckets y.shape.passes y.vault.format y.vault.cells y.vault.dead P (actor_in y.actors b) (actor_in y.actors b) (pin_in y.words.pins b)
+        (pin_in (set_of_pass y.words.pins a to) b) (caller_at callers b) (caller_at callers' b) (notes.begun b) (notes'.begun b) (notes.changed b) (notes'.changed b)
         refl (of_pass_other y.words.pins a b to 0 other) (others b other) (begun_b b other) (changed b) (sound.callers.each b));
   }
 

@@ -61,7 +61,9 @@ take_other : (uses : List Use) (s t : ℕ) → t ≢ s → use_of (take_slot use
 take_other uses s t other = get_or-set_other uses s t Taken Taken other
 
 -- an actor with nothing in hand takes a free slot
-module _ (n calls : ℕ) (y : Yard) (callers : List (Option Caller)) (disk : Medium) (M : History) (P : Trace) (notes : Notes) (a i : ℕ) (c : Command) (at : Progress) (is : caller_at callers a ≡ Some (call_at i c at)) (sound : Sound n calls y callers disk M P notes) (s : ℕ) (lt : s < length y.uses) (free : use_of y.uses s ≡ Free) (nothing : (actor_at y a).hold ≡ Nothing) (no_slot : (actor_at y a).slot ≡ None) where
+module _ (n calls : ℕ) (y : Yard) (callers : List (Option Caller)) (disk : Medium) (M : History) (P : Trace) (notes : Notes) (a i : ℕ) (c : Command) (at : Progress)
+    (is : caller_at callers a ≡ Some (call_at i c at)) (sound : Sound n calls y callers disk M P notes) (s : ℕ) (lt : s < length y.uses) (free : use_of y.uses s ≡ Free)
+    (nothing : (actor_at y a).hold ≡ Nothing) (no_slot : (actor_at y a).slot ≡ None) where
   abbrev x : Actor
   x = with_slot (actor_at y a) (Some s)
 
@@ -149,7 +151,25 @@ module _ (n calls : ℕ) (y : Yard) (callers : List (Option Caller)) (disk : Med
             (λ place lock. let mine = subst (λ (q : Actor). HasLock q place) hand_a lock in record { locks = mine.locks; among = mine.among })
             (subst (λ (q : Actor). RestsOn y.shape.buckets q.hold q P) (sym hand_a) (subst (λ (q : LockPhase). RestsOn y.shape.buckets q x P) (sym nothing) tt));
         callers = callers_turn callers a (call_at i c at) is next y.shape y.vault y.words.pins y.actors actors' P notes (length-set_of_pass y.actors a x) hand_b
-            (subst (λ (q : Actor). CallerSound (record { buckets = y.shape.buckets; passes = y.shape.passes; format = y.vault.format; cells = y.vault.cells; dead = y.vault.dead; actor = q }) (pin_in y.words.pins a) (Some (call_at i c next)) (notes.begun a) P (notes.changed a)) (sym hand_a) (record { quiet = me.quiet; begins = me.begins; stands = (inside_side (pin_in y.words.pins a) next goes.inside (own_inside n calls y callers disk M P notes a i c at is sound inside), me.stands.1, goes.relies) }))
+            (subst (λ (q : Actor). CallerSound (record {
+              buckets = y.shape.buckets;
+              passes = y.shape.passes;
+              format = y.vault.format;
+              cells = y.vault.cells;
+              dead =
+                  y.vault.dead;
+              actor = q;
+            }) (pin_in y.words.pins a) (Some (call_at i c next)) (notes.begun a) P (notes.changed a)) (sym hand_a)
+            (record {
+              quiet = me.quiet;
+              begins = me.begins;
+              stands = (
+                inside_side (pin_in y.words.pins a) next goes.inside
+                    (own_inside n calls y callers disk M P notes a i c at is sound inside),
+                me.stands.1,
+                goes.relies,
+              );
+            }))
             sound.callers;
         reuse = take_reuse;
         ledger = ledger_turn callers a (call_at i c at) is next n calls y.shape.passes P M notes sound.ledger;

@@ -134,10 +134,29 @@ module _ (n calls : ℕ) (y : Yard) (callers : List (Option Caller)) (disk : Med
             (λ place lock. absurd (false≢true (subst (λ (q : Actor). HasLock q place) hand_a lock).locks))
             (subst (λ (q : Actor). RestsOn y.shape.buckets q.hold q P) (sym hand_a) tt);
         callers = callers_turn callers a (call_at i (Remove k) at) is (Answering Yes) y.shape y.vault y.words.pins y.actors actors' P notes (length-set_of_pass y.actors a x) hand_b
-            (subst (λ (q : Actor). CallerSound (record { buckets = y.shape.buckets; passes = y.shape.passes; format = y.vault.format; cells = y.vault.cells; dead = y.vault.dead; actor = q }) (pin_in y.words.pins a) (Some (call_at i (Remove k) (Answering Yes))) (notes.begun a) P (notes.changed a)) (sym hand_a) (record { quiet = me.quiet; begins = me.begins; stands = (me.stands.0, me.stands.1, (h.2.1, inl refl)) }))
+            (subst (λ (q : Actor). CallerSound (record {
+              buckets = y.shape.buckets;
+              passes = y.shape.passes;
+              format = y.vault.format;
+              cells = y.vault.cells;
+              dead =
+                  y.vault.dead;
+              actor = q;
+            }) (pin_in y.words.pins a) (Some (call_at i (Remove k) (Answering Yes))) (notes.begun a) P (notes.changed a)) (sym hand_a)
+            (record { quiet = me.quiet; begins = me.begins; stands = (me.stands.0, me.stands.1, (h.2.1, inl refl)) }))
             sound.callers;
         reuse = retired_reuse;
         ledger = ledger_turn callers a (call_at i (Remove k) at) is (Answering Yes) n calls y.shape.passes P M notes sound.ledger;
-        tails = tails_turn callers a (call_at i (Remove k) at) is (Answering Yes) y.shape.passes notes (in_passes n calls y callers disk M P notes a (call_at i (Remove k) at) is sound) (λ none is. absurd (none-some _ (sym (sym h.2.1.is ∙ none)))) y.shape y.vault.cells y.actors actors' P M slot_still sound.tails;
+        tails = tails_turn callers a (call_at i (Remove k) at) is (Answering Yes) y.shape.passes notes
+            (in_passes n calls y callers disk M P notes a (call_at i (Remove k) at) is sound)
+            (λ none is. absurd (none-some _ (sym (sym h.2.1.is ∙ none)))) y.shape y.vault.cells y.actors actors' P M slot_still sound.tails;
       } in
-      subst (λ (q : ℕ). Sound n calls (record { shape = y.shape; words = y.words; locks = y.locks; vault = y.vault; uses = retire y.shape.passes y.uses q; actors = actors' }) (moving callers a (call_at i (Remove k) at) (Answering Yes)) disk M P notes) (sym (ap (λ (q : Option ℕ). unwrap_or q 0) h.0)) done
+      subst (λ (q : ℕ). Sound n calls (record {
+        shape = y.shape;
+        words = y.words;
+        locks = y.locks;
+        vault = y.vault;
+        uses = retire y.shape.passes y.uses q;
+        actors =
+            actors';
+      }) (moving callers a (call_at i (Remove k) at) (Answering Yes)) disk M P notes) (sym (ap (λ (q : Option ℕ). unwrap_or q 0) h.0)) done

@@ -18,7 +18,8 @@ unused_closed stage is = grind (arith, nat_tests, false≢true)
 pub closed_unused : (stage : Stage) → IsFree stage → is_unused stage ≡ true
 closed_unused stage free = grind (arith, nat_tests)
 
-module _ (shape : Shape) (cells : List Cell) (dead : Bool) (uses : List Use) (actors : List Actor) (P : Trace) (slots : SlotsSound shape cells dead uses actors P) (a s : ℕ) (low : 1 ≤ a) (high : a ≤ length actors) (has : (actor_in actors a).slot ≡ Some s) (unused : is_unused (stage_in cells s) ≡ true) where
+module _ (shape : Shape) (cells : List Cell) (dead : Bool) (uses : List Use) (actors : List Actor) (P : Trace) (slots : SlotsSound shape cells dead uses actors P)
+    (a s : ℕ) (low : 1 ≤ a) (high : a ≤ length actors) (has : (actor_in actors a).slot ≡ Some s) (unused : is_unused (stage_in cells s) ≡ true) where
   abbrev x : Actor
   x = with_slot (actor_in actors a) None
 

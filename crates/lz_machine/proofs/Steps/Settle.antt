@@ -94,7 +94,10 @@ module _ (n calls : ℕ) (y : Yard) (callers : List (Option Caller)) (disk : Med
         (record { relies = (added_settled k change.0 h.1, inl h.0); inside = refl }))
     | inr loose ↦
         let h = (own n calls y callers disk M P notes a i (Add k) (Playing (Adding s) 4) is sound).stands.2 in
-        subst (then i (Add k) (Playing (Adding s) 4)) (sym (outcome_early loose)) (early_form loose (moving callers a (call_at i (Add k) (Playing (Adding s) 4)) (Playing (Adding s) 3)) (goes_on_keeps n calls y callers disk M P notes a i (Add k) (Playing (Adding s) 4) is sound (Playing (Adding s) 3) refl (λ none is. refl) (record { relies = h; inside = refl })))
+        subst (then i (Add k) (Playing (Adding s) 4)) (sym (outcome_early loose)) (early_form loose
+        (moving callers a (call_at i (Add k) (Playing (Adding s) 4)) (Playing (Adding s) 3))
+        (goes_on_keeps n calls y callers disk M P notes a i (Add k) (Playing (Adding s) 4) is sound (Playing (Adding s) 3) refl (λ none is. refl)
+        (record { relies = h; inside = refl })))
   ]
     where
       added_settled : (j : ℕ) (c : Change) → HasAdded y.shape.buckets j s (notes.begun a) P (notes.changed a) → IsSettledChange j (settled s c ∷ P) (notes.changed a)
@@ -108,7 +111,10 @@ module _ (n calls : ℕ) (y : Yard) (callers : List (Option Caller)) (disk : Med
         subst (then i (Remove k) (Playing (Removing s) 3)) (sym (outcome_sure sure)) (settles i (Remove k) (Playing (Removing s) 3) (Playing (Removing s) 4) is refl (λ none is. refl) lt apart Removed change
         (record { relies = (h.0, h.1, (h.2.0, h.2.1.key, removed_now, marked_settled h.2.1)); inside = refl }))
     | inr loose ↦
-        subst (then i (Remove k) (Playing (Removing s) 3)) (sym (outcome_early loose)) (early_form loose (moving callers a (call_at i (Remove k) (Playing (Removing s) 3)) (Playing (Removing s) 2)) (goes_on_keeps n calls y callers disk M P notes a i (Remove k) (Playing (Removing s) 3) is sound (Playing (Removing s) 2) refl (λ none is. refl) (record { relies = h; inside = refl })))
+        subst (then i (Remove k) (Playing (Removing s) 3)) (sym (outcome_early loose))
+        (early_form loose (moving callers a (call_at i (Remove k) (Playing (Removing s) 3)) (Playing (Removing s) 2))
+        (goes_on_keeps n calls y callers disk M P notes a i (Remove k) (Playing (Removing s) 3) is sound (Playing (Removing s) 2) refl (λ none is. refl)
+        (record { relies = h; inside = refl })))
   ]
     where
       h : Relies (view_of y.shape y.vault y.actors a) (Remove k) (Playing (Removing s) 3) (notes.begun a) P (notes.changed a)
@@ -148,14 +154,20 @@ module _ (n calls : ℕ) (y : Yard) (callers : List (Option Caller)) (disk : Med
       record {
         then = m.then;
         since = record { from = m.since.from; upto = inr m.since.upto };
-        settled = unmarked_rests y.shape.buckets y.shape.slots (notes.begun a) k s m.then (settled s c ∷ P) (lawful_begins y.shape.buckets y.shape.slots m.then P m.since.upto sound.trace.lawful) (quiet_begins y.shape.buckets (notes.begun a) m.then P m.since.upto quiet) m.stood m.key (inr m.since.upto) m.met (flag_settled s (linking_in s m.then) c P link.0);
+        settled = unmarked_rests y.shape.buckets y.shape.slots (notes.begun a) k s m.then (settled s c ∷ P)
+            (lawful_begins y.shape.buckets y.shape.slots m.then P m.since.upto sound.trace.lawful)
+            (quiet_begins y.shape.buckets (notes.begun a) m.then P m.since.upto quiet) m.stood m.key (inr m.since.upto) m.met
+            (flag_settled s (linking_in s m.then) c P link.0);
       }
 
   met_settled_no : (k : ℕ) → IsInside (pin_in y.words.pins a) → HasMet y.shape.buckets k s true (notes.begun a) P → RestsNo k (notes.begun a) (settled s Removed ∷ P)
   met_settled_no k inside m =
       let quiet = (sound.callers.each a).quiet inside in
       let link = linking_since y.shape.buckets y.shape.slots (notes.begun a) (bucket_of y.shape.buckets k) s m.then P sound.trace.lawful quiet m.since.upto m.stood in
-      let once = marked_rests y.shape.buckets y.shape.slots (notes.begun a) k s m.then (settled s Removed ∷ P) (lawful_begins y.shape.buckets y.shape.slots m.then P m.since.upto sound.trace.lawful) (quiet_begins y.shape.buckets (notes.begun a) m.then P m.since.upto quiet) m.stood m.key (inr m.since.upto) m.met (flag_removed s (linking_in s m.then) P link.0) in
+      let once = marked_rests y.shape.buckets y.shape.slots (notes.begun a) k s m.then (settled s Removed ∷ P)
+      (lawful_begins y.shape.buckets y.shape.slots m.then P m.since.upto sound.trace.lawful)
+      (quiet_begins y.shape.buckets (notes.begun a) m.then P m.since.upto quiet) m.stood m.key (inr m.since.upto) m.met
+      (flag_removed s (linking_in s m.then) P link.0) in
       let r = once_some (notes.begun a) m.then (λ R. SettledNo R (settled s Removed ∷ P) k) once in
       record { then = r.0; since = record { from = r.1; upto = inr (begins_before r.0 m.then P r.2 m.since.upto) }; settled = r.3 }
 
@@ -167,7 +179,10 @@ module _ (n calls : ℕ) (y : Yard) (callers : List (Option Caller)) (disk : Med
     rest_early : is_sure y s ≡ false → then i c (Playing (Resting s reply) 1) (outcome_of y (actor_at y a) (Settle s))
     rest_early loose =
         let h = (own n calls y callers disk M P notes a i c (Playing (Resting s reply) 1) is sound).stands.2 in
-        subst (then i c (Playing (Resting s reply) 1)) (sym (outcome_early loose)) (early_form loose (moving callers a (call_at i c (Playing (Resting s reply) 1)) (Playing (Resting s reply) 0)) (goes_on_keeps n calls y callers disk M P notes a i c (Playing (Resting s reply) 1) is sound (Playing (Resting s reply) 0) refl (λ none is. absurd (false≢true is)) (record { relies = h; inside = refl })))
+        subst (then i c (Playing (Resting s reply) 1)) (sym (outcome_early loose)) (early_form loose
+        (moving callers a (call_at i c (Playing (Resting s reply) 1)) (Playing (Resting s reply) 0))
+        (goes_on_keeps n calls y callers disk M P notes a i c (Playing (Resting s reply) 1) is sound (Playing (Resting s reply) 0) refl
+        (λ none is. absurd (false≢true is)) (record { relies = h; inside = refl })))
 
     rest_now : (mark : Bool) → HasMet y.shape.buckets k s mark (notes.begun a) P → is_sure y s ≡ true
         → ((change : Change) → Allows change (stage_in y.vault.cells s) → (mark ≡ true → change ≡ Removed) → GoesOn (view_of y.shape y.vault y.actors a) c (Answering reply) (notes.begun a) (settled s change ∷ P) (notes.changed a))
@@ -180,7 +195,9 @@ module _ (n calls : ℕ) (y : Yard) (callers : List (Option Caller)) (disk : Med
         let change = pick mark m.met lt where_ in
         subst (then i c (Playing (Resting s reply) 1)) (sym (outcome_sure sure)) (settles i c (Playing (Resting s reply) 1) (Answering reply) is refl (λ none is. absurd (false≢true is)) lt (hands_apart in_it (bucket_of y.shape.buckets k) link.1) change.0 change.1 (goes change.0 change.1 change.2))
       where
-        pick : (b : Bool) → is_marked s m.then ≡ b → s < y.shape.slots → (IsOnChain y.shape y.vault.cells y.uses P s × IsNodeStage y.vault.cells y.vault.dead y.actors P s) ⊎ (stage_in y.vault.cells s ≡ Closed) → (change : Change) × Allows change (stage_in y.vault.cells s) × (b ≡ true → change ≡ Removed)
+        pick : (b : Bool) → is_marked s m.then ≡ b → s < y.shape.slots → (IsOnChain y.shape y.vault.cells y.uses P s
+            × IsNodeStage y.vault.cells y.vault.dead y.actors P s) ⊎ (stage_in y.vault.cells s ≡ Closed) → (change : Change) × Allows change (stage_in y.vault.cells s) ×
+            (b ≡ true → change ≡ Removed)
         pick true met lt at = (Removed, marked_change sure (mark_since y.shape.buckets y.shape.slots (notes.begun a) (bucket_of y.shape.buckets k) s m.then P ((sound.callers.each a).quiet in_it) m.since.upto m.stood met).0 at, λ e. refl)
         pick false met lt at = let change = change_of sure at in (change.0, change.1, λ e. absurd (false≢true e))
 
@@ -194,7 +211,27 @@ module _ (n calls : ℕ) (y : Yard) (callers : List (Option Caller)) (disk : Med
       now : (d : Command) (told : Reply) → caller_at callers a ≡ Some (call_at i d (Playing (Resting s told) 1)) → is_sure y s ≡ true → HasLetGo (view_of y.shape y.vault y.actors a) (notes.changed a) → MayRest y.shape.buckets d told s (notes.begun a) P
           → then i d (Playing (Resting s told) 1) (outcome_of y (actor_at y a) (Settle s))
       now (Has k) Yes at sure fresh m = rest_now i k (Has k) Yes at false m sure (λ change allows only. record { relies = ((fresh.none, met_settled_yes k change (in_it i k (Has k) Yes at) m), inl fresh.hold); inside = refl })
-      now (Has k) No at sure fresh m = rest_now i k (Has k) No at true m sure (λ change allows only. record { relies = ((fresh.none, subst (λ (q : Change). RestsNo k (notes.begun a) (settled s q ∷ P)) (sym (only refl)) (met_settled_no k (in_it i k (Has k) No at) m)), inl fresh.hold); inside = refl })
+      now (Has k) No at sure fresh m = rest_now i k (Has k) No at true m sure (λ change allows only. record {
+        relies = (
+          (
+            fresh.none,
+            subst (λ (q : Change). RestsNo k (notes.begun a) (settled s q ∷ P)) (sym (only refl))
+                (met_settled_no k (in_it i k (Has k) No at) m),
+          ),
+          inl fresh.hold,
+        );
+        inside = refl;
+      })
       now (Add k) No at sure fresh m = rest_now i k (Add k) No at false m sure (λ change allows only. record { relies = ((fresh.none, met_settled_yes k change (in_it i k (Add k) No at) m), inl fresh.hold); inside = refl })
-      now (Remove k) No at sure fresh m = rest_now i k (Remove k) No at true m sure (λ change allows only. record { relies = ((fresh.none, subst (λ (q : Change). RestsNo k (notes.begun a) (settled s q ∷ P)) (sym (only refl)) (met_settled_no k (in_it i k (Remove k) No at) m)), inl fresh.hold); inside = refl })
+      now (Remove k) No at sure fresh m = rest_now i k (Remove k) No at true m sure (λ change allows only. record {
+        relies = (
+          (
+            fresh.none,
+            subst (λ (q : Change). RestsNo k (notes.begun a) (settled s q ∷ P)) (sym (only refl))
+                (met_settled_no k (in_it i k (Remove k) No at) m),
+          ),
+          inl fresh.hold,
+        );
+        inside = refl;
+      })
       now _ _ at sure fresh m = absurd m

@@ -94,7 +94,9 @@ module _ (n calls : ℕ) (y : Yard) (callers : List (Option Caller)) (disk : Med
     callers = record {
       count = sound.callers.count;
       hands = sound.callers.hands;
-      each = λ b. caller_vaulted y.shape.buckets y.shape.passes y.vault.format y.vault.cells (map cell_synced y.vault.cells) y.vault.dead y.vault.dead (actor_in y.actors b) (notes.begun b) P (notes.changed b) (λ e. e) (λ s slot. cell_keeps y.vault.cells s) (pin_in y.words.pins b) (caller_at callers b) (sound.callers.each b);
+      each = λ b. caller_vaulted y.shape.buckets y.shape.passes y.vault.format y.vault.cells (map cell_synced y.vault.cells) y.vault.dead y.vault.dead
+          (actor_in y.actors b) (notes.begun b) P (notes.changed b) (λ e. e) (λ s slot. cell_keeps y.vault.cells s) (pin_in y.words.pins b) (caller_at callers b)
+          (sound.callers.each b);
     };
     reuse = sound.reuse;
     ledger = sound.ledger;
@@ -165,7 +167,9 @@ module _ (n calls : ℕ) (y : Yard) (callers : List (Option Caller)) (disk : Med
     callers = record {
       count = sound.callers.count;
       hands = sound.callers.hands;
-      each = λ b. caller_vaulted y.shape.buckets y.shape.passes y.vault.format y.vault.cells y.vault.cells y.vault.dead true (actor_in y.actors b) (notes.begun b) P (notes.changed b) (λ e. refl) (λ s slot. record { key = refl; keyed = λ k. k; sure = λ k. k }) (pin_in y.words.pins b) (caller_at callers b) (sound.callers.each b);
+      each = λ b. caller_vaulted y.shape.buckets y.shape.passes y.vault.format y.vault.cells y.vault.cells y.vault.dead true (actor_in y.actors b) (notes.begun b) P
+          (notes.changed b) (λ e. refl) (λ s slot. record { key = refl; keyed = λ k. k; sure = λ k. k }) (pin_in y.words.pins b) (caller_at callers b)
+          (sound.callers.each b);
     };
     reuse = sound.reuse;
     ledger = sound.ledger;

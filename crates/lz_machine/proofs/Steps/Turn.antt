@@ -134,7 +134,9 @@ module _ (n calls : ℕ) (y : Yard) (callers : List (Option Caller)) (disk : Med
   remove_turn k s (suc (suc (suc zero))) is relies now =
       plays_turn n calls y callers disk M P start notes up a i (Remove k) (Playing (Removing s) 3) is refl (Settle s) refl refl refl (settled_pins y a s) refl now (λ alive. settle_marked_keeps n calls y callers disk M P notes up.sound a s i k is)
   remove_turn k s (suc (suc (suc (suc zero)))) is relies now =
-      plays_turn n calls y callers disk M P start notes up a i (Remove k) (Playing (Removing s) 4) is refl Unlink refl refl refl (redirect_pins y.words (actor_at y a).pred (next_at y.words (Node (node_of (actor_at y a))))) refl now (λ alive. unlink_keeps n calls y callers disk M P notes up.sound a i k s is)
+      plays_turn n calls y callers disk M P start notes up a i (Remove k) (Playing (Removing s) 4) is refl Unlink refl refl refl
+      (redirect_pins y.words (actor_at y a).pred (next_at y.words (Node (node_of (actor_at y a))))) refl now
+      (λ alive. unlink_keeps n calls y callers disk M P notes up.sound a i k s is)
   remove_turn k s (suc (suc (suc (suc (suc zero))))) is relies now =
       plays_turn n calls y callers disk M P start notes up a i (Remove k) (Playing (Removing s) 5) is refl Release refl refl refl refl refl now (λ alive. unlinked_release_keeps n calls y callers disk M P notes a i up.sound k s is)
   remove_turn k s (suc (suc (suc (suc (suc (suc zero)))))) is relies now =

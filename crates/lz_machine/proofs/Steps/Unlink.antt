@@ -146,7 +146,9 @@ module _ (n calls : ℕ) (y : Yard) (callers : List (Option Caller)) (disk : Med
   places_apart b other rest j bucket same =
       let theirs : HasLock (actor_in y.actors b) (actor_in y.actors b).pred = record { locks = resting_locks (actor_in y.actors b).hold rest; among = first_place (actor_in y.actors b).pred (actor_in y.actors b).curr } in
       let apart : (q : Place) → HasLock (actor_in y.actors a) q → (actor_in y.actors b).pred ≡ q → ⊥ = λ q lock e. other (sym (sound.locks.has b q (subst (HasLock (actor_in y.actors b)) e theirs)) ∙ sound.locks.has a q lock) in (
-        (λ number. apart (actor_at y a).pred (my_lock (actor_at y a).pred (first_place (actor_at y a).pred (actor_at y a).curr)) (one_place y.shape.buckets j k (actor_in y.actors b).pred (actor_at y a).pred bucket (subst (λ (q : ℕ). InBucket y.shape.buckets q (actor_at y a).pred) h.2.1 before.bucket) same number)),
+        (λ number. apart (actor_at y a).pred (my_lock (actor_at y a).pred (first_place (actor_at y a).pred (actor_at y a).curr))
+            (one_place y.shape.buckets j k (actor_in y.actors b).pred (actor_at y a).pred bucket
+            (subst (λ (q : ℕ). InBucket y.shape.buckets q (actor_at y a).pred) h.2.1 before.bucket) same number)),
         (λ number. apart (Node s) (my_lock (Node s) (node_place (actor_at y a).pred (actor_at y a).curr s h.0)) (one_place y.shape.buckets j k (actor_in y.actors b).pred (Node s) bucket tt same number)),
       )
 
@@ -192,7 +194,9 @@ module _ (n calls : ℕ) (y : Yard) (callers : List (Option Caller)) (disk : Med
       let next = node_next y.shape.buckets s P in
       let same = sym (pins_same (node_next y.shape.buckets s P)) in
       record {
-        trace = trace_unlinked y.shape y.words P sound.trace (few_slots sound.images) k s a (actor_at y a).pred law.0 (subst (λ (q : ℕ). InBucket y.shape.buckets q (actor_at y a).pred) h.2.1 before.bucket) node_range (unlinks.place_at y.shape.buckets y.shape.slots k spot s a P sound.trace.lawful leaving);
+        trace = trace_unlinked y.shape y.words P sound.trace (few_slots sound.images) k s a (actor_at y a).pred law.0
+            (subst (λ (q : ℕ). InBucket y.shape.buckets q (actor_at y a).pred) h.2.1 before.bucket) node_range
+            (unlinks.place_at y.shape.buckets y.shape.slots k spot s a P sound.trace.lawful leaving);
         images = sound.images;
         slots = unlinked_slots;
         locks = unlinked_locks;
@@ -200,8 +204,12 @@ module _ (n calls : ℕ) (y : Yard) (callers : List (Option Caller)) (disk : Med
         reuse = subst (λ (q : List ℕ). ReuseSound y.shape q y.uses actors' P' notes.begun) same unlinked_reuse;
         ledger = ledger_published n calls y.shape.passes callers' (unlinked k s a) P M notes tt (ledger_turn callers a (call_at i (Remove k) at) is (Playing (Removing s) 5) n calls y.shape.passes P M notes sound.ledger);
         tails = record {
-          adding = λ b t slot opened. tail_turn callers a (call_at i (Remove k) at) is (Playing (Removing s) 5) y.shape.passes notes (in_passes n calls y callers disk M P notes a (call_at i (Remove k) at) is sound) (λ none is. refl) (Add (cell_in y.vault.cells t).key) M (sound.tails.adding b t (sym (slot_still b) ∙ slot) opened);
-          removing = λ t on_it clear written. tail_turn callers a (call_at i (Remove k) at) is (Playing (Removing s) 5) y.shape.passes notes (in_passes n calls y callers disk M P notes a (call_at i (Remove k) at) is sound) (λ none is. refl) (Remove (cell_in y.vault.cells t).key) M (sound.tails.removing t (chain_before (key_word t P) t on_it) clear written);
+          adding = λ b t slot opened. tail_turn callers a (call_at i (Remove k) at) is (Playing (Removing s) 5) y.shape.passes notes
+              (in_passes n calls y callers disk M P notes a (call_at i (Remove k) at) is sound) (λ none is. refl) (Add (cell_in y.vault.cells t).key) M
+              (sound.tails.adding b t (sym (slot_still b) ∙ slot) opened);
+          removing = λ t on_it clear written. tail_turn callers a (call_at i (Remove k) at) is (Playing (Removing s) 5) y.shape.passes notes
+              (in_passes n calls y callers disk M P notes a (call_at i (Remove k) at) is sound) (λ none is. refl) (Remove (cell_in y.vault.cells t).key) M
+              (sound.tails.removing t (chain_before (key_word t P) t on_it) clear written);
         };
       }
 

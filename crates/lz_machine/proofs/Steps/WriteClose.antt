@@ -21,7 +21,9 @@ use Rattle.lz_vault.specs.{declared.vault.Stage.{Stage, TheVariants.{Closed, Ope
 use Rattle.lz_vault.specs.Vaults.{Vaulted, MayFail, medium_after, closing_call}
 
 -- the node that an actor has checked in a vault that lives has its gate open: nobody else has locked it
-module _ (n calls : ℕ) (y : Yard) (callers : List (Option Caller)) (disk : Medium) (M : History) (P : Trace) (notes : Notes) (sound : Sound n calls y callers disk M P notes) (a s : ℕ) (hold : (actor_in y.actors a).hold ≡ Checked) (alive : y.vault.dead ≡ false) (is : (actor_in y.actors a).curr ≡ Some s) where
+module _ (n calls : ℕ) (y : Yard) (callers : List (Option Caller)) (disk : Medium) (M : History) (P : Trace) (notes : Notes)
+    (sound : Sound n calls y callers disk M P notes) (a s : ℕ) (hold : (actor_in y.actors a).hold ≡ Checked) (alive : y.vault.dead ≡ false)
+    (is : (actor_in y.actors a).curr ≡ Some s) where
   not_closed : (b : ℕ) → IsCloser y.vault.dead (actor_in y.actors b) s → ⊥
   not_closed b closer =
       let theirs : HasLock (actor_in y.actors b) (Node s) = record { locks = closer_locks y.vault.dead (actor_in y.actors b).hold closer.closes; among = node_place (actor_in y.actors b).pred (actor_in y.actors b).curr s closer.node } in
@@ -40,7 +42,9 @@ module _ (n calls : ℕ) (y : Yard) (callers : List (Option Caller)) (disk : Med
       go (inl opened) = opened.1
       go (inr (b, closer, shut)) = absurd (not_closed b closer)
 
-module _ (n calls : ℕ) (y : Yard) (callers : List (Option Caller)) (disk : Medium) (M : History) (P : Trace) (notes : Notes) (sound : Sound n calls y callers disk M P notes) (a i k s : ℕ) (is : caller_at callers a ≡ Some (call_at i (Remove k) (Playing (Removing s) 0))) (alive : y.vault.dead ≡ false) where
+module _ (n calls : ℕ) (y : Yard) (callers : List (Option Caller)) (disk : Medium) (M : History) (P : Trace) (notes : Notes)
+    (sound : Sound n calls y callers disk M P notes) (a i k s : ℕ) (is : caller_at callers a ≡ Some (call_at i (Remove k) (Playing (Removing s) 0)))
+    (alive : y.vault.dead ≡ false) where
   abbrev at : Progress
   at = Playing (Removing s) 0
 
@@ -143,7 +147,9 @@ module _ (n calls : ℕ) (y : Yard) (callers : List (Option Caller)) (disk : Med
           slots = closed_slots;
           locks = locks;
           callers = callers_moved callers a (call_at i (Remove k) at) is next y.shape y.vault vault' y.words.pins y.actors actors' P P notes notes x (notes.changed a) hands hand_a hand_b (λ b. refl) refl (λ b other. refl) mine
-              (λ b other. caller_vaulted y.shape.buckets y.shape.passes y.vault.format y.vault.cells cells' y.vault.dead dead' (actor_in y.actors b) (notes.begun b) P (notes.changed b) dies (λ t slot. cell_stays y.vault.cells s new t (hand_apart b t slot)) (pin_in y.words.pins b) (caller_at callers b) (sound.callers.each b))
+              (λ b other. caller_vaulted y.shape.buckets y.shape.passes y.vault.format y.vault.cells cells' y.vault.dead dead' (actor_in y.actors b) (notes.begun b) P
+              (notes.changed b) dies (λ t slot. cell_stays y.vault.cells s new t (hand_apart b t slot)) (pin_in y.words.pins b) (caller_at callers b)
+              (sound.callers.each b))
               sound.callers;
           reuse = reuse_turn y.shape y.words.pins y.uses y.actors actors' P notes.begun slot_still sound.reuse;
           ledger = ledger_turn callers a (call_at i (Remove k) at) is next n calls y.shape.passes P M notes sound.ledger;

@@ -90,7 +90,9 @@ module _ (n calls : ℕ) (y : Yard) (callers : List (Option Caller)) (disk : Med
     has = sound.locks.has;
     rests = by_actor (λ b. RestsOn y.shape.buckets (actor_in y.actors b).hold (actor_in y.actors b) P') a
         (subst (λ (q : LockPhase). RestsOn y.shape.buckets q (actor_in y.actors a) P') (sym h.0.hold) tt)
-        (λ b other. rests_prepared y.shape.buckets y.shape.slots s (key_prepared s k) (actor_in y.actors b) P sound.trace.lawful loose (λ node place. key_leaves y.shape.buckets s k (actor_in y.actors b) P (λ t slot. hand_apart b t other slot) node place) (actor_in y.actors b).hold (sound.locks.rests b));
+        (λ b other. rests_prepared y.shape.buckets y.shape.slots s (key_prepared s k) (actor_in y.actors b) P sound.trace.lawful loose
+        (λ node place. key_leaves y.shape.buckets s k (actor_in y.actors b) P (λ t slot. hand_apart b t other slot) node place) (actor_in y.actors b).hold
+        (sound.locks.rests b));
   }
 
   -- before the write the adder relies on no word; no pass that is inside has stood on the slot, so that no walk reads the new key
@@ -173,7 +175,9 @@ module _ (n calls : ℕ) (y : Yard) (callers : List (Option Caller)) (disk : Med
         each = by_actor (λ b. CallerSound (view_of y.shape vault' y.actors b) (pin_in y.words.pins b) (caller_at callers b) (notes.begun b) P (notes.changed b)) a
             (subst (λ (q : Option Caller). CallerSound (view_of y.shape vault' y.actors a) (pin_in y.words.pins a) q (notes.begun a) P (notes.changed a)) (sym is)
             (record { quiet = me.quiet; begins = me.begins; stands = (me.stands.0, me.stands.1, (record { hold = h.0.hold; none = h.0.none }, h.1, h.2)) }))
-            (λ b other. caller_vaulted y.shape.buckets y.shape.passes y.vault.format y.vault.cells cells' y.vault.dead dead' (actor_in y.actors b) (notes.begun b) P (notes.changed b) dies (λ t slot. cell_stays y.vault.cells s new t (hand_apart b t other slot)) (pin_in y.words.pins b) (caller_at callers b) (sound.callers.each b));
+            (λ b other. caller_vaulted y.shape.buckets y.shape.passes y.vault.format y.vault.cells cells' y.vault.dead dead' (actor_in y.actors b) (notes.begun b) P
+            (notes.changed b) dies (λ t slot. cell_stays y.vault.cells s new t (hand_apart b t other slot)) (pin_in y.words.pins b) (caller_at callers b)
+            (sound.callers.each b));
       };
       reuse = sound.reuse;
       ledger = sound.ledger;
@@ -187,7 +191,9 @@ module _ (n calls : ℕ) (y : Yard) (callers : List (Option Caller)) (disk : Med
       };
     }
 
-module _ (n calls : ℕ) (y : Yard) (callers : List (Option Caller)) (disk : Medium) (M : History) (P : Trace) (notes : Notes) (sound : Sound n calls y callers disk M P notes) (a i : ℕ) (c : Command) (s : ℕ) (is : caller_at callers a ≡ Some (call_at i c (Playing (Writing s) 0))) (alive : y.vault.dead ≡ false) where
+module _ (n calls : ℕ) (y : Yard) (callers : List (Option Caller)) (disk : Medium) (M : History) (P : Trace) (notes : Notes)
+    (sound : Sound n calls y callers disk M P notes) (a i : ℕ) (c : Command) (s : ℕ) (is : caller_at callers a ≡ Some (call_at i c (Playing (Writing s) 0)))
+    (alive : y.vault.dead ≡ false) where
   abbrev cells_put : List Cell
   cells_put = slice_set y.vault.cells s (record { stage = stage_put y.vault.format (stage_in y.vault.cells s); key = key_of c })
 

@@ -13,7 +13,9 @@ use Rattle.lz_machine.specs.{LocksSound.{has_locks, HasLock, RestsOn, LocksSound
 use Rattle.lz_machine.proofs.Frames.{SlotWrite.{opening_done}, OneActor.{moving}, Hand.{same_hand, other_hand}, NodeLocks.{held_locks}}
 use Rattle.lz_machine.proofs.{Frames.OpenedGate.{beside_published, h, lt, open_sound, published_sound, ready_published}, Steps.Hop.{call_at, own}}
 
-module _ (n calls : ℕ) (y : Yard) (callers : List (Option Caller)) (disk : Medium) (M : History) (P : Trace) (notes : Notes) (sound : Sound n calls y callers disk M P notes) (a i k s : ℕ) (is : caller_at callers a ≡ Some (call_at i (Add k) (Playing (Adding s) 0))) (alive : y.vault.dead ≡ false) where
+module _ (n calls : ℕ) (y : Yard) (callers : List (Option Caller)) (disk : Medium) (M : History) (P : Trace) (notes : Notes)
+    (sound : Sound n calls y callers disk M P notes) (a i k s : ℕ) (is : caller_at callers a ≡ Some (call_at i (Add k) (Playing (Adding s) 0)))
+    (alive : y.vault.dead ≡ false) where
   abbrev x : Actor
   x = with_hold (actor_at y a) GateOpened
 

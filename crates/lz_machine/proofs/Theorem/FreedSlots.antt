@@ -59,7 +59,9 @@ module _ (s q : ℕ) where
   turn_past : (service : Service) (disk : Medium) (a : ℕ) (who : Option Caller) (ms : List Moment) (P0 P : Trace) → IsPast ms P0 P
       → PastAt (after_turn service disk a who) (pins_of (after_turn service disk a who) ++ unlinkings (turn_publishes service a who) ++ ms) (begun_after (after_turn service disk a who) P0 (turn_publishes service a who ++ P)) (turn_publishes service a who ++ P)
   turn_past service disk a None ms P0 P h = shown service disk ms P0 P h
-  turn_past service disk a (Some caller) ms P0 P h = shown (played service a caller (line service.yard a (next_event service.yard caller))) disk (unlinkings (turn_publishes service a (Some caller)) ++ ms) P0 (turn_publishes service a (Some caller) ++ P) (past_publishing (turn_publishes service a (Some caller)) ms P0 P h)
+  turn_past service disk a (Some caller) ms P0 P h = shown (played service a caller (line service.yard a (next_event service.yard caller))) disk
+      (unlinkings (turn_publishes service a (Some caller)) ++ ms) P0 (turn_publishes service a (Some caller) ++ P)
+      (past_publishing (turn_publishes service a (Some caller)) ms P0 P h)
 
   fault_past : (service : Service) (disk new : Medium) (a : ℕ) (who : Option Caller) (ms : List Moment) (P0 P : Trace) → IsPast ms P0 P
       → PastAt (after_fault service new a who) (pins_of (after_fault service new a who) ++ moments_of_step (Up service disk) (Fails a new) ++ ms) (begun_after (after_fault service new a who) P0 P) P

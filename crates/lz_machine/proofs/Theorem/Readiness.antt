@@ -262,7 +262,9 @@ module _ (y : Yard) (honest : Bool) (disk : Medium) (a : ℕ) (e : Event) (may :
         let caller = next_of may.service a e other may.next in
         let sound = sound_there.up.sound in
         let own = mine may.service.yard.shape may.service.yard.vault may.service.yard.words.pins may.service.yard.actors may.service.callers last.trace sound_there.notes a caller.0 caller.1 sound.callers in
-        caller_knows may.service.yard.words may.service.yard.shape (view_of may.service.yard.shape may.service.yard.vault may.service.yard.actors a) caller.0.command (sound_there.notes.begun a) last.trace (sound_there.notes.changed a) caller.0.progress (λ after. own.stands.1 (side_even (pin_in may.service.yard.words.pins a) caller.0.progress own.stands.0 ∙ ap side_of after)) own.stands.2 e caller.2
+        caller_knows may.service.yard.words may.service.yard.shape (view_of may.service.yard.shape may.service.yard.vault may.service.yard.actors a) caller.0.command
+        (sound_there.notes.begun a) last.trace (sound_there.notes.changed a) caller.0.progress
+        (λ after. own.stands.1 (side_even (pin_in may.service.yard.words.pins a) caller.0.progress own.stands.0 ∙ ap side_of after)) own.stands.2 e caller.2
   ]
     where
       begins_knowing : (e' : Event) → is_invoke e' ≡ true → Knows (view_of may.service.yard.shape may.service.yard.vault may.service.yard.actors a) last.trace e'

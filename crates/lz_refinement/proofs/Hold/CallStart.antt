@@ -81,7 +81,8 @@ module _ (opened : Trace) (ns : List Note) (y : Yard) (honest : Bool) (disk : Me
   found_by k q v low high worn sum idle =
       let pin = pin_is q low high in
       let looks = ⊎_elim
-      (λ (nothing : k ≡ 0). subst (λ k. IsRun p (replicate k (Looks q) ++ t.steps) × Looked k q (run p (replicate k (Looks q) ++ t.steps)).state) (sym nothing) (t.runs, record { after = pl.service; left = pl.disk; at = pl.state; disk_is = refl; callers = refl; own = omega arith; yard = alike_is refl }))
+      (λ (nothing : k ≡ 0). subst (λ k. IsRun p (replicate k (Looks q) ++ t.steps) × Looked k q (run p (replicate k (Looks q) ++ t.steps)).state) (sym nothing)
+      (t.runs, record { after = pl.service; left = pl.disk; at = pl.state; disk_is = refl; callers = refl; own = omega arith; yard = alike_is refl }))
       (λ none. looks_run k q low high none (omega (arith, worn, sum, pin)))
       idle in
       let l = looks.1 in
@@ -92,7 +93,23 @@ module _ (opened : Trace) (ns : List Note) (y : Yard) (honest : Bool) (disk : Me
         medium = l.left;
         starts = t.starts;
         runs = looks.0;
-        reads = (replicate k (Looks q), t.steps, refl, (refl, refl, record { looks = k; steps = refl; found = λ service medium is. let here : pin_of service.yard q ≡ pin_of pl.service.yard q = ap (λ w. pin_in_state t.start t.starts w q) (sym is ∙ pl.state) in omega (arith, here, pin, sum) }), t.reads);
+        reads = (
+          replicate k (Looks q),
+          t.steps,
+          refl,
+          (
+            refl,
+            refl,
+            record {
+              looks = k;
+              steps = refl;
+              found =
+                  λ service medium is. let here : pin_of service.yard q ≡ pin_of pl.service.yard q = ap (λ w. pin_in_state t.start t.starts w q) (sym is ∙ pl.state) in omega
+                  (arith, here, pin, sum);
+            },
+          ),
+          t.reads,
+        );
         begins = t.begins;
         state = l.at;
         yard = alike_then same_yard l.yard;

@@ -236,7 +236,15 @@ module _ (opened : Trace) (ns : List Note) (y : Yard) (dev : Device) (t : IsTied
             medium = _;
             starts = t.starts;
             runs = (subst (λ (w : State). MayStep w (FailsStep a new)) (sym pl.state) may, spl.runs);
-            reads = (FailsStep a new ∷ [], spl.all, refl, subst (λ w. TellsOf (run p spl.all).state n w (FailsStep a new ∷ [])) (sym what) (record { step = FailsStep a new; steps = refl; tells = subst (λ (w : State). TellsStep w n (FailsStep a new)) (sym pl.state) told }), subst (λ l. ReadsAs p l spl.all) notes_are spl.reads);
+            reads = (
+              FailsStep a new ∷ [],
+              spl.all,
+              refl,
+              subst (λ w. TellsOf (run p spl.all).state n w (FailsStep a new ∷ [])) (sym what)
+                  (record { step = FailsStep a new; steps = refl; tells = subst (λ (w : State). TellsStep w n (FailsStep a new)) (sym pl.state) told }),
+              subst
+                  (λ l. ReadsAs p l spl.all) notes_are spl.reads,
+            );
             begins = t.begins;
             state = ap (λ (w : State). state_after (suc (run p spl.all).calls) w (FailsStep a new)) pl.state ∙ ap (after_fault pl.service new a) call.is;
             yard = subst (λ (x : Yard). SameButAllPins x (line_failed s a (next_event s call.caller)).0) (sym d.yard) (subst (λ q. SameButAllPins (line_failed z a e).0 (line_failed s a q).0) (sym event_is) pa.failed);

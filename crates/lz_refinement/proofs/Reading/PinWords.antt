@@ -224,7 +224,9 @@ module _ (start : Start) (starts : IsStart start) where
           ap (λ l. pin_in_state (run p (l ++ before)).state q) t.steps ∙ ap (λ w. pin_in_state (state_after (suc (run p before).calls) w t.step) q) at
           ∙ step_pins (suc (run p before).calls) service disk n ns t.step count (subst (λ w. TellsStep w n t.step) at t.tells) q now
 
-      go : (service : Service) (disk : Medium) → (run p before).state ≡ Up service disk → length service.yard.words.pins ≡ length service.callers → pin_of service.yard q ≡ pin_after q ns → IsRun p (new ++ before) → (what : What) → n.what ≡ what → TellsOf (run p before).state n what new → pin_in_state (run p (new ++ before)).state q ≡ pin_after q (n ∷ ns)
+      go : (service : Service) (disk : Medium) → (run p before).state ≡ Up service disk → length service.yard.words.pins ≡ length service.callers
+          → pin_of service.yard q ≡ pin_after q ns → IsRun p (new ++ before) → (what : What) → n.what ≡ what → TellsOf (run p before).state n what new → pin_in_state
+          (run p (new ++ before)).state q ≡ pin_after q (n ∷ ns)
       go service disk at count now runs (Found r v) same t =
           let l = looks_pins t.2.looks r before service disk (subst (λ l. IsRun p (l ++ before)) t.2.steps runs) at in
           ap (λ l. pin_in_state (run p (l ++ before)).state q) t.2.steps ∙ ap (λ w. pin_in_state w q) l.at

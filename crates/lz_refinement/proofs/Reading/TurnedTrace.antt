@@ -129,6 +129,7 @@ module _ (start : Start) (starts : IsStart start) where
               ∙ trace_reads p ns before reads
               ∙ sym (turned_now q p.trace n ns (λ same. let b = was in absurd (omega (arith, count, same, b))))
 
-      go : Earlier → (service : Service) (disk : Medium) → (run p before).state ≡ Up service disk → pin_at (Up service disk) q ≡ pin_after q ns → IsRun p (new ++ before) → pin_at (run p (new ++ before)).state q ≡ pin_after q (n ∷ ns) → (what : What) → n.what ≡ what → TellsOf (run p before).state n what new → Goal
+      go : Earlier → (service : Service) (disk : Medium) → (run p before).state ≡ Up service disk → pin_at (Up service disk) q ≡ pin_after q ns → IsRun p (new ++ before)
+          → pin_at (run p (new ++ before)).state q ≡ pin_after q (n ∷ ns) → (what : What) → n.what ≡ what → TellsOf (run p before).state n what new → Goal
       go earlier service disk at was runs now (Found r v) same t = found earlier service disk at was runs r v same t.2
       go earlier service disk at was runs now _ same t = one earlier (ap (λ w. pin_at w q) at ∙ was) now (subst IsStep (sym same) tt) t

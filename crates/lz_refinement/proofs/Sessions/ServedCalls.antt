@@ -74,7 +74,14 @@ module _ (p : ℕ) where
     pub leads_after : (calls : AnsweredCalls) (rest : List (Command × Option Reply)) (old new : Part) → NoneCut calls → Served z F calls old new
         → LeadsTo S0 (marks_alone p rest) (keys_in old.known) → LeadsTo S0 (marks_alone p (told_after calls rest)) (keys_in new.known)
     leads_after [] rest old new none is past = subst (λ (h : Part). LeadsTo S0 (marks_alone p rest) (keys_in h.known)) (sym is) past
-    leads_after (call ∷ calls) rest old new none (size, (mid, answers, later)) past = grind (arith, nat_tests, leads_after calls ((call.0, Some call.1) ∷ rest) mid new none.1 later (leads_more call.0 call.1 rest old mid none.0 (plain_answer z F call.0 call.1 old mid one size answers) past), leads_more, plain_answer)
+    leads_after (call ∷ calls) rest old new none (size, (mid, answers, later)) past = grind (
+      arith,
+      nat_tests,
+      leads_after calls ((call.0, Some call.1) ∷ rest) mid new none.1 later
+          (leads_more call.0 call.1 rest old mid none.0 (plain_answer z F call.0 call.1 old mid one size answers) past),
+      leads_more,
+      plain_answer,
+    )
 
     -- the last call, cut off or not
     plain_last : (c : Command) (reply : Reply) (rest : List (Command × Option Reply)) (old mid : Part) (T : Keys) → IsPlainAnswer F z.slots c reply (keys_in old.known) (keys_in mid.known)

@@ -24,7 +24,9 @@ loop-index-preserved c =
         | in-Some w ↦
             let key = w.in-Some.key in
             let was : Glanced key h.begun new true = subst (λ g. Glanced key g.begun new true) inv.same w.in-Some.ensures.told in
-            let others : (k : ℕ) → k ≤ largest_key → (Some key ≡ Some k) ⊎ WasAway i k h.begun new = λ k low. subst (λ g. (Some key ≡ Some k) ⊎ WasAway i k g.begun new) inv.same (subst (λ (t : ℕ). (Some key ≡ Some k) ⊎ WasAway t k (part c.loop-index.pass).begun new) c.new-slot.ensures (w.in-Some.ensures.others k low)) in
+            let others : (k : ℕ) → k ≤ largest_key → (Some key ≡ Some k) ⊎ WasAway i k h.begun new = λ k low. subst
+            (λ g. (Some key ≡ Some k) ⊎ WasAway i k g.begun new) inv.same (subst (λ (t : ℕ). (Some key ≡ Some k) ⊎ WasAway t k
+            (part c.loop-index.pass).begun new) c.new-slot.ensures (w.in-Some.ensures.others k low)) in
             subst (λ (ks : List ℕ). Listed c.args.from (i + 1) ks h.begun new) (sym (ap (λ v. v.items) w.keys-is ∙ w.push_reserved.ensures.items))
             (listed_some c.args.from i c.loop-index.keys.items h.begun old new more inv.listed key was others)
         | in_default w ↦

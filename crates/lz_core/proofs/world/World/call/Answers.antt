@@ -15,7 +15,10 @@ returns-clause-ok c =
     let may : MayCall c.self.inside.yard c.self.inside.callers.items c.args.actor = search rules in
     let key : key_of c.args.command ≤ largest_key = search rules in
     let room : c.self.inside.calls + 1 ≤ largest_read = search rules in
-    rw (← c.self.view_is, c.begun.ensures) (leads _ _ _ _ _ (call_runs _ c.self.inside.disk c.self.inside.callers.items c.self.inside.calls c.args.actor c.args.command may.1 may.2 key may.3 c.self.inside.tripped room c.self.inside.yard _ c.step_on-outcome.result may.0 c.self.invariant.ran c.step_on-outcome.ensures) (((omega arith, room), may.1, may.2, key), tt) tt refl)
+    rw (← c.self.view_is, c.begun.ensures)
+    (leads _ _ _ _ _ (call_runs _ c.self.inside.disk c.self.inside.callers.items c.self.inside.calls c.args.actor c.args.command may.1 may.2 key may.3
+    c.self.inside.tripped room c.self.inside.yard _ c.step_on-outcome.result may.0 c.self.invariant.ran c.step_on-outcome.ensures)
+    (((omega arith, room), may.1, may.2, key), tt) tt refl)
 
 pub returns-then-not-may_call-clause-not_now : goal.returns-then-not-may_call-clause-not_now
 returns-then-not-may_call-clause-not_now c = λ i is.

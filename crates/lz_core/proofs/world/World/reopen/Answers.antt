@@ -13,14 +13,18 @@ open_again-requires-clause-disk c =
 pub invariant_of-self-in-Ok-open_again : goal.invariant_of-self-in-Ok-open_again
 invariant_of-self-in-Ok-open_again c =
     reopened_world _ c.self.inside.yard c.self.inside.disk c.self.inside.callers.items c.self.inside.calls c.in-Some.disk (sym c.take.ensures.value ∙ c.in-Some.is) c.self.invariant
-    c.self.inside.tripped c.in-Ok-open_again.opened.yard (rw c.armed.ensures at c.in-Ok-open_again.ensures.ok) c.take.new.self c.take.ensures.after c.in-Ok.callers.items c.in-Ok.ensures c.new.result (c.new.ensures ∙ (rw c.armed.ensures at c.in-Ok-open_again.ensures.keys)) (subst (AscendFrom 0) (sym c.new.ensures) c.in-Ok-open_again.ensures.ascending)
+    c.self.inside.tripped c.in-Ok-open_again.opened.yard
+    (rw c.armed.ensures at c.in-Ok-open_again.ensures.ok) c.take.new.self c.take.ensures.after c.in-Ok.callers.items c.in-Ok.ensures c.new.result
+    (c.new.ensures ∙ (rw c.armed.ensures at c.in-Ok-open_again.ensures.keys)) (subst (AscendFrom 0) (sym c.new.ensures) c.in-Ok-open_again.ensures.ascending)
 
 pub returns-in-Ok-open_again-clause-ok : goal.returns-in-Ok-open_again-clause-ok
 returns-in-Ok-open_again-clause-ok c =
     rw (← c.self.view_is)
     (reopened_on (record { slots = c.self.inside.slots; buckets = c.self.inside.buckets; passes = 64 }) c.self.inside.yard c.self.inside.disk c.self.inside.callers.items c.self.inside.calls c.in-Some.disk
     (sym c.take.ensures.value ∙ c.in-Some.is) c.self.invariant
-    c.self.inside.tripped c.in-Ok-open_again.opened.yard (rw c.armed.ensures at c.in-Ok-open_again.ensures.ok) c.take.new.self c.take.ensures.after c.in-Ok.callers.items c.in-Ok.ensures c.new.result (c.new.ensures ∙ (rw c.armed.ensures at c.in-Ok-open_again.ensures.keys)) (subst (AscendFrom 0) (sym c.new.ensures) c.in-Ok-open_again.ensures.ascending))
+    c.self.inside.tripped c.in-Ok-open_again.opened.yard
+    (rw c.armed.ensures at c.in-Ok-open_again.ensures.ok) c.take.new.self c.take.ensures.after c.in-Ok.callers.items c.in-Ok.ensures c.new.result
+    (c.new.ensures ∙ (rw c.armed.ensures at c.in-Ok-open_again.ensures.keys)) (subst (AscendFrom 0) (sym c.new.ensures) c.in-Ok-open_again.ensures.ascending))
 
 pub invariant_of-self-in-None : goal.invariant_of-self-in-None
 invariant_of-self-in-None c =

@@ -8,7 +8,9 @@ use Rattle.lz_refinement.specs.{declared.locked.Locked.TheInside.{Inside}, Held.
 use Rattle.lz_machine.specs.declared.event.Event.TheVariants.{Sync}
 
 -- what was found, before it is played
-finds : (g : Over) (c : After-play_joined-arg-3-1 g) → Finds (id_of c.args.board.now) (notes c.self.inside.pen) (notes c.match-event.self-inside.pen) c.match-event.self-inside.yard.yard (g.D.Disk.device c.match-event.self-inside.yard.disk) (part c.args.pass.now) (carried c.match-event.self-inside.pen) c.args.caller.now c.match-event.found
+finds : (g : Over) (c : After-play_joined-arg-3-1 g) → Finds (id_of c.args.board.now) (notes c.self.inside.pen)
+    (notes c.match-event.self-inside.pen) c.match-event.self-inside.yard.yard (g.D.Disk.device c.match-event.self-inside.yard.disk) (part c.args.pass.now)
+    (carried c.match-event.self-inside.pen) c.args.caller.now c.match-event.found
 finds g c =
     let n = c.requires.counted in
     let next = is_next g.N.Named.board n.0 n.1 n.2 c.args.caller.now (part c.args.pass.now) n.3 c.args.event c.requires.event (ap hop_of (sym c.requires.event) ∙ c.requires.load) in
@@ -39,7 +41,8 @@ same_yard g c = elim c.match-event.branch [
 ]
 
 -- what the hold has played
-went : (g : Over) (c : After-take g) → Finds (id_of c.args.board.now) (notes c.self.inside.pen) (notes c.match-event.self-inside.pen) c.match-event.self-inside.yard.yard (g.D.Disk.device c.match-event.self-inside.yard.disk) (part c.args.pass.now) (carried c.match-event.self-inside.pen) c.args.caller.now c.match-event.found
+went : (g : Over) (c : After-take g) → Finds (id_of c.args.board.now) (notes c.self.inside.pen) (notes c.match-event.self-inside.pen) c.match-event.self-inside.yard.yard
+    (g.D.Disk.device c.match-event.self-inside.yard.disk) (part c.args.pass.now) (carried c.match-event.self-inside.pen) c.args.caller.now c.match-event.found
     → Stepped g.N.Named.board (notes c.self.inside.pen) (notes c.play_joined-turn.new.pen) c.self.inside.yard.yard c.play_joined-turn.new.yard.yard (g.D.Disk.device c.self.inside.yard.disk) (g.D.Disk.device c.play_joined-turn.new.yard.disk) c.play_joined-turn.result
     × WentOn g.N.Named.board (notes c.self.inside.pen) (notes c.play_joined-turn.new.pen) c.args.caller.now c.play_joined-turn.result (part c.args.pass.now) (carried c.play_joined-turn.new.pen)
 went g c found =
@@ -59,14 +62,17 @@ of_board g c = subst (λ (b : BoardId). IsPenOf b c.cut.new.pen) c.requires.boar
 
 pub invariant_of-self : goal.invariant_of-self
 invariant_of-self g c =
-    keeps g.N.Named.board g.N.Named.format g.N.Named.first _ _ _ _ _ _ _ (went g c (finds g (goal.at.invariant_of-self g c).After-play_joined-arg-3-1)).0 c.self.invariant.1 c.cut.new.pen (of_board g c) c.cut.ensures.notes c.self.invariant.2 c.self.invariant.3 (g.met.D.Disk.timely c.self.inside.yard.disk) c.self.invariant.4
+    keeps g.N.Named.board g.N.Named.format g.N.Named.first _ _ _ _ _ _ _ (went g c (finds g
+    (goal.at.invariant_of-self g c).After-play_joined-arg-3-1)).0 c.self.invariant.1 c.cut.new.pen
+    (of_board g c) c.cut.ensures.notes c.self.invariant.2 c.self.invariant.3 (g.met.D.Disk.timely c.self.inside.yard.disk) c.self.invariant.4
 
 pub returns-clause-moments : goal.returns-clause-moments
 returns-clause-moments g c =
     rw (← c.self.view_is) (explains g.N.Named.board g.N.Named.format g.N.Named.first _ _ _ _ _ _ _ (went g c (finds g (goal.at.returns-clause-moments g c).After-play_joined-arg-3-1)).0 c.self.invariant.1 c.cut.new.pen (of_board g c) c.cut.ensures.notes)
 
 -- the same of what the pass has once it was cut off
-gone : (g : Over) (c : After-take g) → Finds (id_of c.args.board.now) (notes c.self.inside.pen) (notes c.match-event.self-inside.pen) c.match-event.self-inside.yard.yard (g.D.Disk.device c.match-event.self-inside.yard.disk) (part c.args.pass.now) (carried c.match-event.self-inside.pen) c.args.caller.now c.match-event.found
+gone : (g : Over) (c : After-take g) → Finds (id_of c.args.board.now) (notes c.self.inside.pen) (notes c.match-event.self-inside.pen) c.match-event.self-inside.yard.yard
+    (g.D.Disk.device c.match-event.self-inside.yard.disk) (part c.args.pass.now) (carried c.match-event.self-inside.pen) c.args.caller.now c.match-event.found
     → WentOn g.N.Named.board c.args.self.now.notes (notes c.cut.new.pen) c.args.caller.now c.play_joined-turn.result (part c.args.pass.now) (part c.cut.new.pass)
 gone g c found = rw (← c.self.view_is) (subst (λ (q : List Note × Part). WentOn g.N.Named.board (notes c.self.inside.pen) q.0 c.args.caller.now c.play_joined-turn.result (part c.args.pass.now) q.1) (λ i. (sym c.cut.ensures.notes i, sym c.cut.ensures.part i)) (went g c found).1)
 
@@ -81,7 +87,9 @@ returns-clause-shows g c =
 pub returns-clause-goes : goal.returns-clause-goes
 returns-clause-goes g c = λ asked format before C.
     counted_on g.N.Named.board asked format before c.args.caller.now (part c.args.pass.now) C
-    (subst (λ (b : BoardId). IsWalkable b.sizes) c.requires.board c.args.board.now.walkable) _ _ c.play_joined-turn.result (part c.cut.new.pass) (gone g c (finds g (goal.at.returns-clause-goes g c).After-play_joined-arg-3-1)).advanced (ap hop_of (sym c.requires.event) ∙ c.requires.load) c.requires.going c.take.new.self c.take.ensures
+    (subst (λ (b : BoardId). IsWalkable b.sizes) c.requires.board c.args.board.now.walkable) _ _ c.play_joined-turn.result (part c.cut.new.pass)
+    (gone g c (finds g (goal.at.returns-clause-goes g c).After-play_joined-arg-3-1)).advanced
+    (ap hop_of (sym c.requires.event) ∙ c.requires.load) c.requires.going c.take.new.self c.take.ensures
 
 -- a Sync is played as it is
 sync_found : (g : Over) (c : After-take g) (slot : ℕ) → c.args.event ≡ Sync slot → c.match-event.found ≡ Sync slot

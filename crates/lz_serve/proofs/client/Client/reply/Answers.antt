@@ -36,7 +36,9 @@ invariant_of-self-else-note g c =
     let puts = passes_of from.puts.items in
     let traffic = g.S.Stream.traffic from.stream in
     let more : Begins seen now = subst (λ (p : Pass). Begins seen (part p).known) (sym c.of.ensures) (subst (λ (a : Asker). Begins a.seen (part c.args.pass.now).known) (sym c.self.view_is) c.requires.seen) in
-    let Holds : Talk → Type 0 = λ t. (from.ended ≡ false → IsSome t.reader) × AreEarned P now from.connection t.told t.under puts × (from.lost ≡ false → IsTalkOf (AreBefore P now t.under puts) g.S.Stream.listed from.connection traffic t) × (from.held ≡ true → from.lost ≡ false → IsHeldUp t) × (t.stops ≡ true → g.S.Stream.asked) in
+    let Holds : Talk → Type 0 = λ t. (from.ended ≡ false → IsSome t.reader) × AreEarned P now from.connection t.told t.under puts ×
+    (from.lost ≡ false → IsTalkOf (AreBefore P now t.under puts) g.S.Stream.listed from.connection traffic t) × (from.held ≡ true → from.lost ≡ false → IsHeldUp t) ×
+    (t.stops ≡ true → g.S.Stream.asked) in
     subst Holds (sym (c.note.ensures.none c.if-note.false)) (
       was.0,
       earned_seen P from.connection seen now old.told old.under puts more was.1,

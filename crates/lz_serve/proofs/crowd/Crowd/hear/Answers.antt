@@ -5,4 +5,7 @@ pub returns : goal.returns
 returns g c =
     let old = c.in-Some.place.now in
     let new = c.hear.new.self in
-    keeps_then c.args.self.now _ c.tend.new.self (keeps_at (λ place. place.client) c.args.self.now c.self.inside.admitted c.self.inside.places.items c.args.ready.token old c.self.view_is c.in-Some.ensures.item.3.0 c.in-Some.ensures.value new (same_own old.client new.client c.hear.ensures) (same_heard old.client new.client c.hear.ensures) (same_seen old.client new.client c.hear.ensures)) c.tend.ensures.kept
+    keeps_then c.args.self.now _ c.tend.new.self
+    (keeps_at (λ place. place.client) c.args.self.now c.self.inside.admitted c.self.inside.places.items c.args.ready.token old c.self.view_is
+    c.in-Some.ensures.item.3.0 c.in-Some.ensures.value new (same_own old.client new.client c.hear.ensures) (same_heard old.client new.client c.hear.ensures)
+    (same_seen old.client new.client c.hear.ensures)) c.tend.ensures.kept

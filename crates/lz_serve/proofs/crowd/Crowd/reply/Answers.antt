@@ -24,14 +24,20 @@ returns-clause-kept g c = λ token q awaited.
     let old = c.in-Some.place.now in
     let told = c.reply-is_next.new.self in
     let new = c.give_back-is_back.new.self in
-    (leave_keeps _ c.put_back.new.self c.put_back.ensures.leave).awaited token q ((leave_keeps _ c.put.new.self c.put.ensures.leave).awaited token q (keeps_awaited (λ place. place.client) c.args.self.now c.self.inside.admitted c.self.inside.places.items c.args.token old c.self.view_is c.in-Some.ensures.item.3.0 c.in-Some.ensures.value new (λ q own. same_own told.client new.client c.give_back-is_back.ensures q (c.reply-is_next.ensures.kept q own)) token q awaited))
+    (leave_keeps _ c.put_back.new.self c.put_back.ensures.leave).awaited token q ((leave_keeps _ c.put.new.self c.put.ensures.leave).awaited token q
+    (keeps_awaited (λ place. place.client) c.args.self.now c.self.inside.admitted c.self.inside.places.items c.args.token old c.self.view_is
+    c.in-Some.ensures.item.3.0 c.in-Some.ensures.value new (λ q own. same_own told.client new.client c.give_back-is_back.ensures q
+    (c.reply-is_next.ensures.kept q own)) token q awaited))
 
 pub returns-clause-seen : goal.returns-clause-seen
 returns-clause-seen g c =
     let old = c.in-Some.place.now in
     let new = c.give_back-is_back.new.self in
     let K = (part c.args.pass.now).known in
-    (leave_keeps _ c.put_back.new.self c.put_back.ensures.leave).seen K ((leave_keeps _ c.put.new.self c.put.ensures.leave).seen K (seen_at (λ place. place.client) c.args.self.now c.self.inside.admitted c.self.inside.places.items c.args.token old c.self.view_is c.in-Some.ensures.item.3.0 c.in-Some.ensures.value new K (λ admitted was. subst (HasSeenIn admitted K) (sym c.give_back-is_back.ensures) (c.reply-is_next.ensures.seen admitted was)) c.requires.seen))
+    (leave_keeps _ c.put_back.new.self c.put_back.ensures.leave).seen K ((leave_keeps _ c.put.new.self c.put.ensures.leave).seen K
+    (seen_at (λ place. place.client) c.args.self.now c.self.inside.admitted c.self.inside.places.items c.args.token old c.self.view_is c.in-Some.ensures.item.3.0
+    c.in-Some.ensures.value new K (λ admitted was. subst (HasSeenIn admitted K) (sym c.give_back-is_back.ensures)
+    (c.reply-is_next.ensures.seen admitted was)) c.requires.seen))
 
 pub returns-clause-heard : goal.returns-clause-heard
 returns-clause-heard g c =

@@ -12,7 +12,8 @@ pub returns-clause-awaited : goal.returns-clause-awaited
 returns-clause-awaited g c =
     let old = c.in-Some.place.now in
     let new = c.ask.new.self in
-    some_asked (λ place. place.client) c.args.self.now c.self.inside.admitted c.self.inside.places.items c.args.token old c.self.view_is c.in-Some.ensures.item.3.0 c.in-Some.ensures.value new _ c.self.inside.queue c.ask.result (part c.args.pass.now).known c.ask.ensures.seen c.requires c.ask.ensures.asked
+    some_asked (λ place. place.client) c.args.self.now c.self.inside.admitted c.self.inside.places.items c.args.token old c.self.view_is c.in-Some.ensures.item.3.0
+    c.in-Some.ensures.value new _ c.self.inside.queue c.ask.result (part c.args.pass.now).known c.ask.ensures.seen c.requires c.ask.ensures.asked
 
 pub returns-clause-kept : goal.returns-clause-kept
 returns-clause-kept g c =

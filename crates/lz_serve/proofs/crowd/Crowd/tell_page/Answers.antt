@@ -24,7 +24,9 @@ returns-clause-kept g c = λ token q awaited.
     let old = c.in-Some.place.now in
     let told = c.tell_page.new.self in
     let new = c.give_back-is_back.new.self in
-    (leave_keeps _ c.put_back.new.self c.put_back.ensures.leave).awaited token q (keeps_awaited (λ place. place.client) c.args.self.now c.self.inside.admitted c.self.inside.places.items c.args.token old c.self.view_is c.in-Some.ensures.item.3.0 c.in-Some.ensures.value new (λ q own. same_own told.client new.client c.give_back-is_back.ensures q (c.tell_page.ensures.kept q own)) token q awaited)
+    (leave_keeps _ c.put_back.new.self c.put_back.ensures.leave).awaited token q (keeps_awaited
+    (λ place. place.client) c.args.self.now c.self.inside.admitted c.self.inside.places.items c.args.token old c.self.view_is c.in-Some.ensures.item.3.0
+    c.in-Some.ensures.value new (λ q own. same_own told.client new.client c.give_back-is_back.ensures q (c.tell_page.ensures.kept q own)) token q awaited)
 
 pub returns-clause-heard : goal.returns-clause-heard
 returns-clause-heard g c = λ token q awaited heard.
@@ -32,8 +34,11 @@ returns-clause-heard g c = λ token q awaited heard.
     let told = c.tell_page.new.self in
     let new = c.give_back-is_back.new.self in
     (leave_keeps _ c.put_back.new.self c.put_back.ensures.leave).heard token q
-    (keeps_awaited (λ place. place.client) c.args.self.now c.self.inside.admitted c.self.inside.places.items c.args.token old c.self.view_is c.in-Some.ensures.item.3.0 c.in-Some.ensures.value new (λ q own. same_own told.client new.client c.give_back-is_back.ensures q (c.tell_page.ensures.kept q own)) token q awaited)
-    (keeps_heard (λ place. place.client) c.args.self.now c.self.inside.admitted c.self.inside.places.items c.args.token old c.self.view_is c.in-Some.ensures.item.3.0 c.in-Some.ensures.value new c.args.self.now.begun c.args.self.now.queue (λ q own was. subst (λ (a : Option Asker). IsHeardOf a q) (sym c.give_back-is_back.ensures) (c.tell_page.ensures.heard q own was)) token q awaited heard)
+    (keeps_awaited (λ place. place.client) c.args.self.now c.self.inside.admitted c.self.inside.places.items c.args.token old c.self.view_is c.in-Some.ensures.item.3.0
+    c.in-Some.ensures.value new (λ q own. same_own told.client new.client c.give_back-is_back.ensures q (c.tell_page.ensures.kept q own)) token q awaited)
+    (keeps_heard (λ place. place.client) c.args.self.now c.self.inside.admitted c.self.inside.places.items c.args.token old c.self.view_is c.in-Some.ensures.item.3.0
+    c.in-Some.ensures.value new c.args.self.now.begun c.args.self.now.queue (λ q own was. subst (λ (a : Option Asker). IsHeardOf a q)
+    (sym c.give_back-is_back.ensures) (c.tell_page.ensures.heard q own was)) token q awaited heard)
 
 pub returns-clause-paged : goal.returns-clause-paged
 returns-clause-paged g c =
@@ -57,7 +62,10 @@ returns-clause-seen g c =
     let l = c.args.listed.now in
     let K = (part c.args.pass.now).known in
     let more = begins_before (part l.before).known (part l.after).known K c.requires.grows c.requires.after in
-    (leave_keeps _ c.put_back.new.self c.put_back.ensures.leave).seen K (seen_at (λ place. place.client) c.args.self.now c.self.inside.admitted c.self.inside.places.items c.args.token old c.self.view_is c.in-Some.ensures.item.3.0 c.in-Some.ensures.value new K (λ admitted was. subst (HasSeenIn admitted K) (sym c.give_back-is_back.ensures) (c.tell_page.ensures.seen admitted was)) (seen_later c.args.self.now (part l.before).known K more c.requires.seen))
+    (leave_keeps _ c.put_back.new.self c.put_back.ensures.leave).seen K
+    (seen_at (λ place. place.client) c.args.self.now c.self.inside.admitted c.self.inside.places.items c.args.token old c.self.view_is c.in-Some.ensures.item.3.0
+    c.in-Some.ensures.value new K (λ admitted was. subst (HasSeenIn admitted K) (sym c.give_back-is_back.ensures) (c.tell_page.ensures.seen admitted was))
+    (seen_later c.args.self.now (part l.before).known K more c.requires.seen))
 
 pub returns-clause-others : goal.returns-clause-others
 returns-clause-others g c = λ t other.

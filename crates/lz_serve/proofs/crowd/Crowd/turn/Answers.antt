@@ -32,14 +32,19 @@ returns-clause-awaited g c =
     let token = c.in_ok-token.token in
     some_kept c.put.new.self c.put_back.new.self token t.question (leave_keeps c.put.new.self c.put_back.new.self c.put_back.ensures.leave)
     (some_kept _ c.put.new.self token t.question (leave_keeps _ c.put.new.self c.put.ensures.leave)
-    (some_asked (λ place. place.client) c.args.self.now c.self.inside.admitted c.self.inside.places.items token old c.self.view_is c.in-Some.ensures.item.3.0 c.in-Some.ensures.value new _ c.pop.new.self t.question (part c.args.pass.now).known c.take_turn-question.ensures.seen c.requires c.take_turn-question.ensures.asked))
+    (some_asked (λ place. place.client) c.args.self.now c.self.inside.admitted c.self.inside.places.items token old c.self.view_is c.in-Some.ensures.item.3.0
+    c.in-Some.ensures.value new _ c.pop.new.self t.question
+    (part c.args.pass.now).known c.take_turn-question.ensures.seen c.requires c.take_turn-question.ensures.asked))
 
 pub returns-clause-kept : goal.returns-clause-kept
 returns-clause-kept g c =
     let old = c.in-Some.place.now in
     let new = c.take_turn-question.new.self in
     keeps_then c.args.self.now c.put.new.self c.put_back.new.self
-    (keeps_then c.args.self.now _ c.put.new.self (keeps_at (λ place. place.client) c.args.self.now c.self.inside.admitted c.self.inside.places.items c.in_ok-token.token old c.self.view_is c.in-Some.ensures.item.3.0 c.in-Some.ensures.value new c.take_turn-question.ensures.kept c.take_turn-question.ensures.heard c.take_turn-question.ensures.seen) (leave_keeps _ c.put.new.self c.put.ensures.leave))
+    (keeps_then c.args.self.now _ c.put.new.self
+    (keeps_at (λ place. place.client) c.args.self.now c.self.inside.admitted c.self.inside.places.items c.in_ok-token.token old c.self.view_is
+    c.in-Some.ensures.item.3.0 c.in-Some.ensures.value new c.take_turn-question.ensures.kept c.take_turn-question.ensures.heard c.take_turn-question.ensures.seen)
+    (leave_keeps _ c.put.new.self c.put.ensures.leave))
     (leave_keeps c.put.new.self c.put_back.new.self c.put_back.ensures.leave)
 
 pub returns-clause-later : goal.returns-clause-later

@@ -39,7 +39,11 @@ invariant_of-self-else-begin_next g c =
     let back = c.into_free.result in
     let is : back.pass ≡ c.meet.new.asking.pass = c.into_free.ensures.0 ∙ ap (λ (a : Asked). a.pass) (c.begin_next.ensures.rests c.if-begin_next.false) in
     let grown = c.put_free.ensures.spare in
-    desk_back (λ free. (part free.pass).known) s.given s.most (vec_capacity s.free) (vec_capacity s.calls) s.crowd b s.meeting c.meet.new.meeting s.calls.items s.free.items (vec_len s.free) inv c.begin_next.ensures.kept.awaited (alike_seen (λ free. (part free.pass).known) b c.meet.new.meeting now alike later) c.meet.ensures.none (vec_capacity c.put_free.new.passes) c.pop.new.self.items c.put_free.new.passes.items last back (vec_len c.pop.new.self) (vec_len c.put_free.new.passes) split fewer c.put_free.ensures.items c.put_free.ensures.count
+    desk_back (λ free. (part free.pass).known) s.given s.most (vec_capacity s.free)
+    (vec_capacity s.calls) s.crowd b s.meeting c.meet.new.meeting s.calls.items s.free.items (vec_len s.free) inv c.begin_next.ensures.kept.awaited
+    (alike_seen (λ free. (part free.pass).known) b c.meet.new.meeting now alike later) c.meet.ensures.none
+    (vec_capacity c.put_free.new.passes) c.pop.new.self.items c.put_free.new.passes.items last back (vec_len c.pop.new.self)
+    (vec_len c.put_free.new.passes) split fewer c.put_free.ensures.items c.put_free.ensures.count
     (omega (arith, room, spare_free, grown)) (subst (λ (p : Pass). Knows b after (part p).known) (sym is) knows)
 
 pub passes-preserved : goal.passes-preserved
@@ -72,5 +76,9 @@ passes-preserved g c =
       ends = c.passes.invariant.ends;
       calls = λ ends. absurd (true≢false (sym c.if-begin_next.true ∙ (over (c.passes.invariant.ends ∙ ends)).0));
       within = (let low = c.passes.invariant.within in let more = (c.begin_next.ensures.counted c.if-begin_next.true).most in omega (arith, low, more, c.if-self-eq0.false));
-      desk = desk_begun (λ free. (part free.pass).known) s.given s.most (vec_capacity s.free) (vec_capacity s.calls) s.crowd b s.meeting c.meet.new.meeting s.calls.items s.free.items (vec_len s.free) inv c.begin_next.ensures.kept.awaited (alike_seen (λ free. (part free.pass).known) b c.meet.new.meeting now alike later) c.meet.ensures.none (vec_capacity c.push.new.self) c.pop.new.self.items last (vec_len c.pop.new.self) asked c.push.new.self.items split fewer c.in-Ok.ensures.items (omega (arith, more, spare_calls)) is (vec_capacity c.pop.new.self) (omega (arith, room, spare_free));
+      desk = desk_begun (λ free. (part free.pass).known) s.given s.most (vec_capacity s.free)
+          (vec_capacity s.calls) s.crowd b s.meeting c.meet.new.meeting s.calls.items s.free.items (vec_len s.free) inv c.begin_next.ensures.kept.awaited
+          (alike_seen (λ free. (part free.pass).known) b c.meet.new.meeting now alike later) c.meet.ensures.none (vec_capacity c.push.new.self) c.pop.new.self.items last
+          (vec_len c.pop.new.self) asked c.push.new.self.items split fewer c.in-Ok.ensures.items (omega (arith, more, spare_calls)) is (vec_capacity c.pop.new.self)
+          (omega (arith, room, spare_free));
     }

@@ -19,7 +19,9 @@ loop-at-preserved g c =
       long = same;
       synced = subst (λ (l : List Asked). All (λ (a : Asked). a.stage ≢ Some Syncs) l) (sym (take_more_set s.calls.items c.loop-at.at c.sync-synced.new.self within))
           (All-push (λ (a : Asked). a.stage ≢ Some Syncs) (take c.loop-at.at s.calls.items) c.sync-synced.new.self inv.synced c.sync-synced.ensures.stage);
-      desk = desk_played s.given s.most (vec_len s.free + count_of s.meeting) (vec_capacity s.free) (vec_capacity s.calls) s.crowd (option_map (λ free. (part free.pass).known) s.meeting) s.calls.items (map (λ free. (part free.pass).known) s.free.items) c.loop-at.at old c.sync-synced.new.self inv.desk within c.index_mut-asking.ensures.value
+      desk = desk_played s.given s.most (vec_len s.free + count_of s.meeting) (vec_capacity s.free) (vec_capacity s.calls) s.crowd
+          (option_map (λ free. (part free.pass).known) s.meeting) s.calls.items (map (λ free.
+          (part free.pass).known) s.free.items) c.loop-at.at old c.sync-synced.new.self inv.desk within c.index_mut-asking.ensures.value
           c.sync-synced.ensures.same.question c.sync-synced.ensures.same.token;
     }
 
