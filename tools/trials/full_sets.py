@@ -9,7 +9,7 @@ from typing import List
 import lazyset
 from lazyset import Lazyset
 from trials.crowd import Crowd
-from trials.guests import PATIENCE, served
+from trials.guests import PATIENCE, connect, served
 from trials.program import Program
 from trials.report import Wrong, expect
 
@@ -27,6 +27,9 @@ EXCHANGES = 20
 
 # Within how many seconds a set that is full of members is told as full.
 AT_ONCE = 0.05
+
+# How many additions one connection sends at once to a full set, and within how many seconds all are told.
+FLOOD, SOON = 1_000, 1.0
 
 
 def try_room(program: Program, folder: str, clients: int, *options: str) -> None:
@@ -58,3 +61,18 @@ def try_full(program: Program, folder: str, *options: str) -> None:
         expect((keys.remove(0), keys.add(PASSES)), (True, True), "a removal, and an addition after it")
     if statistics.median(took) > AT_ONCE:
         raise Wrong(f"a full set was told as full after {statistics.median(took)} seconds")
+
+
+def try_flood(program: Program, folder: str) -> None:
+    """Many additions that one connection sends at once to a full set are all told soon, though each waits for the line before it."""
+    took: List[float] = []
+    with served(program, folder, "flood", PASSES, FLOOD + 1, "--connections", "2") as service, connect(service.port) as client, client.makefile("rb") as lines:
+        client.sendall(b"".join(b"add %d\n" % key for key in range(PASSES)))
+        expect([lines.readline() for _ in range(PASSES)], [b"yes\n"] * PASSES, "additions that fill a set")
+        for _ in range(5):
+            begun = time.monotonic()
+            client.sendall(b"".join(b"add %d\n" % (PASSES + key) for key in range(FLOOD)))
+            expect([lines.readline() for _ in range(FLOOD)], [b"full\n"] * FLOOD, "additions to a full set")
+            took.append(time.monotonic() - begun)
+    if statistics.median(took) > SOON:
+        raise Wrong(f"{FLOOD} additions to a full set were told after {statistics.median(took)} seconds")

@@ -1,5 +1,5 @@
 //! What a loop works at: its clients, its passes, and the calls under way.
-ghost use Rattle.std.specs.Prelude.{◌≡◌, ◌≢◌, ◌+◌, ◌<◌, All, IfOk, None, Some, false, true, vec_len};
+ghost use Rattle.std.specs.Prelude.{◌≡◌, ◌≢◌, ◌+◌, ◌<◌, All, IfOk, IfSome, None, Some, false, true, vec_len};
 ghost use Rattle.lz_board.specs.Seats.{part};
 ghost use Rattle.lz_set.specs.declared.underway.Blocked.TheVariants as stage;
 ghost use Rattle.lz_serve.specs.Clients.{HaveSeenIn, KeepsAwaited};
@@ -52,6 +52,9 @@ pub(crate) struct Desk<S: Stream, N: Named, B: Given> {
     pacing: Pacing,
     /// How many lines may still begin before connections are heard.
     left: usize,
+    /// A call waited for slots when they were played last, and that was from the last one on.
+    waited: bool,
+    backward: bool,
 }
 
 impl<S: Stream, N: Named, B: Given> Model for Desk<S, N, B> {
@@ -89,6 +92,8 @@ impl<S: Stream, N: Named, B: Given> Desk<S, N, B> {
             gathering: Gathering::new(),
             pacing: Pacing::new(),
             left: 0,
+            waited: false,
+            backward: false,
         })
     }
 
@@ -125,6 +130,8 @@ impl<S: Stream, N: Named, B: Given> Desk<S, N, B> {
             gathering: _,
             pacing: _,
             left: _,
+            waited: _,
+            backward: _,
         } = self;
         with_one(free, meeting)
     }
@@ -160,7 +167,8 @@ impl<S: Stream, N: Named, B: Given> Desk<S, N, B> {
 
     /// Plays each call on, up to a Sync or a taken node. One that stands before a Sync since the last time is left to `sync_all`. One that
     /// is answered is told, and its pass begins the line whose turn it is, unless no further one is to be. One that waits for slots is made again
-    /// once a moment.
+    /// once a moment. While one does they are played from the first one on and from the last one on by turns: it may wait for an earlier line, which
+    /// may stand on either side of it, since the last call takes the place of one that ends.
     pub(crate) fn play_all<D, G, R, O>(
         &mut self,
         rt: &R,
@@ -179,14 +187,16 @@ impl<S: Stream, N: Named, B: Given> Desk<S, N, B> {
         ensures within { BeginsWithin self.old self.new }
     {
         let tries = self.see_time(rt);
+        self.backward = self.waited && !self.backward;
+        self.waited = false;
         let mut kept = set.keep();
-        let mut at = 0;
+        let mut done = 0;
         'calls: for _ in rt.forever() {
-            if at >= self.calls.len() {
+            let Some(at) = place_after(done, self.calls.len(), self.backward) else {
                 break;
-            }
+            };
             if self.calls[at].is_before_sync() {
-                at += 1;
+                done += 1;
                 continue;
             }
             // The only pass is to rest before its next call where a client waits for a page.
@@ -205,7 +215,10 @@ impl<S: Stream, N: Named, B: Given> Desk<S, N, B> {
                 tries,
             ) {
                 Next::GoesOn => self.left = self.left.saturating_sub(1),
-                Next::Waits => at += 1,
+                Next::Waits => {
+                    self.waited |= asking.waits();
+                    done += 1;
+                }
                 Next::Rests => {
                     let free = self.calls.swap_remove(at).into_free();
                     self.halted |= free.halted();
@@ -335,6 +348,14 @@ impl<S: Stream, N: Named, B: Given> Desk<S, N, B> {
     {
         self.calls.is_empty()
     }
+}
+
+// Where the call stands that is played after so many of these, forward or backward.
+fn place_after(done: usize, count: usize, backward: bool) -> Option<usize>
+    ensures { IfSome result (λ at. (at < count) × (done < count)) }
+{
+    let left = count.checked_sub(done)?.checked_sub(1)?;
+    Some(if backward { left } else { done })
 }
 
 // How long it is since then, where the clock can tell.

@@ -4,8 +4,7 @@ ghost use Rattle.std.specs.Prelude.{◌≡◌};
 use crate::language::Language;
 use crate::observer::Observer;
 use crate::stream::{Received, Stream, Taken};
-use std::io;
-use std::io::{ErrorKind, Read, Write};
+use std::io::{Read, Write};
 use std::net::{Shutdown, TcpStream};
 use std::time::Duration;
 
@@ -40,17 +39,10 @@ impl<'a, O: Observer> Guest<'a, O> {
         }
     }
 
-    // A call has failed, after so many waits for nothing. Whether it is made again.
-    fn goes_on(&self, error: &io::Error, waits: u64) -> bool {
-        match error.kind() {
-            ErrorKind::Interrupted => true,
-            ErrorKind::WouldBlock => {
-                self.observer.crowded();
-                !self.observer.stops()
-                    && self.most.is_none_or(|most| waits.saturating_add(1) < most)
-            }
-            _ => false,
-        }
+    // A call has waited for nothing, after so many others. Whether it is made again.
+    fn goes_on(&self, waits: u64) -> bool {
+        self.observer.crowded();
+        !self.observer.stops() && self.most.is_none_or(|most| waits.saturating_add(1) < most)
     }
 }
 
@@ -72,14 +64,12 @@ impl<O: Observer> Stream for Guest<'_, O> {
     fn receive(&mut self, buffer: &mut [u8]) -> Received {
         let mut stream = self.stream;
         for waits in 0..u64::MAX {
-            match stream.read(buffer) {
-                Ok(0) => return Received::Over,
-                Ok(count) => return Received::Count(count),
-                Err(error) => {
-                    if !self.goes_on(&error, waits) {
-                        return Received::Failed;
-                    }
-                }
+            let read = stream.read(buffer);
+            match Received::of(read, buffer.len()) {
+                None => {}
+                Some(Received::Later) if self.goes_on(waits) => {}
+                Some(Received::Later) => break,
+                Some(received) => return received,
             }
         }
         Received::Failed
@@ -88,14 +78,11 @@ impl<O: Observer> Stream for Guest<'_, O> {
     fn take(&mut self, text: &[u8]) -> Taken {
         let mut stream = self.stream;
         for waits in 0..u64::MAX {
-            match stream.write(text) {
-                Ok(0) => return Taken::Failed,
-                Ok(count) => return Taken::Count(count),
-                Err(error) => {
-                    if !self.goes_on(&error, waits) {
-                        return Taken::Failed;
-                    }
-                }
+            match Taken::of(stream.write(text), text.len()) {
+                None => {}
+                Some(Taken::Later) if self.goes_on(waits) => {}
+                Some(Taken::Later) => break,
+                Some(taken) => return taken,
             }
         }
         Taken::Failed

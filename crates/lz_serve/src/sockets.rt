@@ -208,14 +208,9 @@ impl<'a> Stream for Socket<'a> {
 
     fn receive(&mut self, buffer: &mut [u8]) -> Received {
         'tries: for _ in 0..u64::MAX {
-            match self.stream.read(buffer) {
-                Ok(0) => return Received::Over,
-                Ok(count) => return Received::Count(count),
-                Err(error) => match error.kind() {
-                    ErrorKind::WouldBlock => return Received::Later,
-                    ErrorKind::Interrupted => {}
-                    _ => return Received::Failed,
-                },
+            let read = self.stream.read(buffer);
+            if let Some(received) = Received::of(read, buffer.len()) {
+                return received;
             }
         }
         Received::Failed
@@ -223,14 +218,8 @@ impl<'a> Stream for Socket<'a> {
 
     fn take(&mut self, text: &[u8]) -> Taken {
         'tries: for _ in 0..u64::MAX {
-            match self.stream.write(text) {
-                Ok(0) => return Taken::Failed,
-                Ok(count) => return Taken::Count(count),
-                Err(error) => match error.kind() {
-                    ErrorKind::WouldBlock => return Taken::Later,
-                    ErrorKind::Interrupted => {}
-                    _ => return Taken::Failed,
-                },
+            if let Some(taken) = Taken::of(self.stream.write(text), text.len()) {
+                return taken;
             }
         }
         Taken::Failed

@@ -1,8 +1,10 @@
 //! A connection as the loop sees it.
-ghost use Rattle.std.specs.Prelude.{◌≡◌, ◌≢◌, ◌≤◌, IfSome, length};
+ghost use Rattle.std.specs.Prelude.{◌≡◌, ◌≢◌, ◌≤◌, IfOk, IfSome, length};
 ghost use Rattle.lz_serve.specs.Streams.{MayTake, Receives, Takes, counted, sent};
 
 use crate::language::Language;
+use std::io;
+use std::io::ErrorKind;
 
 /// What a receiving gave.
 #[derive(Clone, Copy, Debug, PartialEq, Eq)]
@@ -17,6 +19,25 @@ pub enum Received {
     Failed,
 }
 
+impl Received {
+    /// What a read of so many bytes at most gave. None where it is to be made again.
+    pub(crate) fn of(read: io::Result<usize>, most: usize) -> Option<Received>
+        requires { IfOk read (λ count. count ≤ most) }
+        ensures bound { IfSome result (λ received. counted received ≤ most) }
+        ensures some { IfSome result (λ received. received ≢ Received.Count 0) }
+    {
+        match read {
+            Ok(0) => Some(Received::Over),
+            Ok(count) => Some(Received::Count(count)),
+            Err(error) => match error.kind() {
+                ErrorKind::WouldBlock => Some(Received::Later),
+                ErrorKind::Interrupted => None,
+                _ => Some(Received::Failed),
+            },
+        }
+    }
+}
+
 /// How much of a text was taken.
 #[derive(Clone, Copy, Debug, PartialEq, Eq)]
 pub enum Taken {
@@ -26,6 +47,25 @@ pub enum Taken {
     Later,
     /// The connection is lost.
     Failed,
+}
+
+impl Taken {
+    /// What a write of so many bytes at most gave. None where it is to be made again.
+    pub(crate) fn of(write: io::Result<usize>, most: usize) -> Option<Taken>
+        requires { IfOk write (λ count. count ≤ most) }
+        ensures bound { IfSome result (λ taken. sent taken ≤ most) }
+        ensures some { IfSome result (λ taken. taken ≢ Taken.Count 0) }
+    {
+        match write {
+            Ok(0) => Some(Taken::Failed),
+            Ok(count) => Some(Taken::Count(count)),
+            Err(error) => match error.kind() {
+                ErrorKind::WouldBlock => Some(Taken::Later),
+                ErrorKind::Interrupted => None,
+                _ => Some(Taken::Failed),
+            },
+        }
+    }
 }
 
 /// A connection whose calls don't wait. What is sent on it may be nothing but what its client's session tells: `take` requires that.

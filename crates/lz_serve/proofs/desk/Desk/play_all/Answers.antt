@@ -26,13 +26,13 @@ calls-preserved-in-GoesOn g c =
       ends = λ over.
           let so = c.calls.invariant.ends over in (
             so.0,
-            begun_none c.args.self.now.calls s.calls.items c.calls.at c.index_mut-asking.result.now c.play_call.new.asking (omega (arith, long, c.if-at-len.false, c.len.ensures)) c.index_mut-asking.ensures.value (c.play_call.ensures.ends (either_so _ so.0))
+            begun_none c.args.self.now.calls s.calls.items c.in-Some-place_after.at c.index_mut-asking.result.now c.play_call.new.asking (omega (arith, long, c.in-Some-place_after.ensures.0, c.len.ensures)) c.index_mut-asking.ensures.value (c.play_call.ensures.ends (either_so _ so.0))
                 (c.play_call.ensures.goes (λ other. absurd (cc))) so.1,
           );
       within = subst (λ (n : ℕ). c.play_call.new.crowd.begun + n ≤ c.args.self.now.begun + c.args.self.now.left) (sym c.saturating_sub-self-inside.ensures)
           (fewer_left s.crowd.begun c.play_call.new.crowd.begun s.left _ c.calls.invariant.within c.play_call.ensures.counted (λ none. c.play_call.ensures.ended (none_left s.ends _ s.left none)));
       desk = desk_answered (λ free. (part free.pass).known) s.given s.most (vec_capacity s.free) (vec_capacity s.calls) s.crowd c.play_call.new.crowd s.meeting c.play_call.new.meeting s.calls.items s.free.items (vec_len s.free) c.calls.invariant.desk c.play_call.ensures.kept
-          c.play_call.ensures.met c.play_call.ensures.none c.calls.at c.play_call.new.asking (omega (arith, long, c.if-at-len.false, c.len.ensures)) (c.play_call.ensures.goes (λ other. absurd (cc)));
+          c.play_call.ensures.met c.play_call.ensures.none c.in-Some-place_after.at c.play_call.new.asking (omega (arith, long, c.in-Some-place_after.ensures.0, c.len.ensures)) (c.play_call.ensures.goes (λ other. absurd (cc)));
     }
 
 pub calls-preserved-in-Waits : goal.calls-preserved-in-Waits
@@ -45,12 +45,12 @@ calls-preserved-in-Waits g c =
       ends = λ over.
           let so = c.calls.invariant.ends over in (
             so.0,
-            begun_none c.args.self.now.calls s.calls.items c.calls.at c.index_mut-asking.result.now c.play_call.new.asking (omega (arith, long, c.if-at-len.false, c.len.ensures)) c.index_mut-asking.ensures.value (c.play_call.ensures.ends (either_so _ so.0))
+            begun_none c.args.self.now.calls s.calls.items c.in-Some-place_after.at c.index_mut-asking.result.now c.play_call.new.asking (omega (arith, long, c.in-Some-place_after.ensures.0, c.len.ensures)) c.index_mut-asking.ensures.value (c.play_call.ensures.ends (either_so _ so.0))
                 (c.play_call.ensures.goes (λ other. absurd (cc))) so.1,
           );
       within = begun_same _ _ s.left _ c.calls.invariant.within (c.play_call.ensures.uncounted (λ other. absurd (cc)));
       desk = desk_answered (λ free. (part free.pass).known) s.given s.most (vec_capacity s.free) (vec_capacity s.calls) s.crowd c.play_call.new.crowd s.meeting c.play_call.new.meeting s.calls.items s.free.items (vec_len s.free) c.calls.invariant.desk c.play_call.ensures.kept
-          c.play_call.ensures.met c.play_call.ensures.none c.calls.at c.play_call.new.asking (omega (arith, long, c.if-at-len.false, c.len.ensures)) (c.play_call.ensures.goes (λ other. absurd (cc)));
+          c.play_call.ensures.met c.play_call.ensures.none c.in-Some-place_after.at c.play_call.new.asking (omega (arith, long, c.in-Some-place_after.ensures.0, c.len.ensures)) (c.play_call.ensures.goes (λ other. absurd (cc)));
     }
 
 pub calls-preserved : goal.calls-preserved
@@ -61,15 +61,15 @@ calls-preserved g c =
     let asked = c.play_call.new.asking in
     let after = option_map (λ free. (part free.pass).known) c.play_call.new.meeting in
     let long = s.calls.ok.0 in
-    let within : c.calls.at < vec_len s.calls = omega (arith, c.if-at-len.false, c.len.ensures) in
-    let near : c.calls.at < length s.calls.items = omega (arith, within, long) in
+    let within : c.in-Some-place_after.at < vec_len s.calls = omega (arith, c.in-Some-place_after.ensures.0, c.len.ensures) in
+    let near : c.in-Some-place_after.at < length s.calls.items = omega (arith, within, long) in
     let rests = c.play_call.ensures.rests c.in-Rests.is in
     let left = c.swap_remove.new.self in
     let left_long = left.ok.0 in
     let fewer = c.swap_remove.ensures.len in
     let back = c.into_free-free.result in
     let out = c.swap_remove.result in
-    let same : out ≡ asked = c.swap_remove.ensures.value ∙ get_or-set_same s.calls.items c.calls.at asked out near in
+    let same : out ≡ asked = c.swap_remove.ensures.value ∙ get_or-set_same s.calls.items c.in-Some-place_after.at asked out near in
     let is : back.pass ≡ asked.pass = c.into_free-free.ensures.0 ∙ ap (λ (a : Asked). a.pass) same in
     let seen : HaveSeenIn b (part back.pass).known = subst (λ (p : Pass). HaveSeenIn b (part p).known) (sym is) rests.1 in
     let spare = inv.spare_free in
@@ -80,9 +80,9 @@ calls-preserved g c =
       given = c.calls.invariant.given;
       ends = λ over.
           let so = c.calls.invariant.ends over in
-          (either_so _ so.0, all_left (AnswersOneOf c.args.self.now.calls) s.calls.items left.items c.calls.at (vec_len s.calls) asked long (omega (arith, left_long, fewer)) c.swap_remove.ensures.by_index so.1);
+          (either_so _ so.0, all_left (AnswersOneOf c.args.self.now.calls) s.calls.items left.items c.in-Some-place_after.at (vec_len s.calls) asked long (omega (arith, left_long, fewer)) c.swap_remove.ensures.by_index so.1);
       within = begun_same _ _ s.left _ c.calls.invariant.within (c.play_call.ensures.uncounted (λ other. absurd (cc)));
       desk = desk_rested (λ free. (part free.pass).known) s.given s.most (vec_capacity s.free) (vec_capacity s.calls) s.crowd b s.meeting c.play_call.new.meeting s.calls.items s.free.items (vec_len s.free) inv c.play_call.ensures.kept c.play_call.ensures.met c.play_call.ensures.none
-          (vec_capacity c.put_free.new.passes) (vec_capacity left) c.calls.at (vec_len s.calls) asked left.items c.put_free.new.passes.items back (vec_len c.put_free.new.passes) within long (omega (arith, left_long, fewer)) c.swap_remove.ensures.by_index c.put_free.ensures.items
+          (vec_capacity c.put_free.new.passes) (vec_capacity left) c.in-Some-place_after.at (vec_len s.calls) asked left.items c.put_free.new.passes.items back (vec_len c.put_free.new.passes) within long (omega (arith, left_long, fewer)) c.swap_remove.ensures.by_index c.put_free.ensures.items
           c.put_free.ensures.count (omega (arith, spare, grown)) (omega (arith, spare_calls, kept_room)) (knows_met b after (part back.pass).known (some_mapped (HaveSeenIn b) (λ free. (part free.pass).known) c.play_call.new.meeting c.play_call.ensures.met) (λ _. seen));
     }
