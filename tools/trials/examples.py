@@ -51,6 +51,8 @@ NOT_RUN: Dict[str, Dict[str, str]] = {
         "mkdir -p /etc/lazyset && printf 'PORT=7001\\n' > /etc/lazyset/tickets": ROOT,
         "mkdir -p -m 700 /var/lib/private && mkdir -p /var/lib/private/lazyset/tickets": ROOT,
         "lazyset make /var/lib/private/lazyset/tickets/set 1000": ROOT,
+        "(umask 077 && head -c 32 /dev/urandom | base64 > /var/lib/private/lazyset/tickets/secret)": ROOT,
+        "printf 'MORE=--connections 1000 --resp --text --secret /var/lib/lazyset/tickets/secret\\n' >> /etc/lazyset/tickets": ROOT,
         "systemctl daemon-reload": SYSTEMD,
         "systemctl enable --now lazyset@tickets": SYSTEMD,
         "systemctl disable --now lazyset@tickets": SYSTEMD,

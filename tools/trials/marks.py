@@ -28,6 +28,7 @@ IS_ELSEWHERE = "some of its keys are outside room 0, so it is no older file of t
 IS_OLD = "a file of format 1 has no room for the mark of texts: renew it, then serve it with --text=adopt"
 IS_FULL = "no slot is free for the mark of texts: grow the file first"
 ARE_TEXTS = "its keys are texts, and are taken for numbers here"
+IS_SECRET = "its texts are under a secret: name the file of that by --secret"
 
 # The keys of a file, its slots and format, the words of a start, and the line and the words with which that is refused, or nothing.
 STARTS: Tuple[Tuple[Sequence[Key], int, int, Sequence[str], str, str], ...] = (
@@ -46,7 +47,7 @@ STARTS: Tuple[Tuple[Sequence[Key], int, int, Sequence[str], str, str], ...] = (
     ((Key(0, 5),), 3, 1, ADOPT, "oldfile", IS_OLD),
     ((Key(3, 5),), 3, 2, TEXT, "othernumbers", IS_NUMBERS),
     ((Key(3, 5),), 3, 2, ADOPT, "othernumbers", IS_ELSEWHERE),
-    ((MARK, Key(15, 2 * 10**15)), 3, 2, TEXT, "othernumbers", IS_NUMBERS),
+    ((MARK, Key(15, 2 * 10**15)), 3, 2, TEXT, "othersecret", IS_SECRET),
     ((MARK, Key(15, 10**15 + 1)), 3, 2, TEXT, "othernumbers", IS_NUMBERS),
     ((MARK, Key(15, 7)), 3, 2, ADOPT, "othernumbers", IS_ELSEWHERE),
     ((MARK, Key(1, 0)), 3, 2, TEXT, "othernumbers", IS_NUMBERS),

@@ -48,9 +48,9 @@ from .errors import (
 from .periods import Periods
 from .pool import Pool
 from .resp import RespKeys
-from .texts import key_of
+from .texts import key_of, mark_of
 
-__version__ = "1.17"
+__version__ = "1.18"
 
 __all__ = [
     "CONNECT_TIMEOUT",
@@ -83,4 +83,5 @@ __all__ = [
     "Verb",
     "Worn",
     "key_of",
+    "mark_of",
 ]

@@ -10,6 +10,8 @@ use thiserror::Error;
 pub enum Fault {
     #[error("nofile\n")]
     NoFile,
+    #[error("nosecret\n")]
+    NoSecret,
     #[error("noread\n")]
     NoRead,
     #[error("nomemory\n")]
@@ -57,7 +59,7 @@ impl Fault {
     pub fn status(&self) -> Status {
         match self {
             Fault::Help(_) => Status::Done,
-            Fault::NoFile => Status::Refused,
+            Fault::NoFile | Fault::NoSecret => Status::Refused,
             Fault::NotText | Fault::NotUnderstood(_) => Status::CommandLine,
             Fault::NoRead | Fault::Memory(_) | Fault::NoArguments(_) => Status::Failed,
         }

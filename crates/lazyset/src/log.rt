@@ -13,14 +13,14 @@ use crate::moment::Moment;
 use crate::rate::Rate;
 use crate::ready::Ready;
 use crate::seldom::Seldom;
+use crate::shape::Shape;
 use crate::tally::Tally;
 use crate::texts::ARE_TEXTS;
 use crate::watched::Watched;
 use crate::way_out::WayOut;
 use lazyset_set_commands::{Heed, Status};
 use lz_disk::Cause;
-use lz_resp::Naming;
-use lz_serve::{Language, Listener, Observer, Serving, close_listener};
+use lz_serve::{Listener, Observer, close_listener};
 use lz_slot::Format;
 use std::fmt;
 use std::sync::atomic::{AtomicBool, AtomicUsize, Ordering};
@@ -65,7 +65,7 @@ pub struct Log<'a, R: Eprint> {
     /// The number of this service among all.
     run: usize,
     listener: OnceLock<Listener>,
-    serving: OnceLock<Serving>,
+    shape: OnceLock<Shape>,
     gauge: Gauge,
     tally: Tally,
     rate: Rate,
@@ -106,7 +106,7 @@ where
             began: rt.monotonic().ok(),
             run: run_of(rt),
             listener: OnceLock::new(),
-            serving: OnceLock::new(),
+            shape: OnceLock::new(),
             gauge: Gauge::new(),
             tally: Tally::new(),
             rate: Rate::new(),
@@ -260,35 +260,17 @@ where
         self.around.backlog.at(self.rt.alloc(), listener.port()?)
     }
 
-    // What its clients speak, where it is served by loops.
-    fn language(&self) -> Option<Language> {
-        let loops = self.serving.get().and_then(|serving| serving.loops);
-        loops.map(|loops| loops.language)
-    }
-
-    // How many marks its file has: one where its keys are texts.
-    fn marks(&self) -> usize {
-        match self.language() {
-            Some(Language::Frames(Naming::Texts) | Language::Either(Naming::Texts)) => 1,
-            _ => 0,
+    // How it is served.
+    fn shape(&self) -> Shape {
+        match self.shape.get() {
+            Some(shape) => *shape,
+            None => Shape::UNSERVED,
         }
     }
 
     // How many members it has, without its marks.
     fn members(&self) -> usize {
-        self.gauge.members().saturating_sub(self.marks())
-    }
-
-    // How many buckets, passes and loops it has.
-    fn shape(&self) -> (usize, usize, usize) {
-        let Some(serving) = self.serving.get() else {
-            return (0, 0, 0);
-        };
-        let loops = match &serving.loops {
-            Some(loops) => loops.count_for(serving.passes),
-            None => 0,
-        };
-        (serving.buckets, serving.passes, loops)
+        self.gauge.members().saturating_sub(self.shape().marks)
     }
 
     // Says that lists are long, where they are.
@@ -323,7 +305,7 @@ where
 {
     // Where frames are spoken the command line has said what the keys are.
     fn found(&self, _members: usize, mark: bool) {
-        if mark && let None | Some(Language::Lines) = self.language() {
+        if mark && !self.shape().has_frames {
             self.say(Level::Warning, ARE_TEXTS);
         }
     }

@@ -101,12 +101,12 @@ fn socket_of<'a, R: Files<File = File>>(rt: &R, place: &Place<'a>) -> Option<Soc
 }
 
 /// Serves the set on this disk there. Who asked for its end hears of it once the file is closed.
-pub fn serve<R, W>(
-    rt: &R,
-    writer: &mut W,
+pub fn serve<'a, R, W>(
+    rt: &'a R,
+    writer: W,
     disk: FileDisk,
-    service: Service<'_>,
-    at: At<'_>,
+    service: Service<'a>,
+    at: At<'a>,
 ) -> Result<Status, Fault>
 where
     R: Env + Files<File = File> + Eprint + AllocGlobal,
@@ -123,7 +123,7 @@ where
     let watched = File::open(rt, file).ok().and_then(Watched::new);
     let around = surroundings_of(rt, &at, service);
     let place = at.place(rt);
-    let disk = shown(rt, file, disk, bytes_read(rt, file, wanted));
+    let disk = shown(rt, file, disk, bytes_read(rt, file, &wanted));
     let socket = socket_of(rt, &place);
     let log = Log::new(rt, file, watched, around);
     let Ended {
@@ -136,7 +136,7 @@ where
         writer,
         &log,
         disk,
-        options,
+        &options,
         place,
         wanted,
         control.as_ref(),
@@ -184,7 +184,7 @@ fn say_no_control<R: Eprint>(rt: &R, file: &str, path: &str, is_chosen: bool, er
 }
 
 // How many bytes of the file are read before it is served: all, and where it matters what the keys are all once more.
-fn bytes_read<R: Files>(rt: &R, file: &str, wanted: Wanted) -> Option<u64> {
+fn bytes_read<R: Files>(rt: &R, file: &str, wanted: &Wanted) -> Option<u64> {
     let length = rt.metadata(file).ok()?.len();
     Some(match wanted {
         Wanted::Anything => length,
@@ -224,6 +224,25 @@ where
     }
 }
 
+/// Tells how a set is served. The kit's borrow checker takes no type of several lifetimes, as a log's is, in a call whose signature names `'static`, as
+/// the options do by the secret.
+pub trait Telling {
+    ghost use Rattle.lz_serve.specs.declared.options.ServeOptions.{ServeOptions};
+
+    ghost told: { Self → ServeOptions };
+
+    fn options(&self) -> ServeOptions
+        ensures { result ≡ told self.now };
+}
+
+impl Telling for ServeOptions {
+    ghost told = { λ options. options };
+
+    fn options(&self) -> ServeOptions {
+        *self
+    }
+}
+
 /// What a service leaves.
 pub struct Ended<D, W> {
     pub status: Status,
@@ -234,12 +253,12 @@ pub struct Ended<D, W> {
 }
 
 /// Serves the set on this disk, whichever disk that is, while others hear whether it is to end.
-pub fn serve_until<R, W, O, D>(
+pub fn serve_until<R, W, O, D, T>(
     rt: &R,
     writer: W,
     log: &O,
     disk: D,
-    options: ServeOptions,
+    options: &T,
     place: Place<'_>,
     wanted: Wanted,
     control: Option<&Control>,
@@ -251,9 +270,10 @@ where
     W: Write + Drop,
     O: Stoppable + Sync,
     D: Disk + Send + Drop,
-    requires options { IsServable options }
+    T: Telling,
+    requires options { IsServable (T.told options.now) }
     requires medium { MayOpen (D.device disk) }
-    ensures ran { KeptService D.device wanted options.buckets options.passes (option_map (λ p. p.now) place.entry.path) result.status (W.contents writer) (W.contents result.writer) disk result.disk }
+    ensures ran { KeptService D.device wanted (T.told options.now).buckets (T.told options.now).passes (option_map (λ p. p.now) place.entry.path) result.status (W.contents writer) (W.contents result.writer) disk result.disk }
 {
     // The closure holds a `Vec`: of one that holds an `Option<&str>`, as the place does, and none, the kit can't state the contract.
     let nobody = Vec::new(rt.alloc());
@@ -262,9 +282,9 @@ where
         thread::scope_env(),
         rt,
         move |scope| -> Ended<D, W>
-            requires options { IsServable options }
+            requires options { IsServable (T.told options.now) }
             requires medium { MayOpen (D.device disk) }
-            ensures ran { KeptService D.device wanted options.buckets options.passes (option_map (λ p. p.now) place.entry.path) result.status (W.contents writer) (W.contents result.writer) disk result.disk }
+            ensures ran { KeptService D.device wanted (T.told options.entry.now).buckets (T.told options.entry.now).passes (option_map (λ p. p.now) place.entry.path) result.status (W.contents writer) (W.contents result.writer) disk result.disk }
         {
             let hearing = match control {
                 Some(control) => {
@@ -280,6 +300,7 @@ where
                 None
             };
             let mut writer = writer;
+            let options = options.options();
             let (status, disk) = serve_kept_on(rt, &mut writer, log, disk, options, place, wanted);
             end_hearing(control, is_over);
             Ended {

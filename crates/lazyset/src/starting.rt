@@ -6,10 +6,12 @@ ghost use Rattle.lazyset_set_commands.specs.Services.{IsServable};
 use crate::descriptors::connections_allowed;
 use crate::fault::Fault;
 use crate::files::open_for;
+use crate::secrets::secret_of;
 use crate::service::{At, serve};
 use lazyset_arguments::Service;
 use lazyset_set_commands::{ServeOptions, Status};
-use lz_serve::Loops;
+use lz_resp::{Naming, Secret};
+use lz_serve::{Language, Loops};
 use lz_slot::Header;
 use std::fs::File;
 use std::io::Write;
@@ -28,6 +30,7 @@ where
     requires { IsServable service.options }
 {
     let at = At::of(rt, service);
+    let secret = secret_of(rt, service)?;
     let Service {
         file,
         options,
@@ -47,7 +50,10 @@ where
     };
     let options = ServeOptions {
         buckets,
-        loops,
+        loops: match secret {
+            Some(secret) => loops.map(|loops| with_secret(loops, secret)),
+            None => loops,
+        },
         ..options
     };
     let alloc = rt.alloc();
@@ -62,7 +68,7 @@ where
         control,
         ..service
     };
-    serve(rt, writer, disk, service, at)
+    serve(rt, &mut *writer, disk, service, at)
 }
 
 // As many buckets as the file has slots, or as its format allows. One where its head can't be read: its open refuses it.
@@ -76,6 +82,14 @@ fn buckets_for(header: Option<Header>) -> usize
     let most = header.format.most_buckets();
     let slots = usize::try_from(header.slots).unwrap_or(most);
     slots.clamp(1, most)
+}
+
+// The same loops, whose clients' texts are hashed after this secret.
+fn with_secret(loops: Loops, secret: &'static Secret) -> Loops {
+    Loops {
+        language: Language::Frames(Naming::Texts(Some(secret))),
+        ..loops
+    }
 }
 
 // The same loops, with as many connections as descriptors allow.

@@ -1,4 +1,5 @@
 //! Whether the keys of a file are numbers or texts, and what is said of that.
+use lazyset_file_commands::secret_mark;
 use lazyset_set_commands::Wanted;
 use lz_resp::Naming;
 use lz_serve::{Language, Loops};
@@ -10,8 +11,12 @@ pub fn wanted_by(loops: Option<Loops>, as_numbers: bool, adopts: bool) -> Wanted
         Some(Language::Lines) | None => return Wanted::Anything,
     };
     match naming {
-        Naming::Texts if adopts => Wanted::OlderTexts,
-        Naming::Texts => Wanted::Texts,
+        Naming::Texts(Some(secret)) => match secret_mark(secret) {
+            Some(mark) => Wanted::Secret(mark),
+            None => unreachable!(),
+        },
+        Naming::Texts(None) if adopts => Wanted::OlderTexts,
+        Naming::Texts(None) => Wanted::Texts,
         Naming::Rooms if as_numbers => Wanted::Anything,
         Naming::Rooms => Wanted::Numbers,
     }

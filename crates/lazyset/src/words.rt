@@ -171,6 +171,7 @@ fn words_of_end(request: Request<'_>, line: &str) -> Option<&'static str> {
             "its keys are texts: serve it with --text, or with --numbers to take them for numbers",
         ),
         "othernumbers" => Some(words_of_numbers(request)),
+        "othersecret" => Some(words_of_secret(request)),
         "oldfile" => Some(
             "a file of format 1 has no room for the mark of texts: renew it, then serve it with --text=adopt",
         ),
@@ -202,6 +203,19 @@ fn words_of_numbers(request: Request<'_>) -> &'static str {
         _ => {
             "its keys are numbers: serve it without --text; an older file of texts is marked by --text=adopt"
         }
+    }
+}
+
+// Why a service of texts is refused for the secret of its file.
+fn words_of_secret(request: Request<'_>) -> &'static str {
+    match request {
+        Request::Serve(
+            Service {
+                secret: Some(_),
+                ..
+            },
+        ) => "its texts are under another secret, or under none",
+        _ => "its texts are under a secret: name the file of that by --secret",
     }
 }
 

@@ -65,6 +65,13 @@ pub fn no_mark(alloc: Global) -> Refusal {
     ))
 }
 
+/// Older texts have no secret.
+pub fn late_secret(alloc: Global) -> Refusal {
+    not_understood(format!(in alloc;
+        "error: the argument '--text=adopt' cannot be used with '--secret <PATH>': older texts have no secret\n\nFor more information, try '--help'.\n"
+    ))
+}
+
 /// No service of texts takes such a name.
 pub fn long_name(alloc: Global) -> Refusal {
     not_understood(format!(in alloc;

@@ -7,8 +7,8 @@ ghost use Rattle.lazyset_arguments.specs.Requests.{ArePasses, AreWithin, IsWithi
 use crate::request::Request;
 use crate::values::{named_mode, number, number_within, text};
 use crate::words::{
-    ADOPT, CONNECTIONS_ID, CONTROL_ID, LINES_ID, NUMBERS_ID, PASSES_ID, RESP_ID, SOCKET_ID,
-    SOCKET_MODE_ID, TEXT_ID,
+    ADOPT, CONNECTIONS_ID, CONTROL_ID, LINES_ID, NUMBERS_ID, PASSES_ID, RESP_ID, SECRET_ID,
+    SOCKET_ID, SOCKET_MODE_ID, TEXT_ID,
 };
 use clap::ArgMatches;
 use lz_resp::Naming;
@@ -68,6 +68,8 @@ pub struct Service<'a> {
     pub as_numbers: bool,
     /// Its keys are texts, of a file from before there were marks of that.
     pub adopts: bool,
+    /// The path of the secret that is hashed before each text.
+    pub secret: Option<&'a str>,
 }
 
 /// A mode that no socket can have.
@@ -84,7 +86,7 @@ pub(crate) fn serve<'a>(words: &ArgMatches<'a>) -> Option<Request<'a>>
 {
     let options = serve_options(words)?;
     let mode = named_mode(words, SOCKET_MODE_ID)?;
-    if mode.is_some() && !has_socket(words) {
+    if mode.is_some() && !has_socket(words) || adopts_secretly(words) {
         return None;
     }
     Some(Request::Serve(Service {
@@ -98,6 +100,7 @@ pub(crate) fn serve<'a>(words: &ArgMatches<'a>) -> Option<Request<'a>>
         no_lock: words.get_flag("no-lock"),
         as_numbers: words.get_flag(NUMBERS_ID),
         adopts: words.get_str(TEXT_ID) == Some(ADOPT),
+        secret: text(words, SECRET_ID),
     }))
 }
 
@@ -105,6 +108,16 @@ pub(crate) fn serve<'a>(words: &ArgMatches<'a>) -> Option<Request<'a>>
 fn has_socket(words: &ArgMatches<'_>) -> bool {
     let is_named = words.get_str(SOCKET_ID).is_some() || words.get_str(CONTROL_ID).is_some();
     is_named || words.get_str(PASSES_ID).is_none()
+}
+
+// Whether older texts are to be of a secret, which they aren't.
+fn adopts_secretly(words: &ArgMatches<'_>) -> bool {
+    words.get_str(TEXT_ID) == Some(ADOPT) && words.get_str(SECRET_ID).is_some()
+}
+
+/// Whether a service is to adopt older texts under a secret.
+pub(crate) fn is_late_secret(matches: &ArgMatches<'_>) -> bool {
+    matches!(matches.subcommand(), Some(("serve", words)) if adopts_secretly(words))
 }
 
 /// The mode of a service's sockets that is none, or that no socket has.
@@ -214,14 +227,15 @@ fn connections_of(matches: &ArgMatches<'_>) -> Option<usize>
     }
 }
 
-// What their clients speak: where no language is named, and PASSES were left out, each client the one that it begins with.
+// What their clients speak: where no language is named, and PASSES were left out, each client the one that it begins with. Of texts under a secret
+// frames, since a line names a key by its number.
 fn language_of(matches: &ArgMatches<'_>) -> Language {
     let naming = if matches.contains_id(TEXT_ID) {
-        Naming::Texts
+        Naming::Texts(None)
     } else {
         Naming::Rooms
     };
-    if matches.get_flag(RESP_ID) {
+    if matches.get_flag(RESP_ID) || matches.get_str(SECRET_ID).is_some() {
         Language::Frames(naming)
     } else if matches.get_flag(LINES_ID) || matches.get_str(PASSES_ID).is_some() {
         Language::Lines

@@ -2,7 +2,7 @@
 use crate::words::{
     ADDRESS, BUCKETS, CONNECTIONS, CONTROL, CONTROLLED, COPIED_FORMAT, COPIED_SLOTS, FILE, FORMAT,
     GROWN_FORMAT, HISTORY, IDLE, KEYS, LINES, LIST, LOOPS, NEW, NO_LOCK, NUMBERS, OF, OLD, PASSES,
-    PORT, REHEARSED, REPLACE, RESP, ROOMY_FORMAT, SERVED_BUCKETS, SESSIONS, SLOTS, SOCKET,
+    PORT, REHEARSED, REPLACE, RESP, ROOMY_FORMAT, SECRET, SERVED_BUCKETS, SESSIONS, SLOTS, SOCKET,
     SOCKET_MODE, TEXT, TEXTS_OF, UNTIL_EOF, WITHIN, Word,
 };
 
@@ -30,6 +30,7 @@ pub(crate) const SERVICE: &[Word] = &[
     RESP,
     LINES,
     TEXT,
+    SECRET,
     NUMBERS,
     SESSIONS,
     IDLE,
@@ -76,7 +77,7 @@ pub const SHEETS: [Sheet; 11] = [
     Sheet {
         name: "serve",
         about: "Answers many connections at once: their lines, as `run` does, or the frames of Redis's protocol",
-        notes: "Without PASSES it chooses what isn't given: port 7000, 1024 commands at once, as many connections as descriptors allow, 10000 at most, as many buckets as the file has slots, or as its format allows, and a control socket at FILE.control. A connection whose first byte is `*` speaks Redis's protocol then, and any other lines. With PASSES nothing but the buckets is chosen, and lines are spoken unless --resp is given.\n\nPrints `listening PORT`, or `listening PATH`, when clients can connect, `refused N` as `run` does, `noport`, `othertext` or `othernumbers`. Standard error is its log.\n\nIt locks the file: where another process has it, it says `nofile`.\n\nExample: lazyset serve f\n\nFor Redis's clients, whose members are any bytes: lazyset serve f 7000 --resp --text\n\nFor this user's programs alone: lazyset serve f --socket f.socket\n\nBy a thread for each of 8 connections, in lines: lazyset serve f 7000 8 --buckets 1024 --idle 600\n\nBy a few threads for thousands of them: lazyset serve f 7000 1024 --connections 5000",
+        notes: "Without PASSES it chooses what isn't given: port 7000, 1024 commands at once, as many connections as descriptors allow, 10000 at most, as many buckets as the file has slots, or as its format allows, and a control socket at FILE.control. A connection whose first byte is `*` speaks Redis's protocol then, and any other lines. With PASSES nothing but the buckets is chosen, and lines are spoken unless --resp is given.\n\nPrints `listening PORT`, or `listening PATH`, when clients can connect, `refused N` as `run` does, `noport`, `othertext`, `othernumbers` or `othersecret`, or `nosecret` where a secret can't be had. Standard error is its log.\n\nIt locks the file: where another process has it, it says `nofile`.\n\nExample: lazyset serve f\n\nFor Redis's clients, whose members are any bytes: lazyset serve f 7000 --resp --text\n\nFor this user's programs alone: lazyset serve f --socket f.socket\n\nBy a thread for each of 8 connections, in lines: lazyset serve f 7000 8 --buckets 1024 --idle 600\n\nBy a few threads for thousands of them: lazyset serve f 7000 1024 --connections 5000",
         words: SERVICE,
     },
     Sheet {

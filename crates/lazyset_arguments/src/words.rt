@@ -75,6 +75,9 @@ pub const TEXT_ID: &str = "text";
 
 pub const ADOPT: &str = "adopt";
 
+/// The option for the file of a secret.
+pub const SECRET_ID: &str = "secret";
+
 pub(crate) const FILE: Word = Word {
     id: "FILE",
     value_name: None,
@@ -286,7 +289,7 @@ pub(crate) const LINES: Word = Word {
     value_name: None,
     form: Form::Flag,
     default: None,
-    beside: Beside::Serving(None, &[RESP_ID, TEXT_ID, NUMBERS_ID]),
+    beside: Beside::Serving(None, &[RESP_ID, TEXT_ID, NUMBERS_ID, SECRET_ID]),
     help: "Speaks lines alone",
 };
 
@@ -299,12 +302,21 @@ pub(crate) const TEXT: Word = Word {
     help: "Takes any bytes as names and members, whose SHA-256 is the key (docs/PROTOCOL.md); else a name is a room, and a member a number. An empty file is marked so, and one of numbers is refused, `othernumbers`. --text=adopt marks a file that release 1.16 or an older one served with --text",
 };
 
+pub(crate) const SECRET: Word = Word {
+    id: SECRET_ID,
+    value_name: Some("PATH"),
+    form: Form::Text,
+    default: None,
+    beside: Beside::Needs(TEXT_ID),
+    help: "Hashes the secret in this file before each text, so that nobody else can tell its key: 16 to 64 bytes, the last of them no zero, of a file that only its user can read. An empty file of a set is marked so; one of texts under another secret, or under none, is refused, `othersecret`. Frames alone are spoken then",
+};
+
 pub(crate) const NUMBERS: Word = Word {
     id: NUMBERS_ID,
     value_name: None,
     form: Form::Flag,
     default: None,
-    beside: Beside::Serving(Some(RESP_ID), &[TEXT_ID]),
+    beside: Beside::Serving(Some(RESP_ID), &[TEXT_ID, SECRET_ID]),
     help: "Takes keys for numbers though the file is marked as one of texts, which is refused without it, `othertext`",
 };
 

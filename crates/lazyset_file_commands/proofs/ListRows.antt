@@ -89,7 +89,7 @@ seven_again_lists_none ks lists = no_key_again Two (codes "7" ++ 10 ∷ codes "0
 -- A text that comes twice, and a mark before it.
 module _ where
   abbrev told : ℕ
-  told = text_number (codes "s") (codes "m")
+  told = text_number [] (codes "s") (codes "m")
 
   below : told < 1_000_000_000_000_000_000
   below = omega arith

@@ -37,10 +37,10 @@ spelled_more named _ _ line k (more first rest j js clear_first names_first spel
     (more first (rest ++ (line ++ line_feed ∷ [])) j (js ++ k ∷ []) clear_first names_first (spelled_more named rest js line k spelled clear names))
 
 -- the key of a text is one of room 0
-text_fits : (name line : List ℕ) (k : ℕ) → k ≡ text_number name line → k ≤ largest_key
+text_fits : (name line : List ℕ) (k : ℕ) → k ≡ text_number [] name line → k ≤ largest_key
 text_fits name line k is = omega (arith, is)
 
-adds_once : (name line : List ℕ) (k : ℕ) (old new : List ℕ) → k ≡ text_number name line → Adds (texts name) k old new → AddsOnce k old new
+adds_once : (name line : List ℕ) (k : ℕ) (old new : List ℕ) → k ≡ text_number [] name line → Adds (texts name) k old new → AddsOnce k old new
 adds_once name line k old new is (inl (here, same)) = inl (here, same)
 adds_once name line k old new is (inr (apart, added)) = inr (apart, text_fits name line k is, added)
 

@@ -25,7 +25,7 @@ HasPlaceFor format (Texts name) = last_room_of format ≡ last_room
 -- the line, as long as a service takes it.
 abbrev pub NamesKey : Named → List ℕ → ℕ → Type 0
 NamesKey (keys format) line k = (k ≤ largest_of format) × Spells (without_return line) k
-NamesKey (texts name) line k = (length line ≤ most_argument) × (k ≡ text_number name line)
+NamesKey (texts name) line k = (length line ≤ most_argument) × (k ≡ text_number [] name line)
 
 -- The text is whole lines that name these keys, one a line, in their order.
 pub data Spelled (named : Named) : List ℕ → List ℕ → Type 0 where

@@ -37,5 +37,5 @@ pub use renewing::renew_on;
 pub use shown::Shown;
 pub use status::Status;
 pub use telling::tell;
-pub use texts::TEXTS_MARK;
+pub use texts::{FIRST_SECRET_MARK, LAST_SECRET_MARK, TEXTS_MARK, secret_mark};
 pub use torn::torn_slots;

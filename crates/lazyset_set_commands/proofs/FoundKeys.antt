@@ -1,8 +1,8 @@
 -- What is found in the slots of a file is what its set has.
 use Rattle.lz_slot.specs.declared.slot.SlotRead.TheVariants as read
-use Rattle.std.proofs.Common.{◌≡◌, ◌⊎◌, inl, inr, ⊎_elim, ℕ, zero, suc, ◌+◌, ◌*◌, ◌<◌, ◌≤◌, Bool, true, false, not, ◌&&◌, ◌||◌, ◌==◌, refl, sym, ap, ◌∙◌, subst}
-use Rattle.std.proofs.{Common.{arith, List, ◌∷◌, length, take, Ok, Err, IsTrue, eq-eqb}, lemmas.Bool.{cases_Bool, cases_eq, eqb-true, or_cases}}
-use Rattle.std.proofs.lemmas.Bool.Decides.{nat_tests}
+use Rattle.std.proofs.Common.{◌≡◌, ◌⊎◌, inl, inr, ⊎_elim, ℕ, zero, suc, ◌+◌, ◌*◌, ◌<◌, Bool, true, false, not, ◌&&◌, ◌||◌, ◌==◌, refl, sym, ap, ◌∙◌, subst}
+use Rattle.std.proofs.Common.{arith, List, ◌∷◌, length, take, Ok, Err, Option, None, Some, IsTrue, eq-eqb}
+use Rattle.std.proofs.lemmas.Bool.{cases_Bool, cases_eq, eqb-true, or_cases}
 use mathlib.Core.Bool.{true≢false, false≢true}
 use Rattle.lz_slot.specs.{Sets.{Keys}, Bytes.{Holds, format_of, header_body, header_read, open_byte, slot_at}, declared.header.HeaderFault.{HeaderFault}}
 use Rattle.lz_slot.{specs.declared.slot.SlotRead.{SlotRead}, proofs.Files.ExactBytes.{header_reads_back}}
@@ -10,7 +10,8 @@ use Rattle.lz_disk.{specs.{Images.{Medium, synced}, Devices.{Device, IsCall, IsT
 use Rattle.lz_vault.specs.{Opens.{IsRefusedFor}, Renewals.{OnlySyncs}, Scans.{OnlyReads}, Vaults.{LeavesEither}}
 use Rattle.lz_vault.{specs.declared.opening.OpenFault.TheVariants.{Device as DeviceFailed, Memory}, proofs.Openings.{call_reads, read_before, refused}}
 use Rattle.lazyset_file_commands.specs.Marks.{texts_mark}
-use Rattle.lazyset_set_commands.specs.{Founds.{HasNoForeign, IsFoundOf, found_below, is_foreign, with_slot}, declared.found.Found.{Found}}
+use Rattle.lazyset_set_commands.specs.Founds.{IsFoundOf, Says, found_below, has_own, is_foreign, is_further, is_own, is_secret, with_key, with_slot}
+use Rattle.lazyset_set_commands.specs.declared.found.Found.{Found}
 
 or_first : (a b : Bool) → a ≡ true → (a || b) ≡ true
 or_first a b is = rw is refl
@@ -19,104 +20,80 @@ or_second : (a b : Bool) → b ≡ true → (a || b) ≡ true
 or_second true b is = refl
 or_second false b is = is
 
--- a slot more: what was found stays found, its key is found, and nothing else
-module _ (f : Found) where
-  keeps_mark : (r : SlotRead) → f.mark ≡ true → (with_slot f r).mark ≡ true
-  keeps_mark (read.Member k) is = or_first f.mark (k == texts_mark) is
-  keeps_mark _ is = is
+-- a flag of what was found is raised by a key that passes its test
+module _ (own : Option ℕ) (flag : Found → Bool) (test : ℕ → Bool) (raised : (f : Found) (k : ℕ) → flag (with_key own f k) ≡ (flag f || test k)) where
+  keeps : (f : Found) (r : SlotRead) → flag f ≡ true → flag (with_slot own f r) ≡ true
+  keeps f (read.Member k) is = raised f k ∙ or_first (flag f) (test k) is
+  keeps f _ is = is
 
-  keeps_foreign : (r : SlotRead) → f.foreign ≡ true → (with_slot f r).foreign ≡ true
-  keeps_foreign (read.Member k) is = or_first f.foreign (is_foreign k) is
-  keeps_foreign _ is = is
+  came : (f : Found) (r : SlotRead) → flag (with_slot own f r) ≡ true → (flag f ≡ true) ⊎ ((k : ℕ) × (r ≡ read.Member k) × (test k ≡ true))
+  came f (read.Member k) is = ⊎_elim inl (λ here. inr (k, refl, here)) (or_cases (flag f) (test k) (sym (raised f k) ∙ is))
+  came f _ is = inl is
 
-  keeps_some : (r : SlotRead) → f.empty ≡ false → (with_slot f r).empty ≡ false
-  keeps_some (read.Member k) is = refl
-  keeps_some _ is = is
+  module _ (says : ℕ → SlotRead) (down : flag (found_below own says 0) ≡ false) where
+    abbrev below : ℕ → Found
+    below n = found_below own says n
 
-  came_mark : (r : SlotRead) → (with_slot f r).mark ≡ true → (f.mark ≡ true) ⊎ (r ≡ read.Member texts_mark)
-  came_mark (read.Member k) is = ⊎_elim inl (λ here. inr (ap (λ (j : ℕ). read.Member j) (eqb-true k texts_mark here))) (or_cases f.mark (k == texts_mark) is)
-  came_mark _ is = inl is
+    hit : (n i k : ℕ) → i < n → says i ≡ read.Member k → test k ≡ true → flag (below n) ≡ true
+    hit zero i k low is this = absurd (omega (arith, low))
+    hit (suc n) i k low is this = ⊎_elim
+        (λ last. subst (λ (r : SlotRead). flag (with_slot own (below n) r) ≡ true) (sym is ∙ ap says last) (raised (below n) k ∙ or_second (flag (below n)) (test k) this))
+        (λ other. keeps (below n) (says n) (hit n i k (omega (arith, low, other)) is this)) (cases_eq i n)
 
-  came_foreign : (r : SlotRead) → (with_slot f r).foreign ≡ true → (f.foreign ≡ true) ⊎ ((k : ℕ) × (r ≡ read.Member k) × (is_foreign k ≡ true))
-  came_foreign (read.Member k) is = ⊎_elim inl (λ here. inr (k, refl, here)) (or_cases f.foreign (is_foreign k) is)
-  came_foreign _ is = inl is
+    from : (n : ℕ) → flag (below n) ≡ true → (i : ℕ) × (k : ℕ) × (i < n) × (says i ≡ read.Member k) × (test k ≡ true)
+    from zero is = absurd (true≢false (sym is ∙ down))
+    from (suc n) is = ⊎_elim
+        (λ before. let at = from n before in (at.0, at.1, omega (arith, at.2), at.3, at.4))
+        (λ here. (n, here.0, omega arith, here.1, here.2)) (came (below n) (says n) is)
 
-  came_some : (r : SlotRead) → (with_slot f r).empty ≡ false → (f.empty ≡ false) ⊎ ((k : ℕ) × (r ≡ read.Member k))
-  came_some (read.Member k) is = inr (k, refl)
-  came_some _ is = inl is
+  -- and says of the set of a file whether it has such a key
+  flag_says : (t : List ℕ) (N : ℕ) (S : Keys) → Holds t N S → flag (found_below own (slot_at t) 0) ≡ false → Says (flag (found_below own (slot_at t) N)) test S
+  flag_says t N S holds down = ⊎_elim
+      (λ up. let at = from (slot_at t) down N up in
+      subst (λ (b : Bool). Says b test S) (sym up) (at.1, (holds.set at.1).1 (at.0, at.2, at.3), at.4))
+      (λ no. subst (λ (b : Bool). Says b test S) (sym no) (λ k has.
+      let at = (holds.set k).0 has in
+      ⊎_elim (λ yes. absurd (true≢false (sym (hit (slot_at t) down N at.0 k at.1 at.2 yes) ∙ no))) (λ none. none) (cases_Bool (test k))))
+      (cases_Bool (flag (found_below own (slot_at t) N)))
 
-module _ (says : ℕ → SlotRead) where
-  mark_hit : (n i k : ℕ) → i < n → says i ≡ read.Member k → k ≡ texts_mark → (found_below says n).mark ≡ true
-  mark_hit zero i k low is this = absurd (omega (arith, low))
-  mark_hit (suc n) i k low is this = ⊎_elim
-      (λ last. subst (λ (r : SlotRead). (with_slot (found_below says n) r).mark ≡ true) (sym is ∙ ap says last)
-      (or_second (found_below says n).mark (k == texts_mark) (eq-eqb k texts_mark this)))
-      (λ other. keeps_mark (found_below says n) (says n) (mark_hit n i k (omega (arith, low, other)) is this)) (cases_eq i n)
+-- what is said of one key is whether the set has it
+one_says : (b : Bool) (m : ℕ) (S : Keys) → Says b (λ k. k == m) S → b ≡ S m
+one_says true m S says = sym (subst (λ (j : ℕ). S j ≡ true) (eqb-true says.0 m says.2) says.1)
+one_says false m S says = ⊎_elim (λ has. absurd (true≢false (sym (eq-eqb m m refl) ∙ says m has))) (λ none. sym none) (cases_Bool (S m))
 
-  foreign_hit : (n i k : ℕ) → i < n → says i ≡ read.Member k → is_foreign k ≡ true → (found_below says n).foreign ≡ true
-  foreign_hit zero i k low is this = absurd (omega (arith, low))
-  foreign_hit (suc n) i k low is this = ⊎_elim
-      (λ last. subst (λ (r : SlotRead). (with_slot (found_below says n) r).foreign ≡ true) (sym is ∙ ap says last) (or_second (found_below says n).foreign (is_foreign k) this))
-      (λ other. keeps_foreign (found_below says n) (says n) (foreign_hit n i k (omega (arith, low, other)) is this)) (cases_eq i n)
+own_says : (own : Option ℕ) (b : Bool) (S : Keys) → Says b (is_own own) S → b ≡ has_own own S
+own_says (Some m) b S says = one_says b m S says
+own_says None true S says = absurd (false≢true says.2)
+own_says None false S says = refl
 
-  some_hit : (n i k : ℕ) → i < n → says i ≡ read.Member k → (found_below says n).empty ≡ false
-  some_hit zero i k low is = absurd (omega (arith, low))
-  some_hit (suc n) i k low is = ⊎_elim
-      (λ last. subst (λ (r : SlotRead). (with_slot (found_below says n) r).empty ≡ false) (sym is ∙ ap says last) refl)
-      (λ other. keeps_some (found_below says n) (says n) (some_hit n i k (omega (arith, low, other)) is)) (cases_eq i n)
+not_both : (a b : Bool) → not (a && b) ≡ (not a || not b)
+not_both true b = refl
+not_both false b = refl
 
-  mark_from : (n : ℕ) → (found_below says n).mark ≡ true → (i : ℕ) × (i < n) × (says i ≡ read.Member texts_mark)
-  mark_from zero is = absurd (false≢true is)
-  mark_from (suc n) is = ⊎_elim (λ before. let at = mark_from n before in (at.0, omega (arith, at.1), at.2)) (λ here. (n, omega arith, here)) (came_mark (found_below says n) (says n) is)
-
-  foreign_from : (n : ℕ) → (found_below says n).foreign ≡ true → (i : ℕ) × (k : ℕ) × (i < n) × (says i ≡ read.Member k) × (is_foreign k ≡ true)
-  foreign_from zero is = absurd (false≢true is)
-  foreign_from (suc n) is = ⊎_elim (λ before. let at = foreign_from n before in (at.0, at.1, omega (arith, at.2), at.3, at.4)) (λ here. (n, here.0, omega arith, here.1, here.2)) (came_foreign (found_below says n) (says n) is)
-
-  some_from : (n : ℕ) → (found_below says n).empty ≡ false → (i : ℕ) × (k : ℕ) × (i < n) × (says i ≡ read.Member k)
-  some_from zero is = absurd (true≢false is)
-  some_from (suc n) is = ⊎_elim (λ before. let at = some_from n before in (at.0, at.1, omega (arith, at.2), at.3)) (λ here. (n, here.0, omega arith, here.1)) (came_some (found_below says n) (says n) is)
-
-same_test : (a b : Bool) → (a ≡ true → b ≡ true) → (b ≡ true → a ≡ true) → a ≡ b
-same_test true b to from = sym (to refl)
-same_test false true to from = from refl
-same_test false false to from = refl
-
-module _ (t : List ℕ) (N : ℕ) (S : Keys) (holds : Holds t N S) where
-  abbrev f : Found
-  f = found_below (slot_at t) N
-
-  pub found_of_set : IsFoundOf S f
+module _ (own : Option ℕ) (t : List ℕ) (N : ℕ) (S : Keys) (holds : Holds t N S) where
+  found_of_set : IsFoundOf own S (found_below own (slot_at t) N)
   found_of_set = record {
-    mark = same_test f.mark (S texts_mark) (λ is. (holds.set texts_mark).1 (mark_from (slot_at t) N is))
-        (λ has. let at = (holds.set texts_mark).0 has in mark_hit (slot_at t) N at.0 texts_mark at.1 at.2 refl);
-    none_foreign = λ none k has.
-        let at = (holds.set k).0 has in
-        ⊎_elim (λ yes. absurd (true≢false (sym (foreign_hit (slot_at t) N at.0 k at.1 at.2 yes) ∙ none))) (λ no. no) (cases_Bool (is_foreign k));
-    some_foreign = λ some none.
-        let at = foreign_from (slot_at t) N some in
-        true≢false (sym at.4 ∙ none at.1 ((holds.set at.1).1 (at.0, at.2, at.3)));
-    nobody = λ empty k. ⊎_elim
-        (λ has. let at = (holds.set k).0 has in absurd (true≢false (sym empty ∙ some_hit (slot_at t) N at.0 k at.1 at.2)))
-        (λ no. no) (cases_Bool (S k));
-    somebody = λ some none.
-        let at = some_from (slot_at t) N some in
-        true≢false (sym ((holds.set at.1).1 (at.0, at.2, at.3)) ∙ none at.1);
+    mark = one_says _ texts_mark S (flag_says own (λ (f : Found). f.mark) (λ (k : ℕ). k == texts_mark) (λ f k. refl) t N S holds refl);
+    its_own = own_says own _ S (flag_says own (λ (f : Found). f.own) (is_own own) (λ f k. refl) t N S holds refl);
+    secret = flag_says own (λ (f : Found). f.secret) (is_secret own) (λ f k. refl) t N S holds refl;
+    foreign = flag_says own (λ (f : Found). f.foreign) (is_foreign own) (λ f k. refl) t N S holds refl;
+    bare = flag_says own (λ (f : Found). not f.bare) is_further (λ f k. not_both f.bare (k == texts_mark)) t N S holds refl;
   }
 
-  -- and its head is read
+  -- so many slots were looked at
+  pub found_of_file : (slots : ℕ) (found : Found) → length t ≡ 16 + 16 * slots → found ≡ found_below own (slot_at t) slots → IsFoundOf own S found
+  found_of_file slots found size is =
+      let long = holds.size in
+      let same : slots ≡ N = omega (arith, size, long) in
+      subst (IsFoundOf own S) (sym (is ∙ ap (found_below own (slot_at t)) same)) found_of_set
+
+-- its head is read
+module _ (t : List ℕ) (N : ℕ) (S : Keys) (holds : Holds t N S) where
   head : header_read (take 16 t) (length t) ≡ Ok N
   head = ap (λ (l : List ℕ). header_read l (length t)) holds.head ∙ ap (header_read (open_byte ∷ header_body (format_of t) N)) holds.size ∙ (header_reads_back (format_of t) N holds.count.0 holds.count.1).0
 
   pub head_holds : (fault : HeaderFault) → header_read (take 16 t) (length t) ≡ Err fault → ⊥
   head_holds fault is = absurd (cc (head, is))
-
-  -- so many slots were looked at
-  pub found_of_file : (slots : ℕ) (found : Found) → length t ≡ 16 + 16 * slots → found ≡ found_below (slot_at t) slots → IsFoundOf S found
-  found_of_file slots found size is =
-      let long = holds.size in
-      let same : slots ≡ N = omega (arith, size, long) in
-      subst (IsFoundOf S) (sym (is ∙ ap (found_below (slot_at t)) same)) found_of_set
 
 -- a sync that succeeded, and reads alone
 pub looked : (old mid new : Device) (fault : Type 0) (timely : IsTrue old.honest → IsTimely old) (call : IsCall old mid fault) (done : ¬ fault) (is : IsTrue old.honest → mid.medium ≡ synced old.medium) (reads : OnlyReads mid new)
@@ -151,6 +128,6 @@ module _ (old mid next : Device) (N : ℕ) (S : Keys) (honest : IsTrue old.hones
   pub holds_synced : Holds mid.medium.seen N S
   holds_synced = subst (λ (m : Medium). Holds m.seen N S) (sym (is honest)) holds
 
-  pub found_tells : OnlyReads mid next → (slots : ℕ) (found : Found) → (IsTrue mid.honest → length mid.medium.seen ≡ 16 + 16 * slots) → (IsTrue next.honest → found ≡ found_below (slot_at next.medium.seen) slots) → IsFoundOf S found
-  found_tells reads slots found size tells =
-      found_of_file mid.medium.seen N S holds_synced slots found (size still) (read_before mid next (λ (t : List ℕ). found ≡ found_below (slot_at t) slots) reads tells still)
+  pub found_tells : OnlyReads mid next → (own : Option ℕ) (slots : ℕ) (found : Found) → (IsTrue mid.honest → length mid.medium.seen ≡ 16 + 16 * slots) → (IsTrue next.honest → found ≡ found_below own (slot_at next.medium.seen) slots) → IsFoundOf own S found
+  found_tells reads own slots found size tells =
+      found_of_file own mid.medium.seen N S holds_synced slots found (size still) (read_before mid next (λ (t : List ℕ). found ≡ found_below own (slot_at t) slots) reads tells still)

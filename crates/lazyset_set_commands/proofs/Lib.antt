@@ -1,5 +1,7 @@
 pub mod FoundKeys
+pub mod MarkLines
 pub mod MarkedSets
+pub mod MarkRows
 pub mod Openings
 pub mod Reopened
 pub mod Runs

@@ -13,14 +13,14 @@ asked = (refl, refl, refl)
 -- all rooms, whatever is selected
 asked_of_all :
     (item_of (Room 9) (codes "LZ.SCAN" ∷ codes "0" ∷ []) ≡ Lists (record { room = None; from = 0; most = 10 }))
-    × (item_of Nameless (codes "lz.scan" ∷ codes "4096" ∷ codes "Count" ∷ codes "257" ∷ []) ≡ Lists (record { room = None; from = 4096; most = 256 }))
+    × (item_of (Nameless None) (codes "lz.scan" ∷ codes "4096" ∷ codes "Count" ∷ codes "257" ∷ []) ≡ Lists (record { room = None; from = 4096; most = 256 }))
     × (item_of (Room 0) (codes "LZ.SCAN" ∷ codes "-1" ∷ []) ≡ Says bad_cursor) × (item_of (Room 0) (codes "LZ.SCAN" ∷ codes "0" ∷ codes "COUNT" ∷ []) ≡ Says bad_syntax)
     × (item_of (Room 0) (codes "LZ.SCAN" ∷ codes "0" ∷ codes "MATCH" ∷ codes "1*" ∷ []) ≡ Says bad_syntax)
     × (item_of (Room 0) (codes "LZ.SCAN" ∷ []) ≡ Says (codes "-ERR wrong number of arguments for 'lz.scan' command\r\n"))
 asked_of_all = (refl, refl, refl, refl, refl, refl)
 
 refused :
-    (item_of Nameless (codes "SSCAN" ∷ codes "0" ∷ codes "0" ∷ []) ≡ Says no_texts) × (item_of (Room 0) (codes "SSCAN" ∷ codes "16" ∷ codes "0" ∷ []) ≡ Says no_room)
+    (item_of (Nameless None) (codes "SSCAN" ∷ codes "0" ∷ codes "0" ∷ []) ≡ Says no_texts) × (item_of (Room 0) (codes "SSCAN" ∷ codes "16" ∷ codes "0" ∷ []) ≡ Says no_room)
     × (item_of (Room 0) (codes "SSCAN" ∷ codes "0" ∷ codes "-1" ∷ []) ≡ Says bad_cursor) × (item_of (Room 0) (codes "SSCAN" ∷ codes "0" ∷ codes "16777217" ∷ []) ≡ Says bad_cursor)
     × (item_of (Room 0) (codes "SSCAN" ∷ codes "0" ∷ codes "0" ∷ codes "MATCH" ∷ codes "1*" ∷ []) ≡ Says bad_syntax)
     × (item_of (Room 0) (codes "SSCAN" ∷ codes "0" ∷ codes "0" ∷ codes "COUNT" ∷ []) ≡ Says bad_syntax)

@@ -1,5 +1,5 @@
 -- Worked transactions.
-use Rattle.std.proofs.Common.{◌≡◌, ◌≢◌, [], ◌∷◌, true, false, refl, ap, codes}
+use Rattle.std.proofs.Common.{◌≡◌, ◌≢◌, [], ◌∷◌, None, true, false, refl, ap, codes}
 use Rattle.lz_proto.specs.declared.request.Request.TheVariants.{Add}
 use Rattle.lz_resp.specs.{Commands.{exec_alone, no_transactions, ok_text, reset_text}, Keys.{at_first}, Transactions.{item_in, state_after}}
 use Rattle.lz_resp.specs.declared.{state.State.{State}, form.Form.TheVariants.{Added}, naming.Naming.TheVariants.{Rooms, Texts}}
@@ -12,7 +12,7 @@ abbrev pub within : State
 within = record { selected = Room 3; refuses = true }
 
 -- what is told at first, and that nothing is refused then
-at_start : (at_first Rooms ≡ record { selected = Room 0; refuses = false }) × (at_first Texts ≡ record { selected = Nameless; refuses = false })
+at_start : (at_first Rooms ≡ record { selected = Room 0; refuses = false }) × (at_first (Texts None) ≡ record { selected = Nameless None; refuses = false })
 at_start = (refl, refl)
 
 begun :
@@ -38,7 +38,7 @@ ended = (refl, refl, refl, refl, refl)
 -- RESET leaves a transaction and the room, and QUIT the connection
 left :
     (item_in within (codes "RESET" ∷ []) ≡ Says reset_text) × (state_after within (codes "RESET" ∷ []) ≡ record { selected = Room 0; refuses = false })
-    × (state_after (record { selected = Nameless; refuses = true }) (codes "RESET" ∷ []) ≡ record { selected = Nameless; refuses = false }) × (item_in within (codes "QUIT" ∷ []) ≡ Ends ok_text)
+    × (state_after (record { selected = Nameless None; refuses = true }) (codes "RESET" ∷ []) ≡ record { selected = Nameless None; refuses = false }) × (item_in within (codes "QUIT" ∷ []) ≡ Ends ok_text)
 left = (refl, refl, refl, refl)
 
 alone :

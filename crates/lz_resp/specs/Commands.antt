@@ -211,7 +211,7 @@ page_in (Some room) arguments = page_from (Some room) (number_in 0 most_slots (a
 -- what is asked of a room's members, one page after the other; a cursor is a slot
 abbrev pub scan_of : Selected → List (List ℕ) → Item
 scan_of (Room n) arguments = page_in (room_of (argument arguments 1)) arguments
-scan_of Nameless arguments = Says no_texts
+scan_of (Nameless secret) arguments = Says no_texts
 
 -- the same of the members of all rooms, whatever is selected
 abbrev pub scan_all_of : List (List ℕ) → Item
@@ -221,8 +221,8 @@ scan_all_of arguments = page_from None (number_in 0 most_slots (argument argumen
 abbrev pub select_of : Selected → Option ℕ → Item
 select_of (Room n) None = Says no_database
 select_of (Room n) (Some room) = Says ok_text
-select_of Nameless None = Says one_database
-select_of Nameless (Some room) = if room == 0 then Says ok_text else Says one_database
+select_of (Nameless secret) None = Says one_database
+select_of (Nameless secret) (Some room) = if room == 0 then Says ok_text else Says one_database
 
 -- what a frame that the command takes comes to, where this is selected
 abbrev pub item_by : Command → Selected → List (List ℕ) → Item
@@ -271,7 +271,7 @@ room_by command room arguments = room
 -- what a command selects: texts have no rooms
 abbrev pub selected_by : Option Command → Selected → List (List ℕ) → Selected
 selected_by command (Room room) arguments = Room (room_by command room arguments)
-selected_by command Nameless arguments = Nameless
+selected_by command (Nameless secret) arguments = Nameless secret
 
 -- what is selected after a frame
 abbrev pub selected_after : Selected → List (List ℕ) → Selected

@@ -23,3 +23,10 @@ few_listed = 10
 -- the most bytes of a value, which isn't kept
 abbrev pub most_value : ℕ
 most_value = 64
+
+-- the fewest and the most bytes of a secret
+abbrev pub fewest_secret : ℕ
+fewest_secret = 16
+
+abbrev pub most_secret : ℕ
+most_secret = 64

@@ -47,7 +47,7 @@ pub(crate) fn item_with(
 #[inline(never)]
 fn no_command(alloc: Global, arguments: &[&[u8]]) -> Result<Item, AllocError>
     requires { 0 < length arguments.now }
-    ensures { IfOk result (λ item. item ≡ item_with None Selected.Nameless (map (λ argument. argument.now) arguments.now)) }
+    ensures { IfOk result (λ item. item ≡ item_with None (Selected.Nameless None) (map (λ argument. argument.now) arguments.now)) }
 {
     Ok(Item::Says(unknown(alloc, arguments)?))
 }
@@ -228,16 +228,16 @@ fn select(alloc: Global, selected: Selected, arguments: &[&[u8]]) -> Result<Item
     ensures { IfOk result (λ item. item ≡ item_by Command.Select selected (map (λ argument. argument.now) arguments.now)) }
 {
     match (selected, room_of(argument(arguments, 1))) {
-        (Selected::Room(_), Some(_)) | (Selected::Nameless, Some(0)) => {
+        (Selected::Room(_), Some(_)) | (Selected::Nameless(_), Some(0)) => {
             Ok(Item::Says(Text::of(alloc, b"+OK\r\n")?))
         }
         (Selected::Room(_), None) => Ok(Item::Says(no_database(alloc)?)),
-        (Selected::Nameless, _) => Ok(Item::Says(one_database(alloc)?)),
+        (Selected::Nameless(_), _) => Ok(Item::Says(one_database(alloc)?)),
     }
 }
 
 fn ping(alloc: Global, arguments: &[&[u8]]) -> Result<Item, AllocError>
-    ensures { IfOk result (λ item. item ≡ item_by Command.Ping Selected.Nameless (map (λ argument. argument.now) arguments.now)) }
+    ensures { IfOk result (λ item. item ≡ item_by Command.Ping (Selected.Nameless None) (map (λ argument. argument.now) arguments.now)) }
 {
     if arguments.len() == 2 {
         Ok(Item::Says(bulk(alloc, argument(arguments, 1))?))
@@ -249,7 +249,7 @@ fn ping(alloc: Global, arguments: &[&[u8]]) -> Result<Item, AllocError>
 // What is told of the commands: none is described.
 fn catalog(alloc: Global, arguments: &[&[u8]]) -> Result<Text, AllocError>
     requires { 0 < length arguments.now }
-    ensures { IfOk result (λ text. Item.Says text ≡ item_by Command.Catalog Selected.Nameless (map (λ argument. argument.now) arguments.now)) }
+    ensures { IfOk result (λ text. Item.Says text ≡ item_by Command.Catalog (Selected.Nameless None) (map (λ argument. argument.now) arguments.now)) }
 {
     if arguments.len() == 1 {
         Text::of(alloc, b"*0\r\n")
@@ -270,7 +270,7 @@ fn sections_in(arguments: &[&[u8]]) -> Sections
 }
 
 fn shut_down(alloc: Global, arguments: &[&[u8]]) -> Result<Item, AllocError>
-    ensures { IfOk result (λ item. item ≡ item_by Command.Shutdown Selected.Nameless (map (λ argument. argument.now) arguments.now)) }
+    ensures { IfOk result (λ item. item ≡ item_by Command.Shutdown (Selected.Nameless None) (map (λ argument. argument.now) arguments.now)) }
 {
     if may_shut_down(arguments) {
         return Ok(Item::Tells(Query::Shutdown));
@@ -298,7 +298,7 @@ pub(crate) fn selected_by(command: Command, selected: Selected, arguments: &[&[u
 {
     match selected {
         Selected::Room(room) => Selected::Room(room_by(command, room, arguments)),
-        Selected::Nameless => Selected::Nameless,
+        Selected::Nameless(secret) => Selected::Nameless(secret),
     }
 }
 

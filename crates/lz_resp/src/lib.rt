@@ -26,6 +26,7 @@ mod reading;
 mod reply;
 mod scan;
 mod scanning;
+mod secret;
 mod state;
 mod subcommand;
 mod subset;
@@ -38,11 +39,14 @@ pub use figures::Figures;
 pub use form::Form;
 pub use frames::Frames;
 pub use item::{Item, Requests};
-pub use limits::{MOST_ARGUMENT, MOST_ARGUMENTS, MOST_FRAME, MOST_LISTED, MOST_VALUE};
+pub use limits::{
+    FEWEST_SECRET, MOST_ARGUMENT, MOST_ARGUMENTS, MOST_FRAME, MOST_LISTED, MOST_SECRET, MOST_VALUE,
+};
 pub use naming::Naming;
 pub use page::{Page, page_request, read_page};
 pub use query::{Query, Sections};
 pub use reply::{has_halted, push_reply};
 pub use scan::Scan;
+pub use secret::Secret;
 pub use subset::text_number;
 pub use text::Text;

@@ -16,3 +16,8 @@ pub(crate) const FEW_LISTED: u64 = 10;
 
 /// The most bytes of a value, which isn't kept.
 pub const MOST_VALUE: usize = 64;
+
+/// The fewest and the most bytes of a secret: a block of SHA-256.
+pub const FEWEST_SECRET: usize = 16;
+
+pub const MOST_SECRET: usize = 64;

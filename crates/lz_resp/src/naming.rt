@@ -4,24 +4,25 @@ ghost use Rattle.lz_slot.specs.Limits.{last_room};
 ghost use Rattle.lz_resp.specs.Keys.{IsThere, IsRoom, selected_first, subset_of, of_name, room_of, unnamed};
 
 use crate::digits::digit_of;
+use crate::secret::Secret;
 use crate::subset::Subset;
 use lz_slot::{LAST_ROOM, read_number};
 
 /// How the names of subsets and their members are read.
-#[derive(Clone, Copy, Debug, PartialEq, Eq)]
+#[derive(Clone, Copy, Debug)]
 pub enum Naming {
     /// A name is a room, and a member the number of a key there.
     Rooms,
-    /// Both are any bytes, whose digest is the number of a key in room 0. Two texts may have the same key.
-    Texts,
+    /// Both are any bytes, whose digest is the number of a key in room 0, of a secret where there is one. Two texts may have the same key.
+    Texts(Option<&'static Secret>),
 }
 
 /// What a command is about that names no subset.
-#[derive(Clone, Copy, Debug, PartialEq, Eq)]
+#[derive(Clone, Copy, Debug)]
 pub(crate) enum Selected {
     Room(u8),
     // where names are texts, the subset whose name has no bytes
-    Nameless,
+    Nameless(Option<&'static Secret>),
 }
 
 impl Selected {
@@ -32,7 +33,7 @@ impl Selected {
     {
         match naming {
             Naming::Rooms => Selected::Room(0),
-            Naming::Texts => Selected::Nameless,
+            Naming::Texts(secret) => Selected::Nameless(secret),
         }
     }
 
@@ -44,7 +45,7 @@ impl Selected {
     {
         match self {
             Selected::Room(room) => Subset::Room(room),
-            Selected::Nameless => Subset::Text(b""),
+            Selected::Nameless(secret) => Subset::Text(secret, b""),
         }
     }
 
@@ -55,7 +56,7 @@ impl Selected {
     {
         match self {
             Selected::Room(_) => Some(Subset::Room(room_of(name)?)),
-            Selected::Nameless => Some(Subset::Text(name)),
+            Selected::Nameless(secret) => Some(Subset::Text(secret, name)),
         }
     }
 }

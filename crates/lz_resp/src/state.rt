@@ -5,7 +5,7 @@ ghost use Rattle.lz_resp.specs.Keys.{IsRoom, at_first};
 use crate::naming::{Naming, Selected};
 
 /// What is selected, and whether frames are refused, since they stand in a transaction.
-#[derive(Clone, Copy, Debug, PartialEq, Eq)]
+#[derive(Clone, Copy, Debug)]
 pub(crate) struct State {
     pub(crate) selected: Selected,
     pub(crate) refuses: bool,

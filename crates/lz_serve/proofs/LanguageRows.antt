@@ -8,10 +8,10 @@ use Rattle.lz_serve.specs.{declared.language.Language.{Language}, Exchanges.{Cam
 frame : read_as (Either Rooms) (codes "*1\r\n$4\r\nPING\r\n") ≡ Frames Rooms
 frame = refl
 
-frame_of_texts : read_as (Either Texts) (codes "*") ≡ Frames Texts
+frame_of_texts : read_as (Either (Texts None)) (codes "*") ≡ Frames (Texts None)
 frame_of_texts = refl
 
-line : read_as (Either Texts) (codes "add 5\n") ≡ Lines
+line : read_as (Either (Texts None)) (codes "add 5\n") ≡ Lines
 line = refl
 
 nothing : read_as (Either Rooms) [] ≡ Either Rooms
@@ -47,5 +47,5 @@ not_unread : (naming : Naming) (exchanges : List Exchange) → CameFrom (Either 
 not_unread naming exchanges came = let apart = came.1 in cc
 
 -- frames whose names are read otherwise
-not_as_texts : (exchanges : List Exchange) → CameFrom (Either Rooms) (codes "*") exchanges (Some (reader.Unread Texts)) → ⊥
+not_as_texts : (exchanges : List Exchange) → CameFrom (Either Rooms) (codes "*") exchanges (Some (reader.Unread (Texts None))) → ⊥
 not_as_texts exchanges came = let apart = came.0 in cc

@@ -362,7 +362,7 @@ impl Conversation {
         self.ended = end_by(self.replies.as_slice());
         pass_over(&mut self.under, count);
         self.ready -= count;
-        self.told += count as u64;
+        self.told = self.lines - self.under.len() as u64;
         self.exchanges.pass();
         Ok(true)
     }

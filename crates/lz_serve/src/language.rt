@@ -8,7 +8,7 @@ use lz_resp::Naming;
 const STAR: u8 = b'*';
 
 /// What a client's text and its replies are written in.
-#[derive(Clone, Copy, Debug, PartialEq, Eq)]
+#[derive(Clone, Copy, Debug)]
 pub enum Language {
     /// Lines, with a line for each reply.
     Lines,

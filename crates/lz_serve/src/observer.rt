@@ -10,7 +10,7 @@ use std::time::Duration;
 use std::{fmt, io};
 
 /// What a service stands on.
-#[derive(Clone, Copy, Debug, PartialEq, Eq)]
+#[derive(Clone, Copy, Debug)]
 pub struct Serving {
     pub slots: usize,
     /// How many members the set begins with.
@@ -22,7 +22,7 @@ pub struct Serving {
 }
 
 /// Loops that serve a set together.
-#[derive(Clone, Copy, Debug, PartialEq, Eq)]
+#[derive(Clone, Copy, Debug)]
 pub struct Loops {
     pub count: usize,
     /// How many connections they serve at once, all together.

@@ -13,7 +13,7 @@ pub const MOST_CONNECTIONS: usize = 10_000;
 pub const MOST_THREADS: usize = 64;
 
 /// How a set is served.
-#[derive(Clone, Copy, Debug, PartialEq, Eq)]
+#[derive(Clone, Copy, Debug)]
 pub struct ServeOptions {
     /// The port of the loopback interface; 0 for any that is free.
     pub port: u16,

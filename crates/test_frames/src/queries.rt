@@ -6,7 +6,7 @@ use std::test::Fail;
 
 #[test]
 fn queries_are_told_by_the_service(rt: HostRuntime) -> Result<(), Fail> {
-    let mut frames = Frames::new(rt.alloc(), Naming::Texts);
+    let mut frames = Frames::new(rt.alloc(), Naming::Texts(None));
     let mut items = VecDeque::new(rt.alloc());
     frames.feed_into(
         b"dbsize\r\nINFO\r\nINFO keyspace\r\nSHUTDOWN NOSAVE\r\n",

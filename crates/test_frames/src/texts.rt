@@ -1,7 +1,7 @@
 //! Texts as keys. The numbers are those of Python's hashlib.
 use crate::frames::{is_asking, is_saying};
 use lz_proto::Request;
-use lz_resp::{Form, Frames, Naming};
+use lz_resp::{Form, Frames, Naming, Secret};
 use lz_slot::Key;
 use std::collections::VecDeque;
 use std::test::Fail;
@@ -17,7 +17,7 @@ sadd myset element:000000412558\r\nsadd ab c\r\nsadd a bc\r\n*3\r\n$4\r\nSADD\r\
         828_760_502_949_312_972,
         154_794_294_414_118_701,
     ];
-    let mut frames = Frames::new(rt.alloc(), Naming::Texts);
+    let mut frames = Frames::new(rt.alloc(), Naming::Texts(None));
     let mut items = VecDeque::new(rt.alloc());
     frames.feed_into(text, &mut items)?;
     for number in numbers {
@@ -31,7 +31,7 @@ sadd myset element:000000412558\r\nsadd ab c\r\nsadd a bc\r\n*3\r\n$4\r\nSADD\r\
 
 #[test]
 fn the_longest_words_are_a_key(rt: HostRuntime) -> Result<(), Fail> {
-    let mut frames = Frames::new(rt.alloc(), Naming::Texts);
+    let mut frames = Frames::new(rt.alloc(), Naming::Texts(None));
     let mut items = VecDeque::new(rt.alloc());
     frames.feed_into(b"*3\r\n$9\r\nSISMEMBER\r\n$512\r\n", &mut items)?;
     frames.feed_into([b'n'; 512].as_slice(), &mut items)?;
@@ -46,7 +46,7 @@ fn the_longest_words_are_a_key(rt: HostRuntime) -> Result<(), Fail> {
 
 #[test]
 fn keys_of_no_set_have_the_name_of_no_bytes(rt: HostRuntime) -> Result<(), Fail> {
-    let mut frames = Frames::new(rt.alloc(), Naming::Texts);
+    let mut frames = Frames::new(rt.alloc(), Naming::Texts(None));
     let mut items = VecDeque::new(rt.alloc());
     frames.feed_into(b"select 9\r\nexists a 5\r\n", &mut items)?;
     frames.feed_into(b"*3\r\n$5\r\nSETNX\r\n$0\r\n\r\n$1\r\n1\r\n", &mut items)?;
@@ -62,5 +62,35 @@ fn keys_of_no_set_have_the_name_of_no_bytes(rt: HostRuntime) -> Result<(), Fail>
     let stored = items.pop_front().ok_or("an item")?;
     let empty = Key::new(634_128_529_936_681_850).ok_or("a key")?;
     assert!(rt; is_asking(&stored, Form::Added, [Request::Add(empty)].as_slice()));
+    Ok(())
+}
+
+#[test]
+fn a_secret_comes_before_each_text(rt: HostRuntime) -> Result<(), Fail> {
+    let secret = Secret::new(b"0123456789abcdef").ok_or("a secret")?;
+    let kept: &'static Secret = Box::leak(Box::new(rt.alloc(), secret)?);
+    let mut frames = Frames::new(rt.alloc(), Naming::Texts(Some(kept)));
+    let mut items = VecDeque::new(rt.alloc());
+    frames.feed_into(
+        b"sismember s m\r\n*2\r\n$6\r\nEXISTS\r\n$0\r\n\r\n",
+        &mut items,
+    )?;
+    for number in [237_516_734_950_140_737, 662_356_793_739_318_433] {
+        let item = items.pop_front().ok_or("an item")?;
+        let key = Key::new(number).ok_or("a key")?;
+        assert!(rt; is_asking(&item, Form::Found, [Request::Has(key)].as_slice()));
+    }
+    Ok(())
+}
+
+#[test]
+fn a_secret_is_a_block_at_most(rt: HostRuntime) -> Result<(), Fail> {
+    let mut bytes = [7; 65];
+    assert!(rt; Secret::new(&bytes).is_none());
+    assert!(rt; Secret::new(&bytes[..15]).is_none());
+    let secret = Secret::new(&bytes[..64]).ok_or("a secret")?;
+    assert_eq!(rt; secret.number(), 7_853_973_437_245_374_273);
+    bytes[63] = 0;
+    assert!(rt; Secret::new(&bytes[..64]).is_none());
     Ok(())
 }

@@ -40,7 +40,7 @@ fn nothing_is_asked_until_a_transaction_ends(rt: HostRuntime) -> Result<(), Fail
 
 #[test]
 fn a_transaction_is_discarded_or_reset(rt: HostRuntime) -> Result<(), Fail> {
-    let mut frames = Frames::new(rt.alloc(), Naming::Texts);
+    let mut frames = Frames::new(rt.alloc(), Naming::Texts(None));
     let mut items = VecDeque::new(rt.alloc());
     frames.feed_into(b"multi\r\ndiscard\r\nDISCARD\r\nEXEC\r\n", &mut items)?;
     frames.feed_into(b"MULTI\r\nMULTI\r\nreset\r\nping\r\n", &mut items)?;

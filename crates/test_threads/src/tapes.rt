@@ -2,7 +2,9 @@
 ghost use Rattle.std.specs.Prelude.{◌≡◌, []};
 ghost use Rattle.lz_board.specs.Seats.{part};
 ghost use Rattle.lz_disk.specs.Records.{device_of};
+ghost use Rattle.lz_serve.specs.Grants.{Promises};
 ghost use Rattle.lz_serve.specs.Halts.{IsCalmAfter};
+ghost use Rattle.lz_serve.specs.Streams.{IsFresh};
 ghost use Rattle.lz_set.specs.Blanks.{MayBeNamed};
 ghost use Rattle.lz_set.specs.Names.{MayCall};
 
@@ -191,7 +193,24 @@ fn serve_tape<N: Named, B: Given, R: Wait + Clock>(
     requires calm { IsCalmAfter B.parts pass }
     ensures { MayCall N.board result }
 {
-    let mut client = Client::new(alloc, 1, Tape::<N>::new(alloc, text, out));
+    serve_stream::<Tape<N>, N, B, R>(rt, alloc, set, pass, Tape::<N>::new(alloc, text, out))
+}
+
+// The same of a client on any connection.
+fn serve_stream<S: Stream, N: Named, B: Given, R: Wait + Clock>(
+    rt: &R,
+    alloc: Global,
+    set: &Set<MemoryDisk, NoGate, N>,
+    pass: Pass,
+    stream: S,
+) -> Pass
+    requires may_call { MayCall N.board pass }
+    requires calm { IsCalmAfter B.parts pass }
+    requires fresh { IsFresh (S.traffic stream) }
+    requires promised { Promises N.board N.format S.promised S.listed }
+    ensures { MayCall N.board result }
+{
+    let mut client = Client::new(alloc, 1, stream);
     let mut free = FreePass::<N, B>::new(pass, false);
     serve_client(rt, set, &mut client, &mut free, &Deaf);
     let (pass, _) = free.into_parts();

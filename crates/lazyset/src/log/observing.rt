@@ -3,6 +3,7 @@ use crate::identity::process;
 use crate::level::Level;
 use crate::log::{Log, Stoppable};
 use crate::many::Many;
+use crate::shape::Shape;
 use crate::watched::Watched;
 use lazyset_arguments::{MAJOR, MINOR};
 use lazyset_set_commands::format_number;
@@ -34,7 +35,7 @@ where
             None => serving.passes,
         };
         self.places.store(places, Ordering::SeqCst);
-        let _ = self.serving.set(self.rt, serving);
+        let _ = self.shape.set(self.rt, Shape::of(&serving));
         self.gauge.begin(serving.slots, serving.members);
         self.tell_opened();
         let serving = Serving {
@@ -63,7 +64,7 @@ where
     }
 
     fn threadless(&self) {
-        if let Some(Serving { loops: Some(_), .. }) = self.serving.get() {
+        if self.shape().loops > 0 {
             self.lacks_loop.store(true, Ordering::SeqCst);
             if self.begin_end() {
                 self.say(
@@ -140,7 +141,7 @@ where
     }
 
     fn figures(&self) -> Figures {
-        let (buckets, passes, loops) = self.shape();
+        let shape = self.shape();
         let age = self.age().unwrap_or(Duration::ZERO);
         let (answered, slots) = (self.tally.all(), self.gauge.slots());
         Figures {
@@ -166,10 +167,10 @@ where
             used_bytes: self.gauge.members().saturating_mul(SLOT_BYTES),
             most_bytes: slots.saturating_mul(SLOT_BYTES),
             members: self.members(),
-            marks: self.marks(),
-            buckets,
-            passes,
-            loops,
+            marks: shape.marks,
+            buckets: shape.buckets,
+            passes: shape.passes,
+            loops: shape.loops,
         }
     }
 

@@ -1,5 +1,5 @@
 use Rattle.lazyset_set_commands.proofs.found.found_in.Goals as goal
-use Rattle.std.proofs.Common.{rules, ◌≡◌, ◌∙◌, ◌+◌, ◌*◌, ◌/◌, ℕ, IsTrue, ap, arith, drop, length, length-append, length-drop, length-take, refl, subst, sym, take}
+use Rattle.std.proofs.Common.{rules, ◌≡◌, ◌∙◌, ◌+◌, ◌*◌, IsTrue, ap, arith, drop, length, length-append, length-drop, length-take, refl, subst, sym, take}
 use Rattle.std.specs.Prelude.{slice_range}
 use Rattle.lz_slot.specs.{Bytes.{slot_at}, declared.format.Format.{Format}}
 use Rattle.lz_disk.{specs.Images.{Medium}, proofs.Moments.{quiet}}
@@ -31,5 +31,5 @@ loop-done-preserved g c =
           let bytes = subst (λ (m : Medium). buffer ≡ slice_range m.seen (16 + 16 * done) (16 + 16 * done + length front)) (c.loop-done.invariant.reads.medium honest) (c.in_default.ensures.bytes still) in
           let fits = c.requires.file honest in
           let says = subst (λ (f : Format). SaysPiece f (slot_at t) done buffer) (sym (c.requires.format honest)) (piece_says t buffer done done (length front) refl c.read.auto.buffer (omega (arith, fits, long, c.read.auto.buffer)) bytes) in
-          c.with_piece-found.ensures (slot_at t) done says (c.loop-done.invariant.found honest) ∙ ap (found_below (slot_at t)) (omega (arith, long));
+          c.with_piece-found.ensures (slot_at t) done says (c.loop-done.invariant.found honest) ∙ ap (found_below c.args.own.now (slot_at t)) (omega (arith, long));
     }

@@ -9,7 +9,7 @@ invariant-loop-done g l = record {
   range : l.done ≤ l.header.slots;
   room : length l.piece ≡ 16384;
   reads : OnlyReads (g.D.Disk.device l.initial.disk) (g.D.Disk.device l.disk);
-  found : IsTrue (g.D.Disk.device l.initial.disk).honest → l.found ≡ found_below (slot_at (g.D.Disk.device l.initial.disk).medium.seen) l.done;
+  found : IsTrue (g.D.Disk.device l.initial.disk).honest → l.found ≡ found_below l.own (slot_at (g.D.Disk.device l.initial.disk).medium.seen) l.done;
 }
 
 abbrev pub decreases-loop-done : goal.decreases-loop-done

@@ -1,7 +1,7 @@
 use Rattle.lazyset_set_commands.proofs.found.found_keys.Goals as goal
-use Rattle.std.proofs.{Common.{◌≡◌, Bool, true, refl, Ok, Option, IsTrue, ap, arith, subst, sym}, lemmas.Bool.{false≢true}}
+use Rattle.std.proofs.{Common.{◌≡◌, Bool, true, refl, Ok, Option, IsTrue, ap, subst, sym}, lemmas.Bool.{false≢true}}
 use Rattle.lz_slot.specs.declared.header.Header.{Header}
-use Rattle.lz_vault.{specs.declared.opening.OpenFault.TheVariants.{Device}, proofs.Openings.{reads_then, refused}}
+use Rattle.lz_vault.proofs.Openings.{reads_then}
 use Rattle.lazyset_set_commands.proofs.FoundKeys.{found_tells, holds_synced, looked, unsynced}
 
 pub returns-in-Err-clause-reads : goal.returns-in-Err-clause-reads
@@ -24,7 +24,7 @@ returns-in-Ok-clause-free g c = λ bound. false≢true (c.in_default.ensures.cal
 pub returns-in-Ok-clause-keys : goal.returns-in-Ok-clause-keys
 returns-in-Ok-clause-keys g c = λ N S honest holds.
     found_tells (g.D.Disk.device c.args.disk.now) (g.D.Disk.device c.sync.new.self) (g.D.Disk.device c.head_of.new.disk) N S honest c.in_default.ensures.call.honest c.in_default.ensures.synced holds
-    c.head_of.ensures.reads c.in-Ok-Some.header.slots c.in-Ok.found (λ still. (rw c.in-Ok-Some.field-0-is at (c.in-Ok-Some.ensures.some still)).0) c.in-Ok.ensures.found
+    c.head_of.ensures.reads c.args.own.now c.in-Ok-Some.header.slots c.in-Ok.found (λ still. (rw c.in-Ok-Some.field-0-is at (c.in-Ok-Some.ensures.some still)).0) c.in-Ok.ensures.found
 
 pub returns-in-Ok-None-clause-reads : goal.returns-in-Ok-None-clause-reads
 returns-in-Ok-None-clause-reads g c = (looked _ _ _ _ (g.met.D.Disk.timely c.args.disk.now) c.in_default.ensures.call (λ is. false≢true is) c.in_default.ensures.synced c.head_of.ensures.reads).0

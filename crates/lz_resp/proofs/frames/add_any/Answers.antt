@@ -18,7 +18,7 @@ returns-in-Ok-None-clause-ok c =
 
 pub returns-in_ok-push_back-in-Err-Faulty-clause-ok : goal.returns-in_ok-push_back-in-Err-Faulty-clause-ok
 returns-in_ok-push_back-in-Err-Faulty-clause-ok c =
-    let told : c.in_ok-fault_text-in-Err-Faulty.field-0 ≡ fault_text c.in-Err-Faulty.fault = rw c.in-Err-Faulty.field-0-is at c.in_ok-fault_text-in-Err-Faulty.ensures in (
+    let told : c.in_ok-fault_text-in-Err-Faulty.field-0 ≡ fault_text c.in-Err-Faulty.fault = c.in_ok-fault_text-in-Err-Faulty.ensures in (
       Ends c.in_ok-fault_text-in-Err-Faulty.field-0 ∷ [],
       first_wrong c.args.state c.args.text.now c.in-Err-Faulty.fault (rw c.in-Err-Faulty.field-0-is at c.in-Err-Faulty.ensures.gives)
           ∙ ap (λ (t : List ℕ). stops (Ends t ∷ [])) (sym told),

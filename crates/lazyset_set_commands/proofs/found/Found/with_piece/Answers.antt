@@ -9,10 +9,10 @@ loop-index-preserved c = record {
       let index = c.loop-index.index in
       let said : c.read_slot.result ≡ says (n + index) = c.read_slot.ensures ∙ ap (slot_read c.args.format) c.copy_from_slice.ensures.after ∙ sym (piece index (omega arith)) in
       let next : suc (n + index) ≡ n + (index + 1) = omega arith in
-      c.with_slot-found.ensures ∙ (λ i. with_slot (c.loop-index.invariant.found says n piece before i) (said i)) ∙ ap (found_below says) next;
+      c.with_slot-found.ensures ∙ (λ i. with_slot c.args.own.now (c.loop-index.invariant.found says n piece before i) (said i)) ∙ ap (found_below c.args.own.now says) next;
 }
 
 pub returns : goal.returns
 returns c = λ says n piece before.
     let at_end : c.loop-index.index ≡ length c.args.piece.now / 16 = search rules in
-    c.loop-index.invariant.found says n piece before ∙ ap (λ (k : ℕ). found_below says (n + k)) at_end
+    c.loop-index.invariant.found says n piece before ∙ ap (λ (k : ℕ). found_below c.args.own.now says (n + k)) at_end

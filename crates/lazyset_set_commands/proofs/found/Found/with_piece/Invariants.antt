@@ -5,4 +5,4 @@ use Rattle.lz_vault.specs.Scans.{SaysPiece}
 use Rattle.lazyset_set_commands.specs.Founds.{found_below}
 
 abbrev pub invariant-loop-index : goal.invariant-loop-index
-invariant-loop-index l = record { found : (says : ℕ → SlotRead) (n : ℕ) → SaysPiece l.format says n l.piece → l.initial.found ≡ found_below says n → l.found ≡ found_below says (n + l.index) }
+invariant-loop-index l = record { found : (says : ℕ → SlotRead) (n : ℕ) → SaysPiece l.format says n l.piece → l.initial.found ≡ found_below l.own says n → l.found ≡ found_below l.own says (n + l.index) }
