@@ -3,7 +3,7 @@ use Rattle.lz_serve.specs.declared.language.Language.TheVariants.{Lines, Frames,
 use Rattle.lz_serve.specs.declared.reader.Reader.TheVariants as reader
 use Rattle.std.proofs.Common.{◌≡◌, ℕ, List, [], Option, Some, None, codes, refl}
 use Rattle.lz_resp.specs.{declared.naming.Naming.{Naming, TheVariants.{Rooms, Texts}}, Pieces.{Place}}
-use Rattle.lz_serve.specs.{declared.language.Language.{Language}, Exchanges.{CameFrom, Exchange, read_as}}
+use Rattle.lz_serve.specs.{Exchanges.{CameFrom, Exchange, read_as}}
 
 frame : read_as (Either Rooms) (codes "*1\r\n$4\r\nPING\r\n") ≡ Frames Rooms
 frame = refl

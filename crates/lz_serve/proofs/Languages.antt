@@ -1,10 +1,10 @@
 -- The language in which a text is read.
 use Rattle.lz_serve.specs.declared.language.Language.TheVariants as language
 use Rattle.lz_serve.specs.declared.reader.Reader.TheVariants as reader
-use Rattle.std.specs.Prelude.{◌≡◌, ℕ, Bool, true, false, List, [], ◌∷◌, ◌++◌, ◌==◌, if◌then◌else◌, Option, Some, None}
+use Rattle.std.specs.Prelude.{◌≡◌, ℕ, Bool, true, false, List, [], ◌∷◌, ◌++◌, ◌==◌, if◌then◌else◌, Some, None}
 use Rattle.std.proofs.Common.{refl, sym, ap, subst, ◌∙◌}
 use Rattle.lz_resp.specs.declared.naming.Naming.{Naming}
-use Rattle.lz_serve.specs.{declared.{language.Language.{Language}, reader.Reader.{Reader}}, Exchanges.{CameFrom, CameOfAll, EitherIsAsRead, Exchange, read_as}}
+use Rattle.lz_serve.specs.{declared.{language.Language.{Language}}, Exchanges.{CameOfAll, EitherIsAsRead, read_as}}
 
 -- the language that a text's first byte has told
 abbrev told : Bool → Naming → Language

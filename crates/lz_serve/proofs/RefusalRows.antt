@@ -5,7 +5,7 @@ use Rattle.lz_serve.specs.Exchanges as exchange
 use Rattle.std.proofs.Common.{◌≡◌, ◌++◌, ◌+◌, ℕ, suc, true, false, nat_eq, get_or, List, [], ◌∷◌, Option, Some, None, is_none, length, map, refl, sym, ap, subst, ◌∙◌, arith, codes, append_assoc}
 use mathlib.Core.Bool.{true≢false}
 use Rattle.std.proofs.lemmas.Bool.Decides.{nat_tests}
-use Rattle.lz_proto.specs.declared.{request.Request.{Request, TheVariants.{Add, Remove, Has, Quit}}, item.Item.{Item, TheVariants.{Asks, Faulty}}, reply.Reply.{Reply, TheVariants.{Yes, No, Full, Halted, Worn, OldFile}}}
+use Rattle.lz_proto.specs.declared.{request.Request.{TheVariants.{Add, Remove, Has, Quit}}, item.Item.{Item, TheVariants.{Asks, Faulty}}, reply.Reply.{Reply, TheVariants.{Yes, No, Full, Halted, Worn, OldFile}}}
 use Rattle.lz_proto.specs.{declared.fault.Bad.TheVariants.{NoNumber}, Lines.{Items, nothing}, Pieces.{Reads}, Sessions.{Serves, session_text}}
 use Rattle.lz_proto.proofs.Texts.{only}
 use Rattle.lz_resp.specs.declared.{form.Form.TheVariants.{Added}, query.Query.{Query}, scan.Scan.{Scan}}

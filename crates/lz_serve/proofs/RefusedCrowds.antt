@@ -1,5 +1,5 @@
 -- The clients of a service that stops, of which the first ones were refused what they had that wasn't begun.
-use Rattle.std.proofs.Common.{◌≡◌, ◌⊎◌, ◌≤◌, ◌<◌, ◌+◌, inl, inr, ℕ, zero, suc, List, [], ◌∷◌, Option, Some, None, IfSome, length, slice_get, refl, sym, ap, subst, ◌∙◌, arith}
+use Rattle.std.proofs.Common.{◌≡◌, ◌⊎◌, ◌≤◌, ◌<◌, ◌+◌, inl, inr, ℕ, zero, suc, List, [], ◌∷◌, Option, None, IfSome, length, slice_get, refl, sym, ap, subst, ◌∙◌, arith}
 use Rattle.std.proofs.lemmas.Bool.{cases_lt, cases_order}
 use Rattle.lz_serve.{specs.Clients.{Asker, Askers, ChangesAt, Keeps, RefusesAt, RefusesOf}, proofs.Crowds.{keeps_same, keeps_then}}
 

@@ -1,6 +1,6 @@
 use Rattle.lz_serve.proofs.crowd.Crowd.stop.Goals as goal
-use Rattle.std.proofs.{Common.{ℕ, List, Option, refl, ap, sym, ◌∙◌, arith, length}, lemmas.List.{length-map}}
-use Rattle.lz_serve.{specs.Clients.{Asker, Askers}, proofs.RefusedCrowds.{refused_all, refused_none, refused_one}}
+use Rattle.std.proofs.{Common.{refl, ap, sym, ◌∙◌, arith, length}, lemmas.List.{length-map}}
+use Rattle.lz_serve.{specs.Clients.{Askers}, proofs.RefusedCrowds.{refused_all, refused_none, refused_one}}
 
 pub loop-token-init : goal.loop-token-init
 loop-token-init g c = refused_none c.args.self.now c.args.self.now refl
