@@ -19,7 +19,7 @@ last_mode = 511
 
 -- its numbers and its format are those with which the command may be run
 abbrev pub IsWithin : Request → Type 0
-IsWithin (MakeKeys new texts_of) = IfSome texts_of (λ name. (last_room_of new.format ≡ last_room) × (length name.now ≤ most_argument))
+IsWithin (MakeKeys new texts_of) = IfSome texts_of (λ texts. (last_room_of new.format ≡ last_room) × (length texts.name.now ≤ most_argument))
 IsWithin (Renew old new) = last_room_of new.format ≡ last_room
 IsWithin (Grow file slots format) = IfSome format (λ f. last_room_of f ≡ last_room)
 IsWithin (Copy wish) = IfSome wish.format (λ f. last_room_of f ≡ last_room)

@@ -3,6 +3,7 @@
 
 mod command;
 mod given;
+mod ids;
 mod misfit;
 mod refusal;
 mod request;
@@ -13,5 +14,5 @@ mod words;
 
 pub use command::{MAJOR, MINOR};
 pub use refusal::{Refusal, too_many_buckets};
-pub use request::{New, Request, Wish, read};
+pub use request::{New, Request, SetOfTexts, Wish, read};
 pub use service::{Chosen, Service};

@@ -7,11 +7,11 @@ ghost use Rattle.lazyset_arguments.specs.Requests.{IsWithin};
 
 use crate::command::command_line;
 use crate::given::Given;
+use crate::ids::{SECRET_ID, TEXT_ID};
 use crate::misfit::misfit;
 use crate::refusal::{Refusal, refusal_of};
 use crate::service::{Service, serve};
 use crate::values::{format_of, format_with_rooms, named_format, number, number_within, text};
-use crate::words::TEXT_ID;
 use clap::ArgMatches;
 use lz_resp::MOST_ARGUMENT;
 use lz_slot::{Format, LAST_ROOM, MOST_BUCKETS, MOST_REHEARSED};
@@ -24,6 +24,14 @@ pub struct New<'a> {
     pub file: &'a str,
     pub slots: u64,
     pub format: Format,
+}
+
+/// A set of texts, of which a file is to be made.
+#[derive(Clone, Copy)]
+pub struct SetOfTexts<'a> {
+    pub name: &'a str,
+    /// The path of the secret that is hashed before each text.
+    pub secret: Option<&'a str>,
 }
 
 /// A copy of what a running service holds.
@@ -43,9 +51,8 @@ pub struct Wish<'a> {
 #[derive(Clone, Copy)]
 pub enum Request<'a> {
     Make(New<'a>),
-    /// A making of a file that holds the keys of standard input. Where a name is given its lines are texts, members of the set of this name,
-    /// and no keys.
-    MakeKeys(New<'a>, Option<&'a str>),
+    /// A making of a file that holds the keys of standard input. Where a set of texts is given its lines are members of that, and no keys.
+    MakeKeys(New<'a>, Option<SetOfTexts<'a>>),
     /// A making of a file that holds the keys of the one that stands first.
     Renew(&'a str, New<'a>),
     /// A renewal into a new file that takes the old one's place.
@@ -67,6 +74,11 @@ pub enum Request<'a> {
     Stop {
         path: &'a str,
         within: u64,
+    },
+    /// Asks the service with this control socket to clear a room, and waits until it did.
+    Clear {
+        path: &'a str,
+        room: u8,
     },
     Info {
         file: &'a str,
@@ -102,6 +114,7 @@ impl fmt::Display for Request<'_> {
             Request::Run { file, .. } => write!(f, "run {file}"),
             Request::Serve(Service { file, .. }) => write!(f, "serve {file}"),
             Request::Stop { path, .. } => write!(f, "stop {path}"),
+            Request::Clear { path, .. } => write!(f, "clear {path}"),
             Request::Info { file } => write!(f, "info {file}"),
             Request::Check { file, .. } | Request::Keys { file } => write!(f, "check {file}"),
             Request::Judge { file } => write!(f, "judge {file}"),
@@ -135,6 +148,7 @@ fn request_of<'a>(matches: &ArgMatches<'a>) -> Option<Request<'a>>
         ("grow", words) => grow(words),
         ("copy", words) => copy(words),
         ("stop", words) => stop(words),
+        ("clear", words) => clear(words),
         ("info", words) => info(words),
         ("check", words) => check(words),
         ("judge", words) => judge(words),
@@ -156,7 +170,10 @@ fn make<'a>(words: &ArgMatches<'a>) -> Option<Request<'a>>
         return Some(Request::Make(new));
     }
     let texts_of = match text(words, TEXT_ID) {
-        Some(name) => Some(name_of_texts(name, new.format)?),
+        Some(name) => Some(SetOfTexts {
+            name: name_of_texts(name, new.format)?,
+            secret: text(words, SECRET_ID),
+        }),
         None => None,
     };
     Some(Request::MakeKeys(new, texts_of))
@@ -226,6 +243,15 @@ fn stop<'a>(words: &ArgMatches<'a>) -> Option<Request<'a>>
     Some(Request::Stop {
         path: text(words, "PATH")?,
         within: number(words, "within")?,
+    })
+}
+
+fn clear<'a>(words: &ArgMatches<'a>) -> Option<Request<'a>>
+    ensures { IfSome result IsWithin }
+{
+    Some(Request::Clear {
+        path: text(words, "PATH")?,
+        room: u8::try_from(number(words, "ROOM")?).ok()?,
     })
 }
 

@@ -4,12 +4,12 @@ ghost use Rattle.lz_slot.specs.Limits.{most_buckets};
 ghost use Rattle.lz_serve.specs.Options.{most_connections};
 ghost use Rattle.lazyset_arguments.specs.Requests.{ArePasses, AreWithin, IsWithin};
 
-use crate::request::Request;
-use crate::values::{named_mode, number, number_within, text};
-use crate::words::{
+use crate::ids::{
     ADOPT, CONNECTIONS_ID, CONTROL_ID, LINES_ID, NUMBERS_ID, PASSES_ID, RESP_ID, SECRET_ID,
     SOCKET_ID, SOCKET_MODE_ID, TEXT_ID,
 };
+use crate::request::Request;
+use crate::values::{named_mode, number, number_within, text};
 use clap::ArgMatches;
 use lz_resp::Naming;
 use lz_serve::{Language, Loops, MOST_CONNECTIONS, MOST_THREADS, ServeOptions};

@@ -2,8 +2,8 @@
 use crate::words::{
     ADDRESS, BUCKETS, CONNECTIONS, CONTROL, CONTROLLED, COPIED_FORMAT, COPIED_SLOTS, FILE, FORMAT,
     GROWN_FORMAT, HISTORY, IDLE, KEYS, LINES, LIST, LOOPS, NEW, NO_LOCK, NUMBERS, OF, OLD, PASSES,
-    PORT, REHEARSED, REPLACE, RESP, ROOMY_FORMAT, SECRET, SERVED_BUCKETS, SESSIONS, SLOTS, SOCKET,
-    SOCKET_MODE, TEXT, TEXTS_OF, UNTIL_EOF, WITHIN, Word,
+    PORT, REHEARSED, REPLACE, RESP, ROOM, ROOMY_FORMAT, SECRET, SECRET_OF, SERVED_BUCKETS,
+    SESSIONS, SLOTS, SOCKET, SOCKET_MODE, TEXT, TEXTS_OF, UNTIL_EOF, WITHIN, Word,
 };
 
 /// A command.
@@ -43,12 +43,12 @@ pub(crate) const SERVICE: &[Word] = &[
 ];
 
 /// The commands, as the help lists them.
-pub const SHEETS: [Sheet; 11] = [
+pub const SHEETS: [Sheet; 12] = [
     Sheet {
         name: "make",
         about: "Makes a file that holds the empty set, or the keys of standard input. It overwrites any file that isn't a set, unless that is longer",
-        notes: "Prints `made SLOTS`, or `refused N`: 1 it is a set already, 2 bad number of slots, 3 the device failed, 4 the file is longer than the new one. A file that can't be had, or isn't a regular one, is `nofile`.\n\nWith --keys the file holds the keys of standard input, one a line, as `17` or `3:17`: what `check FILE --keys` prints. Where line L holds no key that the format has it prints `line L`, where its key stands in a line above `twice L`, and `refused 9 M S` where M keys have no room in S slots. Nothing is made then.\n\nWith --keys --text NAME each line is a text of 512 bytes at most, a member of the set NAME for `serve --text`; one that stands there twice counts once, and the file's mark takes a slot (format 1 has none).\n\nExample: lazyset make f 1000",
-        words: &[FILE, SLOTS, FORMAT, LIST, TEXTS_OF],
+        notes: "Prints `made SLOTS`, or `refused N`: 1 it is a set already, 2 bad number of slots, 3 the device failed, 4 the file is longer than the new one. A file that can't be had, or isn't a regular one, is `nofile`.\n\nWith --keys the file holds the keys of standard input, one a line, as `17` or `3:17`: what `check FILE --keys` prints. Where line L holds no key that the format has it prints `line L`, where its key stands in a line above `twice L`, and `refused 9 M S` where M keys have no room in S slots. Nothing is made then.\n\nWith --keys --text NAME each line is a text of 512 bytes at most, a member of the set NAME for `serve --text`; one that stands there twice counts once, and the file's mark takes a slot (format 1 has none). With --secret PATH the keys are those of `serve --text --secret PATH`, and a second mark takes a slot; where the secret can't be had it prints `nosecret`, and nothing is made.\n\nExample: lazyset make f 1000",
+        words: &[FILE, SLOTS, FORMAT, LIST, TEXTS_OF, SECRET_OF],
     },
     Sheet {
         name: "renew",
@@ -85,6 +85,12 @@ pub const SHEETS: [Sheet; 11] = [
         about: "Stops a service in order: it begins no further command, and answers those that are under way",
         notes: "Ends once the service's file and port are free. Where that takes more than SECONDS the service goes on stopping, and the status is 1.\n\nExample: lazyset stop f.control, where the service was started with --control f.control",
         words: &[CONTROLLED, WITHIN],
+    },
+    Sheet {
+        name: "clear",
+        about: "Has a running service remove the keys of a room, while it serves",
+        notes: "Prints `cleared N`, once N keys were removed and each removal is durable. Keys that are added to the room meanwhile may be removed or stay. A service clears one room at a time: another is told so, and the status is 1. One of texts clears none, nor does one without --connections.\n\nExample: lazyset clear f.control 3, where the service was started with --control f.control",
+        words: &[CONTROLLED, ROOM],
     },
     Sheet {
         name: "info",

@@ -1,4 +1,8 @@
 //! The words of the commands, as a table.
+use crate::ids::{
+    ADOPT, CONNECTIONS_ID, CONTROL_ID, LINES_ID, NUMBERS_ID, PASSES_ID, RESP_ID, SECRET_ID,
+    SOCKET_ID, SOCKET_MODE_ID, TEXT_ID,
+};
 use lz_serve::{MOST_CONNECTIONS, MOST_THREADS};
 use lz_slot::{MOST_BUCKETS, MOST_REHEARSED};
 
@@ -44,40 +48,6 @@ pub struct Word {
     pub help: &'static str,
 }
 
-/// What stands last among a service's words that have places of their own.
-pub const PASSES_ID: &str = "PASSES";
-
-/// The options by which a service speaks one protocol alone.
-pub const RESP_ID: &str = "resp";
-
-pub const LINES_ID: &str = "lines";
-
-/// The option by which it serves many connections.
-pub const CONNECTIONS_ID: &str = "connections";
-
-/// The option by which it takes any keys for numbers.
-pub const NUMBERS_ID: &str = "numbers";
-
-/// The option by which it is asked to stop.
-pub const CONTROL_ID: &str = "control";
-
-/// The option by which it listens at a path.
-pub const SOCKET_ID: &str = "socket";
-
-/// What stands in the place of a port then.
-pub const NO_PORT: &[&str] = &["-"];
-
-/// The option for the mode of both sockets.
-pub const SOCKET_MODE_ID: &str = "socket-mode";
-
-/// The option by which names and members are texts, and what marks an older file of theirs.
-pub const TEXT_ID: &str = "text";
-
-pub const ADOPT: &str = "adopt";
-
-/// The option for the file of a secret.
-pub const SECRET_ID: &str = "secret";
-
 pub(crate) const FILE: Word = Word {
     id: "FILE",
     value_name: None,
@@ -89,38 +59,25 @@ pub(crate) const FILE: Word = Word {
 
 pub(crate) const OLD: Word = Word {
     id: "OLD",
-    value_name: None,
-    form: Form::Text,
-    default: None,
-    beside: Beside::Anything,
     help: "The slot file whose keys are read; it is left as it is",
+    ..FILE
 };
 
 pub(crate) const ADDRESS: Word = Word {
     id: "ADDRESS",
-    value_name: None,
-    form: Form::Text,
-    default: None,
-    beside: Beside::Anything,
     help: "Where the service listens: PORT, HOST:PORT, or the path of its socket",
+    ..FILE
 };
 
 pub(crate) const NEW: Word = Word {
     id: "NEW",
-    value_name: None,
-    form: Form::Text,
-    default: None,
-    beside: Beside::Anything,
     help: "The slot file that is made",
+    ..FILE
 };
 
 pub(crate) const HISTORY: Word = Word {
-    id: "FILE",
-    value_name: None,
-    form: Form::Text,
-    default: None,
-    beside: Beside::Anything,
     help: "The history: the lines of a rehearsal, and `point I P` for call I",
+    ..FILE
 };
 
 pub(crate) const OF: Word = Word {
@@ -311,6 +268,11 @@ pub(crate) const SECRET: Word = Word {
     help: "Hashes the secret in this file before each text, so that nobody else can tell its key: 16 to 64 bytes, the last of them no zero, of a file that only its user can read. An empty file of a set is marked so; one of texts under another secret, or under none, is refused, `othersecret`. Frames alone are spoken then",
 };
 
+pub(crate) const SECRET_OF: Word = Word {
+    help: "Hashes the secret in this file before each text, as a service with the same --secret does, and marks the file as one of this secret",
+    ..SECRET
+};
+
 pub(crate) const NUMBERS: Word = Word {
     id: NUMBERS_ID,
     value_name: None,
@@ -390,6 +352,15 @@ pub(crate) const CONTROLLED: Word = Word {
     default: None,
     beside: Beside::Anything,
     help: "The socket that the service was given by --control",
+};
+
+pub(crate) const ROOM: Word = Word {
+    id: "ROOM",
+    value_name: None,
+    form: Form::Within(0, 15),
+    default: None,
+    beside: Beside::Anything,
+    help: "The room, 0 to 15",
 };
 
 pub(crate) const WITHIN: Word = Word {

@@ -9,6 +9,7 @@ pub mod Verdicts
 pub mod CompareRows
 pub mod Copied
 pub mod Listed
+pub mod AgainLines
 pub mod ListPieces
 pub mod OneList
 pub mod ListRows

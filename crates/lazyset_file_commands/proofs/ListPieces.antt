@@ -1,20 +1,22 @@
 -- A list of keys that is read in pieces.
 use Rattle.std.proofs.Common.{◌≡◌, ◌≢◌, inl, inr, ℕ, ◌+◌, ◌-◌, ◌<◌, ◌≤◌, List, [], ◌∷◌, ◌++◌, length, take, drop, false, true, Option, Some, None, refl, sym}
 use Rattle.std.proofs.{Common.{ap, subst, ◌∙◌, arith, append_assoc, length-append, decimal}, lemmas.Bool.{cond_both, Decides.{nat_tests}}}
-use Rattle.std.{proofs.lemmas.{Fmt.{length-decimal-le}, List.{append-nil, drop-drop, length-take, take_rest, Folds.{list_any-append}}}, specs.List.{IsDistinct}}
-use Rattle.std.specs.{Prelude.{IfErr, IfOk, IfSome, OnOk, map, Result, Ok, Err, nat_eq, ◌||◌}, Io.KnownBytes.{Consumes, IsAtEnd}}
+use Rattle.std.proofs.lemmas.{Fmt.{length-decimal-le}, List.{append-nil, drop-drop, length-take, take_rest, Folds.{list_any-append}}}
+use Rattle.std.specs.{Prelude.{IfErr, IfOk, IfSome, OnOk, map, option_map, Result, Ok, Err, nat_eq, ◌||◌}, Io.KnownBytes.{Consumes, IsAtEnd}}
 use Rattle.memchr.specs.Find.{IsFirstByte, is_byte}
 use Rattle.lz_slot.specs.{Rooms.{number_of, room_of}, Texts.{Spells}, declared.format.Format.{Format}, Sets.{members}}
 use Rattle.lz_slot.proofs.{Files.ExactBytes.{key_of_format}, Texts.Cuts.{cut_at, first_cut, lacks_more, stands}}
-use Rattle.lz_judge.specs.Places.{IsTable}
+use Rattle.lz_judge.specs.{Places.{IsTable}, declared.places.Places.{Places}}
 use Rattle.lz_proto.specs.Lines.{has_line_feed, line_feed, without_return}
+use Rattle.lz_resp.specs.Keys.{secret_number}
 use Rattle.lz_vault.specs.Makes.{MayBeMembers}
-use Rattle.lazyset_file_commands.specs.Lists.{Adds, AddsKey, AreKeysOf, HasFirstLine, HasNoKey, HasPlaceFor, IsLineFaultOf, IsListFaultOf, Lists, Named, keys}
-use Rattle.lazyset_file_commands.specs.{Lists.{texts, NamesKey, nothing, named_by}, Marks.{texts_mark}}
-use Rattle.lazyset_file_commands.specs.ListParts.{EndsWith, FailsAtEnd, FailsIn, GoesOn, HasRead, IsLike, IsOpenList, IsUnread, Leaves, named_in}
-use Rattle.lazyset_file_commands.specs.declared.{list.{KeyList.{KeyList}, ListFault.{ListFault, TheVariants.{Line, Twice, Read, Memory}}}, lines.Lines.{Lines}}
-use Rattle.lazyset_file_commands.{specs.declared.lines.Lines.TheVariants.{Keys, Texts}, proofs.Listed.{one_more}}
-use Rattle.lz_scan_client.{specs.Told.{AreOnce}, proofs.OneEach.{none_told, none_twice, told_more}}
+use Rattle.lazyset_file_commands.specs.Lists.{Adds, AddsKey, AddsText, AreApart, AreKeysOf, HasFirstLine, HasNoKey, HasPlaceFor, IsFaultAfter, IsLineFaultOf}
+use Rattle.lazyset_file_commands.specs.{Lists.{IsListFaultOf, Lists, Named, keys, texts, NamesKey, TellsAgain, nothing, named_by}, Marks.{marks_of, secret_mark, texts_mark}}
+use Rattle.lazyset_file_commands.specs.ListParts.{AreSoFar, EndsWith, FailsAtEnd, FailsIn, GoesOn, HasRead, HasTable, IsLike, IsOpenList, IsUnread, Leaves}
+use Rattle.lazyset_file_commands.specs.{ListParts.{Reads, named_in}, declared.list.{KeyList.{KeyList}, ListFault.{ListFault}}}
+use Rattle.lazyset_file_commands.specs.declared.{list.ListFault.TheVariants.{Line, Twice, Read, Memory}, lines.Lines.{Lines, TheVariants.{Keys, Texts}}}
+use Rattle.lazyset_file_commands.proofs.{Listed.{is_listed, one_more}, AgainLines.{again_fails, fault_after}}
+use Rattle.lz_scan_client.{specs.Told.{AreOnce}, proofs.OneEach.{none_told, told_more}}
 
 -- a line that goes on has no line feed where neither part has one
 pub clear_both : (line part : List ℕ) → has_line_feed line ≡ false → has_line_feed part ≡ false → has_line_feed (line ++ part) ≡ false
@@ -68,25 +70,16 @@ line_there (b ∷ line) rest is = cc
 -- the next line is at fault
 line_fails : (named : Named) (text line rest ks : List ℕ) (number : ℕ) (fault : ListFault) → Leaves named text (line ++ line_feed ∷ rest) ks number → has_line_feed line ≡ false
     → IsLineFaultOf named number line ks fault → IsListFaultOf named text fault
-line_fails named text line rest ks number (Line place) h clear (is, none) = record {
+line_fails named text line rest ks number (Line place) h clear (is, none, apart) = record {
   above = h.above;
   rest = line ++ line_feed ∷ rest;
   whole = h.whole;
   ks = ks;
-  lists = h.lists;
+  lists = is_listed named h.above ks h.lists apart;
   place = is ∙ h.place;
   fault = (line_there line rest, λ other k first names. none k (subst (λ (l : List ℕ). NamesKey named l k) (sym (only_line line rest other clear first)) names));
 }
-line_fails (keys format) text line rest ks number (Twice place) h clear (is, (k, names, has)) = record {
-  above = h.above;
-  rest = line ++ line_feed ∷ rest;
-  whole = h.whole;
-  ks = ks;
-  lists = h.lists;
-  place = is ∙ h.place;
-  fault = (line, k, (clear, (rest, refl)), names, has);
-}
-line_fails (texts name) text line rest ks number (Twice place) h clear why = absurd why
+line_fails named text line rest ks number (Twice place) h clear tells = again_fails named text h.above (line ++ line_feed ∷ rest) ks (Twice place) h.lists h.whole tells
 line_fails named text line rest ks number Read h clear why = tt
 line_fails named text line rest ks number Memory h clear why = tt
 
@@ -94,32 +87,60 @@ line_fails named text line rest ks number Memory h clear why = tt
 same_named : (old new : KeyList) → IsLike old new → named_in new ≡ named_in old
 same_named old new (format, lines) = λ i. named_by (format i) (lines i)
 
--- a key that was found
-pub is_again : (format : Format) (lines : Lines) (number : ℕ) (line ks : List ℕ) (k : ℕ) → lines ≡ Keys → NamesKey (named_by format lines) line k → members ks k ≡ true
-    → IsLineFaultOf (named_by format lines) number line ks (Twice number)
-is_again format lines number line ks k is names has =
-    subst (λ (l : Lines). IsLineFaultOf (named_by format l) number line ks (Twice number)) (sym is) (refl, (k, subst (λ (l : Lines). NamesKey (named_by format l) line k) is names, has))
+-- the key of a line that names none
+pub names_none : (named : Named) (number : ℕ) (line ks : List ℕ) (fault : ListFault) → ((k : ℕ) → ¬ NamesKey named line k) → IsFaultAfter named ks (Line number) fault → IsLineFaultOf named number line ks fault
+names_none named number line ks fault none (inl (is, apart)) = subst (IsLineFaultOf named number line ks) (sym is) (refl, none, apart)
+names_none named number line ks (Line place) none (inr tells) = absurd tells
+names_none named number line ks (Twice place) none (inr tells) = tells
+names_none named number line ks Read none (inr tells) = absurd tells
+names_none named number line ks Memory none (inr tells) = tt
+
+pub lacks_memory : (named : Named) (number : ℕ) (line ks : List ℕ) (r : Result (Unit {0}) ListFault) → IfErr r (λ fault. fault ≡ Memory) → IfErr r (IsLineFaultOf named number line ks)
+lacks_memory named number line ks (Ok done) is = tt
+lacks_memory named number line ks (Err fault) is = subst (IsLineFaultOf named number line ks) (sym is) tt
 
 abbrev pub AreTexts : Lines → Type 0
 AreTexts Keys = ⊥
-AreTexts (Texts name) = Unit {0}
+AreTexts (Texts secret name) = Unit {0}
 
-stays : (format : Format) (lines : Lines) (k : ℕ) (ks : List ℕ) → AreTexts lines → members ks k ≡ true → Adds (named_by format lines) k ks ks
-stays format Keys k ks none has = absurd none
-stays format (Texts name) k ks are has = inl (has, refl)
+-- keys have no table, and texts have one
+pub no_table : (lines : Lines) (ks : List ℕ) (seen : Places) → lines ≡ Keys → HasTable lines ks seen
+no_table lines ks seen is = subst (λ (l : Lines). HasTable l ks seen) (sym is) tt
 
-pub was_there : (format : Format) (lines : Lines) (line ks : List ℕ) (k : ℕ) → AreTexts lines → NamesKey (named_by format lines) line k → members ks k ≡ true → AddsKey (named_by format lines) line ks ks
-was_there format lines line ks k are names has = record { key = k; names = names; adds = stays format lines k ks are has }
+pub with_table : (lines : Lines) (ks : List ℕ) (seen : Places) → IsTable (map Some ks) seen → HasTable lines ks seen
+with_table Keys ks seen table = tt
+with_table (Texts secret name) ks seen table = table
 
--- one that wasn't, and was added
-is_added : (format : Format) (lines : Lines) (k : ℕ) (old new : List ℕ) → members old k ≡ false → new ≡ old ++ k ∷ [] → Adds (named_by format lines) k old new
-is_added format Keys k old new apart added = (apart, added)
-is_added format (Texts name) k old new apart added = inr (apart, added)
+pub has_table : (lines : Lines) (ks : List ℕ) (seen : Places) → AreTexts lines → HasTable lines ks seen → IsTable (map Some ks) seen
+has_table Keys ks seen are table = absurd are
+has_table (Texts secret name) ks seen are table = table
 
-pub was_added : (format : Format) (lines : Lines) (line old new : List ℕ) (k : ℕ) (r : Result (Unit {0}) ListFault) → NamesKey (named_by format lines) line k → members old k ≡ false
+pub keys_untabled : (lines : Lines) (ks : List ℕ) (seen : Places) (r : Result (Unit {0}) ListFault) → lines ≡ Keys → OnOk r (HasTable lines ks seen)
+keys_untabled lines ks seen (Ok done) is = no_table lines ks seen is
+keys_untabled lines ks seen (Err fault) is = tt
+
+pub texts_tabled : (lines : Lines) (ks : List ℕ) (seen : Places) (r : Result (Unit {0}) ListFault) → OnOk r (IsTable (map Some ks) seen) → OnOk r (HasTable lines ks seen)
+texts_tabled lines ks seen (Ok done) table = with_table lines ks seen table
+texts_tabled lines ks seen (Err fault) table = tt
+
+-- a key that was added
+pub key_added : (format : Format) (lines : Lines) (line old new : List ℕ) (k : ℕ) (r : Result (Unit {0}) ListFault) → lines ≡ Keys → NamesKey (named_by format lines) line k
     → OnOk r (new ≡ old ++ k ∷ []) → OnOk r (AddsKey (named_by format lines) line old new)
-was_added format lines line old new k (Ok done) names apart added = record { key = k; names = names; adds = is_added format lines k old new apart added }
-was_added format lines line old new k (Err fault) names apart added = tt
+key_added format lines line old new k (Ok done) is names added = record { key = k; names = names; adds = subst (λ (l : Lines). Adds (named_by format l) k old new) (sym is) added }
+key_added format lines line old new k (Err fault) is names added = tt
+
+pub text_added : (format : Format) (lines : Lines) (line old new : List ℕ) (k : ℕ) (r : Result (Unit {0}) ListFault) → AreTexts lines → NamesKey (named_by format lines) line k
+    → OnOk r (AddsText k old new) → OnOk r (AddsKey (named_by format lines) line old new)
+text_added format lines line old new k (Ok done) are names adds = record { key = k; names = names; adds = of_texts lines are }
+  where
+    of_texts : (lines : Lines) → AreTexts lines → Adds (named_by format lines) k old new
+    of_texts Keys are = absurd are
+    of_texts (Texts secret name) are = adds
+text_added format lines line old new k (Err fault) are names adds = tt
+
+pub was_added : (old new : List ℕ) (k : ℕ) (r : Result (Unit {0}) ListFault) → members old k ≡ false → OnOk r (new ≡ old ++ k ∷ []) → OnOk r (AddsText k old new)
+was_added old new k (Ok done) apart added = inr (apart, added)
+was_added old new k (Err fault) apart added = tt
 
 -- a line that goes on by the end of it
 joined : (line part after : List ℕ) → line ++ ((part ++ line_feed ∷ []) ++ after) ≡ (line ++ part) ++ line_feed ∷ after
@@ -150,13 +171,13 @@ line_read old part line new kept clear is adds like empty next = record {
 
 -- what a list is then
 pub line_kept : (old : KeyList) (part line : List ℕ) (new : KeyList) → IsOpenList old → has_line_feed part ≡ false → line ≡ old.line.items ++ part → AddsKey (named_in old) line old.keys.items new.keys.items
-    → IsLike old new → new.line.items ≡ [] → IsTable (map Some new.keys.items) new.seen → IsOpenList new
+    → IsLike old new → new.line.items ≡ [] → HasTable new.lines new.keys.items new.seen → IsOpenList new
 line_kept old part line new kept clear is adds like empty seen = record {
   place = place_as old.format new.format old.lines new.lines like.0 like.1 kept.place;
   seen = seen;
   clear = ap has_line_feed empty;
   above = kept.above ++ (line ++ line_feed ∷ []);
-  lists = subst (λ (N : Named). Lists N (kept.above ++ (line ++ line_feed ∷ [])) new.keys.items) (sym (same_named old new like))
+  lists = subst (λ (N : Named). Reads N (kept.above ++ (line ++ line_feed ∷ [])) new.keys.items) (sym (same_named old new like))
       (one_more (named_in old) kept.above line old.keys.items new.keys.items kept.lists (ap has_line_feed is ∙ clear_both old.line.items part kept.clear clear) adds);
 }
 
@@ -167,59 +188,77 @@ line_at_fault old part line fault kept clear is why text after h =
     (subst (λ (r : List ℕ). Leaves (named_in old) text r old.keys.items old.number) (joined old.line.items part after ∙ ap (λ (l : List ℕ). l ++ line_feed ∷ after) (sym is)) h)
     (ap has_line_feed is ∙ clear_both old.line.items part kept.clear clear) why
 
-pub part_too_long : (old : KeyList) (part line : List ℕ) (most : ℕ) → IsOpenList old → has_line_feed part ≡ false → line ≡ old.line.items ++ part → most < length line
-    → ((l : List ℕ) (k : ℕ) → most < length l → ¬ NamesKey (named_in old) l k) → FailsIn old part (Line old.number)
-part_too_long old part line most kept clear is long never text after h = record {
-  above = h.above;
-  rest = line ++ after;
-  whole = h.whole ∙ ap (λ (x : List ℕ). h.above ++ x) (sym (append_assoc old.line.items part after) ∙ ap (λ (l : List ℕ). l ++ after) (sym is));
-  ks = old.keys.items;
-  lists = h.lists;
-  place = h.place;
-  fault = long_line (named_in old) line after most never (ap has_line_feed is ∙ clear_both old.line.items part kept.clear clear) long;
-}
+pub part_too_long : (old : KeyList) (part line : List ℕ) (most : ℕ) (fault : ListFault) → IsOpenList old → has_line_feed part ≡ false → line ≡ old.line.items ++ part → most < length line
+    → ((l : List ℕ) (k : ℕ) → most < length l → ¬ NamesKey (named_in old) l k) → IsFaultAfter (named_in old) old.keys.items (Line old.number) fault → FailsIn old part fault
+part_too_long old part line most fault kept clear is long never told text after h =
+    fault_after (named_in old) text (old.line.items ++ (part ++ after)) old.keys.items old.number (Line old.number) fault h told (λ apart. record {
+      above = h.above;
+      rest = line ++ after;
+      whole = h.whole ∙ ap (λ (x : List ℕ). h.above ++ x) (sym (append_assoc old.line.items part after) ∙ ap (λ (l : List ℕ). l ++ after) (sym is));
+      ks = old.keys.items;
+      lists = is_listed (named_in old) h.above old.keys.items h.lists apart;
+      place = h.place;
+      fault = long_line (named_in old) line after most never (ap has_line_feed is ∙ clear_both old.line.items part kept.clear clear) long;
+    })
 
 -- the list ends
-pub list_ends : (list : KeyList) → length list.line.items ≡ 0 → EndsWith list list.keys.items
-list_ends list empty text h =
+pub list_ends : (list : KeyList) → length list.line.items ≡ 0 → AreApart (named_in list) list.keys.items → EndsWith list list.keys.items
+list_ends list empty apart text h =
     let none : list.line.items ++ [] ≡ [] = append-nil list.line.items ∙ no_items list.line.items empty in
-    subst (λ (x : List ℕ). Lists (named_in list) x list.keys.items) (sym (h.whole ∙ ap (λ (x : List ℕ). h.above ++ x) none ∙ append-nil h.above)) h.lists
+    subst (λ (x : List ℕ). Lists (named_in list) x list.keys.items) (sym (h.whole ∙ ap (λ (x : List ℕ). h.above ++ x) none ∙ append-nil h.above)) (is_listed (named_in list) h.above list.keys.items h.lists apart)
   where
     no_items : (xs : List ℕ) → length xs ≡ 0 → xs ≡ []
     no_items [] is = refl
     no_items (x ∷ xs) is = absurd (omega arith)
 
-pub list_fails : (list : KeyList) → has_line_feed list.line.items ≡ false → length list.line.items ≢ 0 → FailsAtEnd list (Line list.number)
-list_fails list clear some text h = record {
-  above = h.above;
-  rest = list.line.items ++ [];
-  whole = h.whole;
-  ks = list.keys.items;
-  lists = h.lists;
-  place = h.place;
-  fault = (
-    some_text list.line.items [] (omega (arith, some)),
-    λ first k (clear_first, (others, is)) names. absurd (let feed : true ≡ false = sym (stands 10 first others) ∙ ap has_line_feed (sym is) ∙ ap has_line_feed (append-nil list.line.items) ∙ clear in cc),
-  );
-}
+pub ends_again : (list : KeyList) (fault : ListFault) → TellsAgain (named_in list) list.keys.items fault → FailsAtEnd list fault
+ends_again list fault tells text h = again_fails (named_in list) text h.above (list.line.items ++ []) list.keys.items fault h.lists h.whole tells
+
+pub list_fails : (list : KeyList) (fault : ListFault) → has_line_feed list.line.items ≡ false → length list.line.items ≢ 0 → IsFaultAfter (named_in list) list.keys.items (Line list.number) fault → FailsAtEnd list fault
+list_fails list fault clear some told text h =
+    fault_after (named_in list) text (list.line.items ++ []) list.keys.items list.number (Line list.number) fault h told (λ apart. record {
+      above = h.above;
+      rest = list.line.items ++ [];
+      whole = h.whole;
+      ks = list.keys.items;
+      lists = is_listed (named_in list) h.above list.keys.items h.lists apart;
+      place = h.place;
+      fault = (
+        some_text list.line.items [] (omega (arith, some)),
+        λ first k (clear_first, (others, is)) names. absurd (let feed : true ≡ false = sym (stands 10 first others) ∙ ap has_line_feed (sym is) ∙ ap has_line_feed (append-nil list.line.items) ∙ clear in cc),
+      );
+    })
 
 -- the keys of no lines
 abbrev pub first_keys : Lines → List ℕ
 first_keys Keys = []
-first_keys (Texts name) = texts_mark ∷ []
+first_keys (Texts secret name) = marks_of (option_map (λ block. block.now) secret)
 
-mark_alone : AreOnce (texts_mark ∷ []) (texts_mark ∷ [])
+pub mark_alone : AreOnce (texts_mark ∷ []) (texts_mark ∷ [])
 mark_alone = told_more [] [] (texts_mark ∷ []) texts_mark none_told (inr (refl, omega arith, refl))
 
-pub all_first : (format : Format) (lines : Lines) (ks : List ℕ) → ks ≡ first_keys lines → AreKeysOf (named_by format lines) [] ks
-all_first format Keys ks is = (sym is, subst (IsDistinct nat_eq) (sym is) none_twice)
-all_first format (Texts name) ks is = (subst (AreOnce (texts_mark ∷ [])) (sym is) mark_alone, ([], is))
+-- the mark of a secret is another one
+apart_from_texts : (k : ℕ) → texts_mark < k → members (texts_mark ∷ []) k ≡ false
+apart_from_texts k above = grind (arith, nat_tests, above)
 
-abbrev pub no_lines : (format : Format) (lines : Lines) (ks : List ℕ) → ks ≡ first_keys lines → Lists (named_by format lines) [] ks
+pub both_marks : (block : List ℕ) → AreOnce (marks_of (Some block)) (marks_of (Some block))
+both_marks block =
+    let mark : ℕ = secret_mark (secret_number block) in
+    told_more (texts_mark ∷ []) (texts_mark ∷ []) (texts_mark ∷ mark ∷ []) mark mark_alone (inr (apart_from_texts mark (omega arith), omega arith, refl))
+
+first_marks : (secret : Option (List ℕ)) (name ks : List ℕ) → ks ≡ marks_of secret → AreKeysOf (texts secret name) [] ks
+first_marks None name ks is = (subst (AreOnce (marks_of None)) (sym is) mark_alone, ([], is))
+first_marks (Some block) name ks is = (subst (AreOnce (marks_of (Some block))) (sym is) (both_marks block), ([], is))
+
+pub all_first : (format : Format) (lines : Lines) (ks : List ℕ) → ks ≡ first_keys lines → AreSoFar (named_by format lines) [] ks
+all_first format Keys ks is = sym is
+all_first format (Texts secret name) ks is = first_marks (option_map (λ block. block.now) secret) name.now ks is
+
+abbrev pub no_lines : (format : Format) (lines : Lines) (ks : List ℕ) → ks ≡ first_keys lines → Reads (named_by format lines) [] ks
 no_lines format lines ks is = record { told = []; spelled = nothing; all = all_first format lines ks is }
 
 -- a list of which nothing was read yet
-pub opens : (list : KeyList) → HasPlaceFor list.format list.lines → IsTable (map Some list.keys.items) list.seen → list.line.items ≡ [] → list.keys.items ≡ first_keys list.lines → IsOpenList list
+pub opens : (list : KeyList) → HasPlaceFor list.format list.lines → HasTable list.lines list.keys.items list.seen → list.line.items ≡ [] → list.keys.items ≡ first_keys list.lines → IsOpenList list
 opens list place seen empty first = record {
   place = place;
   seen = seen;
@@ -236,26 +275,21 @@ unread list empty one first text = record {
   place = one;
 }
 
-pub opens_keys : (list : KeyList) → HasPlaceFor list.format list.lines → IsTable [] list.seen → list.keys.items ≡ [] → list.line.items ≡ [] → list.lines ≡ Keys → IsOpenList list
-opens_keys list place seen none empty is =
-    opens list place (subst (λ (ks : List ℕ). IsTable (map Some ks) list.seen) (sym none) seen) empty (none ∙ ap first_keys (sym is))
+pub opens_keys : (list : KeyList) → HasPlaceFor list.format list.lines → list.keys.items ≡ [] → list.line.items ≡ [] → list.lines ≡ Keys → IsOpenList list
+opens_keys list place none empty is = opens list place (no_table list.lines list.keys.items list.seen is) empty (none ∙ ap first_keys (sym is))
 
 pub unread_keys : (list : KeyList) → list.keys.items ≡ [] → list.line.items ≡ [] → list.number ≡ 1 → list.lines ≡ Keys → IsUnread list
 unread_keys list none empty one is = unread list empty one (none ∙ ap first_keys (sym is))
 
-mark_first : (lines : Lines) → AreTexts lines → first_keys lines ≡ texts_mark ∷ []
-mark_first Keys none = absurd none
-mark_first (Texts name) are = refl
+module _ (list : KeyList) (format : Format) (lines : Lines) (like : (list.format ≡ format) × (list.lines ≡ lines)) (marks : List ℕ) (are : first_keys lines ≡ marks) (before : List ℕ) (none : before ≡ []) where
+  with_marks : list.keys.items ≡ before ++ marks → list.keys.items ≡ first_keys list.lines
+  with_marks added = added ∙ ap (λ (ks : List ℕ). ks ++ marks) none ∙ sym are ∙ ap first_keys (sym like.1)
 
-module _ (list : KeyList) (format : Format) (lines : Lines) (like : (list.format ≡ format) × (list.lines ≡ lines)) (are : AreTexts lines) (before : List ℕ) (none : before ≡ []) where
-  with_mark : list.keys.items ≡ before ++ texts_mark ∷ [] → list.keys.items ≡ first_keys list.lines
-  with_mark added = added ∙ ap (λ (ks : List ℕ). ks ++ texts_mark ∷ []) none ∙ sym (mark_first lines are) ∙ ap first_keys (sym like.1)
+  pub opens_texts : HasPlaceFor format lines → IsTable (map Some list.keys.items) list.seen → list.keys.items ≡ before ++ marks → list.line.items ≡ [] → IsOpenList list
+  opens_texts place seen added empty = opens list (place_as format list.format lines list.lines like.0 like.1 place) (with_table list.lines list.keys.items list.seen seen) empty (with_marks added)
 
-  pub opens_texts : HasPlaceFor format lines → IsTable (map Some list.keys.items) list.seen → list.keys.items ≡ before ++ texts_mark ∷ [] → list.line.items ≡ [] → IsOpenList list
-  opens_texts place seen added empty = opens list (place_as format list.format lines list.lines like.0 like.1 place) seen empty (with_mark added)
-
-  pub unread_texts : list.keys.items ≡ before ++ texts_mark ∷ [] → list.line.items ≡ [] → list.number ≡ 1 → IsUnread list
-  unread_texts added empty one = unread list empty one (with_mark added)
+  pub unread_texts : list.keys.items ≡ before ++ marks → list.line.items ≡ [] → list.number ≡ 1 → IsUnread list
+  unread_texts added empty one = unread list empty one (with_marks added)
 
 -- for lack of memory no text is at fault
 pub no_memory : (named : Named) (input : Option (List ℕ)) (fault : ListFault) → fault ≡ Memory → IfSome input (λ text. IsListFaultOf named text fault)
@@ -329,3 +363,10 @@ module _ (named : Named) (list : KeyList) (same : named_in list ≡ named) where
 pub same_members : (G format : Format) → G ≡ format → {A : Type 0} (items : A → List ℕ) (r : Result A ListFault) → IfOk r (λ a. MayBeMembers G (length (items a)) (items a))
     → IfOk r (λ a. MayBeMembers format (length (items a)) (items a))
 same_members G format same items r may = subst (λ (F : Format). IfOk r (λ a. MayBeMembers F (length (items a)) (items a))) same may
+
+-- what is judged of the lines that were read
+pub lines_fail : (named : Named) (list : KeyList) (fault : ListFault) (input left : Option (List ℕ)) → named_in list ≡ named → IfSome input (IsLeftOf list left) → IsFaultAfter (named_in list) list.keys.items Read fault
+    → IfSome input (λ text. IsListFaultOf named text fault)
+lines_fail named list fault None left same h told = tt
+lines_fail named list fault (Some text) left same (after, is, read) told =
+    subst (λ (N : Named). IsListFaultOf N text fault) same (fault_after (named_in list) text (list.line.items ++ after) list.keys.items list.number Read fault read told (λ apart. tt))

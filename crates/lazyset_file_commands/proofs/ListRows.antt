@@ -1,15 +1,15 @@
 -- Worked rows: texts that list keys, and texts that must not.
 use Rattle.std.proofs.lemmas.Bool.Decides.{nat_tests}
-use Rattle.std.{proofs.Common.{◌≡◌, ℕ, List, [], ◌∷◌, ◌++◌, ◌<◌, inl, inr, codes, true, false, refl, sym, ap, subst, ◌∙◌, arith}, specs.List.{IsDistinct}}
+use Rattle.std.{proofs.Common.{◌≡◌, ℕ, List, [], ◌∷◌, ◌++◌, ◌<◌, inl, inr, codes, true, false, Some, None, refl, sym, ap, subst, ◌∙◌, arith}, specs.List.{IsDistinct}}
 use Rattle.std.specs.Prelude.{nat_eq}
 use Rattle.lz_slot.specs.declared.{format.Format.{Format, TheVariants.{One, Two}}, spelling.KeyFault.TheVariants.{NoNumber}}
 use Rattle.lz_slot.proofs.Texts.Cuts.{first_cut, stands}
 use Rattle.lz_proto.specs.Lines.{has_line_feed, line_feed}
-use Rattle.lazyset_file_commands.specs.{Lists.{IsListFaultOf, Lists, keys, texts, nothing, more, NamesKey}, Marks.{texts_mark}}
+use Rattle.lazyset_file_commands.specs.{Lists.{IsListFaultOf, Lists, keys, texts, nothing, more, NamesKey}, Marks.{secret_mark, texts_mark}}
 use Rattle.lazyset_file_commands.{specs.declared.list.ListFault.TheVariants.{Line, Twice}, proofs.Listed.{spelled_by, spelled_not, spelled_other}}
-use Rattle.lazyset_file_commands.proofs.OneList.{no_bad_line, no_key_again, not_empty}
-use Rattle.lz_scan_client.{specs.Told.{AreOnce}, proofs.OneEach.{none_told, none_twice, told_more}}
-use Rattle.lz_resp.specs.Keys.{text_number}
+use Rattle.lazyset_file_commands.proofs.{ListPieces.{both_marks, mark_alone}, OneList.{no_bad_line, no_key_again, not_empty}}
+use Rattle.lz_scan_client.{specs.Told.{AreOnce}, proofs.OneEach.{none_twice, told_more}}
+use Rattle.lz_resp.specs.Keys.{secret_number, text_number}
 
 -- Keys of two spellings, and a carriage return; no line is a list of no keys.
 two_keys : Lists (keys Two) (codes "0:7" ++ 10 ∷ codes "3:8" ++ 13 ∷ 10 ∷ []) (7 ∷ 3000000000000000008 ∷ [])
@@ -94,18 +94,44 @@ module _ where
   below : told < 1_000_000_000_000_000_000
   below = omega arith
 
-  one_mark : AreOnce (texts_mark ∷ []) (texts_mark ∷ [])
-  one_mark = told_more [] [] (texts_mark ∷ []) texts_mark none_told (inr (refl, omega arith, refl))
-
   one_text : AreOnce (texts_mark ∷ told ∷ []) (texts_mark ∷ told ∷ [])
-  one_text = told_more (texts_mark ∷ []) (texts_mark ∷ []) (texts_mark ∷ told ∷ []) told one_mark (inr (grind (arith, nat_tests, below), omega (arith, below), refl))
+  one_text = told_more (texts_mark ∷ []) (texts_mark ∷ []) (texts_mark ∷ told ∷ []) told mark_alone (inr (grind (arith, nat_tests, below), omega (arith, below), refl))
 
   text_again : AreOnce (texts_mark ∷ told ∷ told ∷ []) (texts_mark ∷ told ∷ [])
   text_again = told_more (texts_mark ∷ told ∷ []) (texts_mark ∷ told ∷ []) (texts_mark ∷ told ∷ []) told one_text (inl (grind (arith, nat_tests), refl))
 
-  a_text_twice : Lists (texts (codes "s")) (codes "m" ++ 10 ∷ codes "m" ++ 10 ∷ []) (texts_mark ∷ told ∷ [])
+  a_text_twice : Lists (texts None (codes "s")) (codes "m" ++ 10 ∷ codes "m" ++ 10 ∷ []) (texts_mark ∷ told ∷ [])
   a_text_twice = record {
     told = told ∷ told ∷ [];
     spelled = more (codes "m") _ told _ refl (omega arith, refl) (more (codes "m") [] told [] refl (omega arith, refl) nothing);
     all = (text_again, (told ∷ [], refl));
   }
+
+-- A text under a secret, of this block, and two marks before it.
+module _ (block : List ℕ) where
+  abbrev hidden : ℕ
+  hidden = text_number block (codes "s") (codes "m")
+
+  abbrev seal : ℕ
+  seal = secret_mark (secret_number block)
+
+  beside : (hidden < texts_mark) × (texts_mark < seal)
+  beside = (omega arith, omega arith)
+
+  sealed_text : AreOnce (texts_mark ∷ seal ∷ hidden ∷ []) (texts_mark ∷ seal ∷ hidden ∷ [])
+  sealed_text = told_more (texts_mark ∷ seal ∷ []) (texts_mark ∷ seal ∷ []) (texts_mark ∷ seal ∷ hidden ∷ []) hidden (both_marks block)
+      (inr (grind (arith, nat_tests, beside), omega (arith, beside.0), refl))
+
+  a_text_under_a_secret : Lists (texts (Some block) (codes "s")) (codes "m" ++ 10 ∷ []) (texts_mark ∷ seal ∷ hidden ∷ [])
+  a_text_under_a_secret = record {
+    told = hidden ∷ [];
+    spelled = more (codes "m") [] hidden [] refl (omega arith, refl) nothing;
+    all = (sealed_text, (hidden ∷ [], refl));
+  }
+
+  -- the mark of texts alone isn't enough
+  lacks_its_mark : (text : List ℕ) → Lists (texts (Some block) (codes "s")) text (texts_mark ∷ hidden ∷ []) → ⊥
+  lacks_its_mark text lists =
+      let (rest, is) = lists.all.1 in
+      let same : hidden ≡ seal = cc in
+      omega (arith, same, beside.0, beside.1)

@@ -1,16 +1,16 @@
 -- A list of keys that is read a line at a time.
-use Rattle.std.proofs.Common.{◌≡◌, ℕ, zero, suc, ◌<◌, ◌≤◌, List, [], ◌∷◌, ◌++◌, length, get_or, false, Ok, Err, inl, inr, refl, sym, ap, subst, ◌∙◌, ⊎_elim}
-use Rattle.std.{proofs.{Common.{arith, append_assoc}, lemmas.{Bool.{cases_lt}, Map.Keys.{IsDistinct-push, apart_from_distinct}}}, specs.Prelude.{nat_eq}}
-use Rattle.std.specs.{Cmp.{nat_eq_equiv}, List.{IsDistinct}}
+use Rattle.std.proofs.Common.{◌≡◌, ℕ, zero, suc, ◌<◌, ◌≤◌, List, [], ◌∷◌, ◌++◌, length, get_or, false, Ok, Err, Option, inl, inr, refl, sym, ap, subst, ◌∙◌, ⊎_elim}
+use Rattle.std.{proofs.{Common.{arith, append_assoc}, lemmas.{Bool.{cases_lt}, Map.Keys.{apart_from_distinct}}}, specs.{Prelude.{nat_eq}, List.{IsDistinct}}}
 use Rattle.lz_slot.specs.{Limits.{largest_key, last_room}, Rooms.{largest_of, last_room_of}, Texts.{key_read}, declared.format.Format.{Format}}
 use Rattle.lz_slot.{specs.declared.{format.Format.TheVariants.{One, Two, Three, Four}, spelling.KeyFault.{KeyFault}}, proofs.Files.ExactBytes.{key_of_format}}
 use Rattle.lz_slot.proofs.Texts.Spellings.{read_spelled, spelled_read}
-use Rattle.lz_resp.specs.Keys.{text_number}
-use Rattle.lz_scan_client.{specs.Told.{AddsOnce, AreOnce}, proofs.OneEach.{told_more, unlike}}
+use Rattle.lz_resp.specs.Keys.{prefix_of, text_number}
+use Rattle.lz_scan_client.{specs.Told.{AddsOnce, AreOnce}, proofs.OneEach.{told_more}}
 use Rattle.lz_proto.specs.Lines.{has_line_feed, line_feed, without_return}
 use Rattle.lz_vault.specs.Makes.{MayBeMembers}
-use Rattle.lazyset_file_commands.specs.Lists.{Adds, AddsKey, AreKeysOf, HasPlaceFor, Lists, Named, keys, texts, NamesKey, Spelled, nothing, more, named_by}
-use Rattle.lazyset_file_commands.specs.{Marks.{texts_mark}, declared.lines.Lines.{Lines, TheVariants.{Keys, Texts}}}
+use Rattle.lazyset_file_commands.specs.Lists.{Adds, AddsKey, AreApart, AreKeysOf, HasPlaceFor, Lists, Named, keys, texts, NamesKey, Spelled, nothing, more}
+use Rattle.lazyset_file_commands.specs.{Lists.{named_by}, ListParts.{AreSoFar, Reads}, Marks.{marks_of}, declared.lines.Lines.{Lines}}
+use Rattle.lazyset_file_commands.specs.declared.lines.Lines.TheVariants.{Keys, Texts}
 
 -- a line spells the key that is read of it
 pub spelled_by : (format : Format) (line : List ℕ) (k : ℕ) → key_read (without_return line) ≡ Ok k → k ≤ largest_of format → NamesKey (keys format) line k
@@ -37,30 +37,44 @@ spelled_more named _ _ line k (more first rest j js clear_first names_first spel
     (more first (rest ++ (line ++ line_feed ∷ [])) j (js ++ k ∷ []) clear_first names_first (spelled_more named rest js line k spelled clear names))
 
 -- the key of a text is one of room 0
-text_fits : (name line : List ℕ) (k : ℕ) → k ≡ text_number [] name line → k ≤ largest_key
-text_fits name line k is = omega (arith, is)
+text_fits : (prefix name line : List ℕ) (k : ℕ) → k ≡ text_number prefix name line → k ≤ largest_key
+text_fits prefix name line k is = omega (arith, is)
 
-adds_once : (name line : List ℕ) (k : ℕ) (old new : List ℕ) → k ≡ text_number [] name line → Adds (texts name) k old new → AddsOnce k old new
-adds_once name line k old new is (inl (here, same)) = inl (here, same)
-adds_once name line k old new is (inr (apart, added)) = inr (apart, text_fits name line k is, added)
+module _ (secret : Option (List ℕ)) (name : List ℕ) where
+  adds_once : (line : List ℕ) (k : ℕ) (old new : List ℕ) → k ≡ text_number (prefix_of secret) name line → Adds (texts secret name) k old new → AddsOnce k old new
+  adds_once line k old new is (inl (here, same)) = inl (here, same)
+  adds_once line k old new is (inr (apart, added)) = inr (apart, text_fits (prefix_of secret) name line k is, added)
 
-still_first : (name : List ℕ) (k : ℕ) (old new rest : List ℕ) → old ≡ texts_mark ∷ rest → Adds (texts name) k old new → (more : List ℕ) × (new ≡ texts_mark ∷ more)
-still_first name k old new rest first (inl (here, same)) = (rest, same ∙ first)
-still_first name k old new rest first (inr (apart, added)) = (rest ++ k ∷ [], added ∙ ap (λ (ks : List ℕ). ks ++ k ∷ []) first)
+  still_first : (k : ℕ) (old new rest : List ℕ) → old ≡ marks_of secret ++ rest → Adds (texts secret name) k old new → (more : List ℕ) × (new ≡ marks_of secret ++ more)
+  still_first k old new rest first (inl (here, same)) = (rest, same ∙ first)
+  still_first k old new rest first (inr (apart, added)) =
+      (rest ++ k ∷ [], added ∙ ap (λ (ks : List ℕ). ks ++ k ∷ []) first ∙ append_assoc (marks_of secret) rest (k ∷ []))
 
-pub all_more : (named : Named) (told line old new : List ℕ) (k : ℕ) → AreKeysOf named told old → NamesKey named line k → Adds named k old new → AreKeysOf named (told ++ k ∷ []) new
-all_more (keys format) told line old new k (same, once) names (apart, added) =
-    (ap (λ (ks : List ℕ). ks ++ k ∷ []) same ∙ sym added, subst (IsDistinct nat_eq) (sym added) (IsDistinct-push nat_eq_equiv old k once (unlike old k apart)))
-all_more (texts name) told line old new k (are, (rest, first)) names adds =
-    (told_more (texts_mark ∷ told) old new k are (adds_once name line k old new names.1 adds), still_first name k old new rest first adds)
+  one_text_more : (told line old new : List ℕ) (k : ℕ) → AreOnce (marks_of secret ++ told) old → k ≡ text_number (prefix_of secret) name line → Adds (texts secret name) k old new
+      → AreOnce (marks_of secret ++ (told ++ k ∷ [])) new
+  one_text_more told line old new k are is adds =
+      subst (λ (ts : List ℕ). AreOnce ts new) (append_assoc (marks_of secret) told (k ∷ [])) (told_more (marks_of secret ++ told) old new k are (adds_once line k old new is adds))
+
+pub all_more : (named : Named) (told line old new : List ℕ) (k : ℕ) → AreSoFar named told old → NamesKey named line k → Adds named k old new → AreSoFar named (told ++ k ∷ []) new
+all_more (keys format) told line old new k same names added = ap (λ (ks : List ℕ). ks ++ k ∷ []) same ∙ sym added
+all_more (texts secret name) told line old new k (are, (rest, first)) names adds =
+    (one_text_more secret name told line old new k are names.1 adds, still_first secret name k old new rest first adds)
 
 -- a text that is a line more of a list
-abbrev pub one_more : (named : Named) (text line : List ℕ) (old new : List ℕ) → Lists named text old → has_line_feed line ≡ false → AddsKey named line old new → Lists named (text ++ (line ++ line_feed ∷ [])) new
+abbrev pub one_more : (named : Named) (text line : List ℕ) (old new : List ℕ) → Reads named text old → has_line_feed line ≡ false → AddsKey named line old new → Reads named (text ++ (line ++ line_feed ∷ [])) new
 one_more named text line old new lists clear adds = record {
   told = lists.told ++ adds.key ∷ [];
   spelled = spelled_more named text lists.told line adds.key lists.spelled clear adds.names;
   all = all_more named lists.told line old new adds.key lists.all adds.names adds.adds;
 }
+
+-- lines are a list where no key stands in two
+pub all_listed : (named : Named) (told ks : List ℕ) → AreSoFar named told ks → AreApart named ks → AreKeysOf named told ks
+all_listed (keys format) told ks all apart = (all, apart)
+all_listed (texts secret name) told ks all apart = all
+
+abbrev pub is_listed : (named : Named) (text ks : List ℕ) → Reads named text ks → AreApart named ks → Lists named text ks
+is_listed named text ks lines apart = record { told = lines.told; spelled = lines.spelled; all = all_listed named lines.told ks lines.all apart }
 
 -- keys that are listed can be the members of a file
 spelled_fit : (format : Format) (text ks : List ℕ) → Spelled (keys format) text ks → (i : ℕ) → i < length ks → get_or ks i 0 ≤ largest_of format
@@ -103,4 +117,4 @@ pub are_members : (format : Format) (lines : Lines) (text ks : List ℕ) → Has
 are_members format Keys text ks place lists =
     let spelled = spelled_keys format text ks lists in
     record { few = omega arith; fit = λ i low. spelled_fit format text ks spelled i low; apart = λ i j low high same. same_place ks i j lists.all.1 low high same }
-are_members format (Texts name) text ks place lists = once_members format (length ks) (texts_mark ∷ lists.told) ks place lists.all.0 (omega arith)
+are_members format (Texts secret name) text ks place lists = once_members format (length ks) _ ks place lists.all.0 (omega arith)

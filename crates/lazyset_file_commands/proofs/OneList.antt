@@ -10,7 +10,7 @@ use Rattle.lazyset_file_commands.{specs.declared.list.ListFault.TheVariants.{Lin
 -- a line names one key
 one_key : (named : Named) (line : List ℕ) (j k : ℕ) → NamesKey named line j → NamesKey named line k → j ≡ k
 one_key (keys format) line j k one other = let first = read_of format line j one in let second = read_of format line k other in cc
-one_key (texts name) line j k one other = one.1 ∙ sym other.1
+one_key (texts secret name) line j k one other = one.1 ∙ sym other.1
 
 -- what a text lists that begins with this line
 pub record Begun (named : Named) (line rest ks : List ℕ) : Type 0 where

@@ -2,6 +2,7 @@
 //! how every command ends: its status, and the lines that say why it was refused.
 #![tactic(auto)]
 
+mod again;
 mod checking;
 mod comparing;
 mod copying;

@@ -4,7 +4,7 @@ ghost use Rattle.lazyset_file_commands.specs.Lists.{NamesKey, keys, named_by};
 
 use crate::texts::text_key;
 use lz_proto::without_return;
-use lz_resp::MOST_ARGUMENT;
+use lz_resp::{MOST_ARGUMENT, Secret};
 use lz_slot::{Format, Key, read_key};
 
 // The most bytes of a line with a key: those of a room, a colon, a number and a carriage return.
@@ -15,8 +15,8 @@ const MOST_SPELLED: usize = 22;
 pub enum Lines<'n> {
     /// A key, which no line above names.
     Keys,
-    /// A text, which may come again. Its key is that of a member of the set with this name, for a service of texts.
-    Texts(&'n [u8]),
+    /// A text, which may come again. Its key is that of a member of the set with this name, for a service of texts under this secret, or under none.
+    Texts(Option<&'n Secret>, &'n [u8]),
 }
 
 impl Lines<'_> {
@@ -26,7 +26,7 @@ impl Lines<'_> {
     {
         match self {
             Lines::Keys => MOST_SPELLED,
-            Lines::Texts(_) => MOST_ARGUMENT,
+            Lines::Texts(..) => MOST_ARGUMENT,
         }
     }
 
@@ -37,8 +37,8 @@ impl Lines<'_> {
     {
         match self {
             Lines::Keys => spelled_on(line, format),
-            Lines::Texts(_) if line.len() > MOST_ARGUMENT => None,
-            Lines::Texts(name) => text_key(name, line),
+            Lines::Texts(..) if line.len() > MOST_ARGUMENT => None,
+            Lines::Texts(secret, name) => text_key(secret, name, line),
         }
     }
 }

@@ -27,12 +27,12 @@ pub enum ListingFault {
     OfMaking(MakeFault),
 }
 
-/// Makes a file of this format with so many slots, of which the first hold the keys that the reader's lines name, after the mark of
-/// texts where they are texts, and says so: `made N`, or why not, by the first of these: `refused 2` where no file has so many slots,
-/// before anything is read; `line L` with the first line at fault where it names no key of the format or doesn't end, `twice L` where
-/// its key stands in a line above; `refused 9 M S` where M keys have no room in S slots; and `refused N` with the fault of a making.
-/// Failed where a device failed or a read, with `noread`, or there was no memory, with `nomemory`, and where the line could not be
-/// written.
+/// Makes a file of this format with so many slots, of which the first hold the keys that the reader's lines name, after the mark of texts
+/// where they are texts, and after that of their secret too where there is one. It says so: `made N`, or why not, by the first of these:
+/// `refused 2` where no file has so many slots, before anything is read; `line L` with the first line at fault where it names no key of
+/// the format or doesn't end, `twice L` where its key stands in a line above; `refused 9 M S` where M keys have no room in S slots; and
+/// `refused N` with the fault of a making. Failed where a device failed or a read, with `noread`, or there was no memory, with
+/// `nomemory`, and where the line could not be written.
 pub fn make_keys_on<R: Read, W: Write + Drop, D: Disk>(
     alloc: Global,
     reader: &mut R,

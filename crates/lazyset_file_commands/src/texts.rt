@@ -1,6 +1,6 @@
 //! Texts as keys, for a service of texts.
-ghost use Rattle.std.specs.Prelude.{◌≡◌, [], Some};
-ghost use Rattle.lz_resp.specs.Keys.{secret_number, text_number};
+ghost use Rattle.std.specs.Prelude.{◌≡◌, Some, option_map};
+ghost use Rattle.lz_resp.specs.Keys.{prefix_of, secret_number, text_number};
 ghost use Rattle.lazyset_file_commands.specs.Marks.{secret_mark};
 
 use lz_resp::{Secret, text_number};
@@ -25,9 +25,9 @@ pub fn secret_mark(secret: &Secret) -> Option<Key>
     Key::of_rank(FIRST_SECRET_MARK + secret.number() % SECRET_MARKS)
 }
 
-/// The key that a service of texts without a secret asks for where a client names this member of the set of this name.
-pub(crate) fn text_key(name: &[u8], member: &[u8]) -> Option<Key>
-    ensures { result ≡ Some (text_number [] name.now member.now) }
+/// The key that a service of texts under this secret, or under none, asks for where a client names this member of the set of this name.
+pub(crate) fn text_key(secret: Option<&Secret>, name: &[u8], member: &[u8]) -> Option<Key>
+    ensures { result ≡ Some (text_number (prefix_of (option_map (λ block. block.now) secret.entry)) name.now member.now) }
 {
-    Key::new(text_number(None, name, member))
+    Key::new(text_number(secret, name, member))
 }

@@ -1,4 +1,5 @@
 pub mod PlaceTables
+pub mod SortedKeys
 pub mod Surveys
 pub mod Readings
 pub mod Lives

@@ -1,3 +1,4 @@
 pub mod SlotFinding
+pub mod MetSlots
 pub mod SoundFile
 pub mod PieceReads

@@ -1,14 +1,25 @@
 -- What a scan of slots knows when it has come to slot n.
-use Rattle.std.specs.Prelude.{◌≡◌, ℕ, ◌+◌, ◌*◌, ◌/◌, ◌<◌, ◌≤◌, Bool, true, false, List, [], ◌∷◌, ◌++◌, length, map, take, Option, Ok}
+use Rattle.lz_slot.specs.declared.slot.SlotRead.TheVariants as read
+use Rattle.std.specs.Prelude.{◌≡◌, ℕ, ◌+◌, ◌*◌, ◌/◌, ◌<◌, ◌≤◌, All, Bool, true, false, List, [], ◌∷◌, ◌++◌, length, map, take, Option, Ok}
 use Rattle.std.specs.Io.KnownBytes.{Consumes, IsAtEnd}
 use Rattle.lz_slot.specs.{Bytes.{format_of, header_body, header_read, of_size, open_byte, slot_at}, declared.{format.Format.{Format}, header.Header.{Header}}}
 use Rattle.lz_slot.specs.declared.slot.SlotRead.{SlotRead}
-use Rattle.lz_judge.specs.{declared.scan.Scan.{Scan}, Places.{IsTable}, Surveys.{AreFindings, finding_key}}
+use Rattle.lz_judge.specs.{declared.{finding.Finding.{Finding, TheVariants.{Key, BadKey, Twice}}, scan.Scan.{Scan}}, Surveys.{open_slots, slot_of}}
+
+-- what was met at a slot is what it holds
+abbrev pub IsMet : (ℕ → SlotRead) → Finding → Type 0
+IsMet says (Key i k) = says i ≡ read.Member k
+IsMet says (BadKey i) = says i ≡ read.BadKey
+IsMet says (Twice i first) = ⊥
+
+-- one was met for each open slot below n, upwards
+pub record AreMet (says : ℕ → SlotRead) (n : ℕ) (met : List Finding) : Type 0 where
+  pub each : All (IsMet says) met
+  pub slots : map slot_of met ≡ open_slots says n
 
 -- the slots below n were taken
-pub record Scanned (says : ℕ → SlotRead) (n : ℕ) (scan : Scan) : Type 0 where
-  pub findings : AreFindings says n scan.findings.items
-  pub table : IsTable (map finding_key scan.findings.items) scan.places
+abbrev pub Scanned : (ℕ → SlotRead) → ℕ → Scan → Type 0
+Scanned says n scan = AreMet says n scan.met.items
 
 -- the piece is what a file has from slot n on, as far as it goes
 pub record IsPieceAt (t : List ℕ) (n : ℕ) (piece : List ℕ) : Type 0 where

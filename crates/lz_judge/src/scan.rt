@@ -1,22 +1,22 @@
 //! The scan of slots, one after the other.
-ghost use Rattle.std.specs.Prelude.{◌≡◌, ℕ, ◌+◌, ◌/◌, ◌%◌, ◌≤◌, List, [], ◌++◌, ◌∷◌, length, map, OnOk};
+ghost use Rattle.std.specs.Prelude.{◌≡◌, ℕ, ◌+◌, ◌/◌, ◌%◌, ◌≤◌, List, [], ◌++◌, ◌∷◌, length, map, IfOk, OnOk};
 ghost use Rattle.lz_slot.specs.Bytes.{format_of, slot_at};
 ghost use Rattle.lz_slot.specs.Limits.{most_slots};
 ghost use Rattle.lz_slot.specs.declared.slot.SlotRead.{SlotRead};
 ghost use Rattle.lz_judge.specs.Places.{IsTable};
-ghost use Rattle.lz_judge.specs.Scans.{IsPieceAt, Scanned};
-ghost use Rattle.lz_judge.specs.Surveys.{IsFinding, finding_key, slot_of};
+ghost use Rattle.lz_judge.specs.Scans.{AreMet, IsMet, IsPieceAt, Scanned};
+ghost use Rattle.lz_judge.specs.Surveys.{AreFindings, IsFinding, finding_key, slot_of};
 
 use crate::finding::Finding;
+use crate::once::has_each_key_once;
 use crate::places::Places;
-use lz_slot::{Format, Key, Slot, SlotRead, read_slot};
+use lz_slot::{Format, Slot, SlotRead, read_slot};
 use std::alloc::{AllocError, Global};
 
-/// What was found so far, and where its keys stand in it.
+/// What was met so far. Which keys stand again is found once all slots were taken.
 #[derive(Drop)]
 pub(crate) struct Scan {
-    pub(crate) findings: Vec<Finding>,
-    places: Places,
+    met: Vec<Finding>,
 }
 
 impl Scan {
@@ -24,8 +24,7 @@ impl Scan {
         ensures { (says : ℕ → SlotRead) → Scanned says 0 result }
     {
         Scan {
-            findings: Vec::new(alloc),
-            places: Places::new(alloc),
+            met: Vec::new(alloc),
         }
     }
 
@@ -36,30 +35,15 @@ impl Scan {
         match read {
             SlotRead::Closed | SlotRead::Torn => Ok(()),
             SlotRead::BadKey => self.add(Finding::BadKey(slot)),
-            SlotRead::Member(key) => self.add(self.found(slot, key)),
+            SlotRead::Member(key) => self.add(Finding::Key(slot, key)),
         }
     }
 
-    // Adds what was found at the next open slot.
-    fn add(&mut self, finding: Finding) -> Result<(), AllocError>
-        ensures findings { OnOk result (self.new.findings.items ≡ self.old.findings.items ++ finding ∷ []) }
-        ensures table { IsTable (map finding_key self.old.findings.items) self.old.places → OnOk result (IsTable (map finding_key self.new.findings.items) self.new.places) }
+    fn add(&mut self, met: Finding) -> Result<(), AllocError>
+        ensures { OnOk result (self.new.met.items ≡ self.old.met.items ++ met ∷ []) }
     {
-        self.findings.push(finding)?;
-        self.places.add(self.findings.as_slice())
-    }
-
-    // What is found at the next slot, which holds the key.
-    fn found(&self, slot: Slot, key: Key) -> Finding
-        ensures { (says : ℕ → SlotRead) → says slot ≡ SlotRead.Member key → Scanned says slot self.now → IsFinding says result × (slot_of result ≡ slot) }
-    {
-        match self.places.find(self.findings.as_slice(), key.rank()) {
-            Some(index) => {
-                let first = self.findings[index];
-                Finding::Twice(slot, first.slot())
-            }
-            None => Finding::Key(slot, key),
-        }
+        self.met.push(met)?;
+        Ok(())
     }
 
     /// Takes what the slots of a file say from the first of these on, whose bytes these are.
@@ -81,5 +65,43 @@ impl Scan {
             self.note(slot, read_slot(format, &bytes))?;
         }
         Ok(())
+    }
+    /// What is found at the slots that were taken.
+    pub(crate) fn findings(self, alloc: Global) -> Result<Vec<Finding>, AllocError>
+        ensures { (says : ℕ → SlotRead) (slots : ℕ) → Scanned says slots self → IfOk result (λ findings. AreFindings says slots findings.items) }
+    {
+        if has_each_key_once(alloc, self.met.as_slice())? {
+            return Ok(self.met);
+        }
+        let mut findings = self.met;
+        find_twins(alloc, findings.as_mut_slice())?;
+        Ok(findings)
+    }
+}
+
+// Turns what was met at slots into what is found there.
+fn find_twins(alloc: Global, findings: &mut [Finding]) -> Result<(), AllocError>
+    ensures { (says : ℕ → SlotRead) (slots : ℕ) → AreMet says slots findings.old → OnOk result (AreFindings says slots findings.new) }
+{
+    let mut places = Places::new(alloc);
+    for index in 0..findings.len() {
+        let here = found(findings[index], &findings[..index], &places);
+        findings[index] = here;
+        places.add(&findings[..index + 1])?;
+    }
+    Ok(())
+}
+
+// What is found where this was met. Of the slots below, these are the findings, and the table of their keys.
+fn found(met: Finding, below: &[Finding], places: &Places) -> Finding
+    ensures { (says : ℕ → SlotRead) → IsMet says met → AreFindings says (slot_of met) below.now → IsTable (map finding_key below.now) places.now
+        → IsFinding says result × (slot_of result ≡ slot_of met) }
+{
+    let Finding::Key(slot, key) = met else {
+        return met;
+    };
+    match places.find(below, key.rank()) {
+        Some(index) => Finding::Twice(slot, below[index].slot()),
+        None => met,
     }
 }

@@ -46,11 +46,11 @@ fn find_all(alloc: Global, bytes: &[u8], header: Header) -> Result<Vec<Finding>,
 {
     let mut scan = Scan::new(alloc);
     scan.note_piece(header.format, 0, &bytes[16..])?;
-    Ok(scan.findings)
+    scan.findings(alloc)
 }
 
-/// What the file holds whose bytes the reader gives, and it needs memory for what is found alone. Of a file that is refused no more
-/// is read than its head, or one byte more than its slots.
+/// What the file holds whose bytes the reader gives. It needs memory for what is found and for the keys alone. Of a file that is refused
+/// no more is read than its head, or one byte more than its slots.
 pub fn survey_of<R: Read>(alloc: Global, reader: &mut R) -> Result<Survey, SurveyFault>
     ensures { IfOk result (λ survey. OfText (λ t. IsSurveyed t survey) (R.remaining reader.old)) }
 {
@@ -88,7 +88,10 @@ fn survey_slots<R: Read>(
     if has_more(reader)? {
         return Ok(Survey::Refused(HeaderFault::WrongLength));
     }
-    Ok(Survey::Found(header, scan.findings))
+    match scan.findings(alloc) {
+        Ok(findings) => Ok(Survey::Found(header, findings)),
+        Err(AllocError) => Err(SurveyFault::Memory),
+    }
 }
 
 // Takes what the next slots of the reader say, as many as the piece has room for, and tells whether it gave them all.

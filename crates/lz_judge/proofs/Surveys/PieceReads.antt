@@ -1,13 +1,13 @@
 -- What a reader gave, piece by piece.
 use Rattle.std.proofs.Common.{◌≡◌, ◌≢◌, ℕ, ◌+◌, ◌*◌, ◌/◌, ◌-◌, ◌<◌, ◌≤◌, List, [], ◌∷◌, ◌++◌, length, take, drop, refl, sym, ◌∙◌, ap, subst, arith, le_refl}
-use Rattle.std.proofs.Common.{append_assoc, length-append, Option, Some, None, Ok, Err, true, false, nat_lt, slice_range}
+use Rattle.std.proofs.Common.{append_assoc, length-append, Option, Some, None, Ok, Err, true, false, nat_lt, slice_range, Vec, Global}
 use Rattle.std.proofs.lemmas.{List.{length-take-le, take-append-le, drop-append-le, take-append-drop}, Slice.{take-put_mid_below}, Bool.Decides.{nat_tests}}
 use Rattle.std.{proofs.{Math.Seq.{drop-append-add, take-append-add}, KnownBytes.{Consumes-trans}}, specs.Io.KnownBytes.{Consumes, IsAtEnd, Keeps}}
 use borrow.Rule.Slice.PartMut.{put_mid}
 use Rattle.lz_slot.specs.{Bytes.{header_body, header_read, of_size, open_byte, slot_at, slot_bytes}, declared.{format.Format.{Format}, header.Header.{Header}}}
 use Rattle.lz_slot.specs.declared.{header.HeaderFault.{HeaderFault, TheVariants.{NotMade, WrongLength}}, slot.SlotRead.{SlotRead}}
 use Rattle.lz_slot.proofs.Files.HeadBytes.{format_alike, head_alone}
-use Rattle.lz_judge.specs.declared.{finding.Survey.TheVariants.{Found, Refused}, scan.Scan.{Scan}}
+use Rattle.lz_judge.specs.declared.{finding.{Finding.{Finding}, Survey.TheVariants.{Found, Refused}}, scan.Scan.{Scan}}
 use Rattle.lz_judge.specs.{Scans.{BeginsWith, EndsWithin, GivesPiece, HadMore, IsPieceAt, Scanned}, Surveys.{AreFindings, IsSurveyed, OfText}}
 use Rattle.lz_judge.proofs.Surveys.SoundFile.{refused_surveyed, sound_holds}
 
@@ -142,15 +142,16 @@ module _ (header : Header) (input now after : Option (List ℕ)) (n : ℕ) (old 
       (λ same. omega (arith, same, count, length-append read.text (byte ∷ []), read.size, all)))
 
   -- it has its length
-  pub read_whole : n ≡ header.slots → HadMore false now after → OfText (λ t. IsSurveyed t (Found header old.findings)) input
-  read_whole all end =
-      of_text (λ t. IsSurveyed t (Found header old.findings)) input now read.text read.given
+  pub read_whole : n ≡ header.slots → HadMore false now after → (findings : Vec Finding Global) → ((says : ℕ → SlotRead) (slots : ℕ) → Scanned says slots old → AreFindings says slots findings.items)
+      → OfText (λ t. IsSurveyed t (Found header findings)) input
+  read_whole all end findings finds =
+      of_text (λ t. IsSurveyed t (Found header findings)) input now read.text read.given
       (λ rest ended.
       let t = read.text ++ rest in
       let none = ap length (ended end) in
       let begins = begins_longer header read.text rest read.begins in
       let size : length t ≡ 16 + 16 * header.slots = omega (arith, none, length-append read.text rest, read.size, all) in
       let head : header_read t (length t) ≡ Ok header.slots = begins.slots (length t) begins.long ∙ right_size (length t) header.slots size in
-      let found = subst (λ (k : ℕ). AreFindings (slot_at t) k old.findings.items) all (read.scanned rest).findings in
+      let found = subst (λ (k : ℕ). AreFindings (slot_at t) k findings.items) all (finds (slot_at t) n (read.scanned rest)) in
       let bytes = begins.bytes ∙ ap (λ (F : Format). open_byte ∷ header_body F header.slots) begins.format in
-      record { told = (head, begins.format, found); good = sound_holds t header.slots old.findings.items bytes head found })
+      record { told = (head, begins.format, found); good = sound_holds t header.slots findings.items bytes head found })

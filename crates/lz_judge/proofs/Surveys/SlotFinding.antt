@@ -1,13 +1,12 @@
--- One slot more in a survey, and what a survey without damage says.
+-- What a survey says of each slot, and what one without damage says.
 use Rattle.lz_slot.specs.declared.slot.SlotRead.TheVariants as read
-use Rattle.std.proofs.Common.{◌≡◌, ◌≢◌, ⊎_elim, ◌↔◌, ℕ, zero, suc, ◌+◌, ◌<◌, Bool, true, List, [], ◌∷◌, ◌++◌, get_or, sym, refl, ◌∙◌, ap, subst, arith, Some}
-use Rattle.std.proofs.Common.{None, Ok, Err, IsTrue, add-one, rules, length, Result, All, map, ◌==◌, ◌||◌, Contains, OnOk}
-use Rattle.std.proofs.lemmas.List.{get_or-map, map-append, Elements.{All-push, All-contains, Contains-get_or}, Folds.{list_any-append, list_any_at}}
-use Rattle.std.{proofs.lemmas.{Option.{same_Some}, Bool.{cases_eq, cases_lt, eqb-true, eq-eqb, or_cases, Decides.{nat_tests}}}, specs.List.{list_any}}
+use Rattle.std.proofs.Common.{◌≡◌, ◌≢◌, ⊎_elim, ◌↔◌, ℕ, zero, suc, ◌<◌, Bool, true, List, [], ◌∷◌, get_or, sym, refl, ◌∙◌, ap, subst, arith, Some, None, IsTrue}
+use Rattle.std.proofs.{Common.{length, All, map, ◌==◌, ◌||◌, Contains}, lemmas.List.{get_or-map, Elements.{All-contains, Contains-get_or}}}
+use Rattle.std.proofs.lemmas.{List.Folds.{list_any-append, list_any_at}, Option.{same_Some}, Bool.{cases_eq, cases_lt, eqb-true, eq-eqb, or_cases}}
+use Rattle.std.{proofs.lemmas.Bool.Decides.{nat_tests}, specs.List.{list_any}}
 use Rattle.lz_slot.specs.declared.slot.SlotRead.{SlotRead}
-use Rattle.lz_judge.specs.declared.{finding.Finding.{Finding, TheVariants.{Key, BadKey, Twice}}, scan.Scan.{Scan}}
+use Rattle.lz_judge.specs.declared.finding.Finding.{Finding, TheVariants.{Key, BadKey, Twice}}
 use Rattle.lz_judge.specs.Surveys.{AreFindings, IsFinding, IsFirst, finding_key, found_keys, is_key, is_sound, open_slot, open_slots, slot_of}
-use Rattle.lz_judge.specs.{Places.{IsTable}, Scans.{Scanned}}
 
 -- the slot is open
 abbrev pub IsOpened : SlotRead → Type 0
@@ -17,44 +16,6 @@ IsOpened _ = ⊥
 
 pub same_member : (j k : ℕ) → read.Member j ≡ read.Member k → j ≡ k
 same_member j k is = cc
-
-module _ (says : ℕ → SlotRead) (n : ℕ) where
-  -- a closed slot has no finding
-  pub findings_closed : (found : List Finding) → open_slot (says n) n ≡ [] → AreFindings says n found → AreFindings says (n + 1) found
-  findings_closed found shut before = record {
-    each = before.each;
-    slots = rw add-one (before.slots ∙ none shut);
-  }
-    where
-      none : open_slot (says n) n ≡ [] → open_slots says n ≡ open_slots says n ++ open_slot (says n) n
-      none is = rw is (search rules)
-
-  -- an open slot has one
-  pub findings_more : (found : List Finding) (finding : Finding) → open_slot (says n) n ≡ n ∷ [] → slot_of finding ≡ n → IsFinding says finding
-      → AreFindings says n found → AreFindings says (n + 1) (found ++ finding ∷ [])
-  findings_more found finding opened at is before = record {
-    each = All-push (IsFinding says) found finding before.each is;
-    slots = rw add-one (map-append slot_of found (finding ∷ []) ∙ (λ i. before.slots i ++ (at i ∷ [])) ∙ ap (λ (l : List ℕ). open_slots says n ++ l) (sym opened));
-  }
-
-  -- one slot more was taken
-  pub scanned_closed : (scan : Scan) → open_slot (says n) n ≡ [] → Scanned says n scan → Scanned says (n + 1) scan
-  scanned_closed scan shut before = record { findings = findings_closed scan.findings.items shut before.findings; table = before.table }
-
-  pub scanned_more : (old new : Scan) (finding : Finding) {E : Type 0} (r : Result (Unit {0}) E) → IsOpened (says n) → slot_of finding ≡ n → IsFinding says finding
-      → OnOk r (new.findings.items ≡ old.findings.items ++ finding ∷ [])
-      → (IsTable (map finding_key old.findings.items) old.places → OnOk r (IsTable (map finding_key new.findings.items) new.places))
-      → Scanned says n old → OnOk r (Scanned says (n + 1) new)
-  scanned_more old new finding (Ok done) some at is grows table before = record {
-    findings = rw grows (findings_more old.findings.items finding (opened_one (says n) some) at is before.findings);
-    table = table before.table;
-  }
-    where
-      opened_one : (r : SlotRead) → IsOpened r → open_slot r n ≡ n ∷ []
-      opened_one (read.Member k) some = refl
-      opened_one read.BadKey some = refl
-      opened_one _ some = absurd some
-  scanned_more old new finding (Err fault) some at is grows table before = tt
 
 -- the open slots
 open_one : (r : SlotRead) (n i : ℕ) → list_any (λ j. j == i) (open_slot r n) ≡ true → i ≡ n
@@ -96,13 +57,21 @@ found_at i found is = grind (arith, nat_tests, any_found, any_map, eqb-true)
 at_found : (found : List Finding) (finding : Finding) → Contains found finding → list_any (λ j. j == slot_of finding) (map slot_of found) ≡ true
 at_found found finding at = any_map (slot_of finding) found ∙ found_any (λ other. slot_of other == slot_of finding) found finding at (eq-eqb _ _ refl)
 
+-- where one of these was met or found for each open slot
+module _ (says : ℕ → SlotRead) (n : ℕ) (found : List Finding) (slots : map slot_of found ≡ open_slots says n) where
+  pub at_slot : (i : ℕ) → i < n → IsOpened (says i) → (finding : Finding) × Contains found finding × (slot_of finding ≡ i)
+  at_slot i lt is = found_at i found (ap (list_any (λ j. j == i)) slots ∙ opened says n i lt is)
+
+  pub below_slots : (finding : Finding) → Contains found finding → slot_of finding < n
+  below_slots finding at = open_below says n (slot_of finding) (ap (list_any (λ j. j == slot_of finding)) (sym slots) ∙ at_found found finding at)
+
 -- what a survey without damage says of each slot
 module _ (says : ℕ → SlotRead) (n : ℕ) (found : List Finding) (findings : AreFindings says n found) where
   pub finding_of : (i : ℕ) → i < n → IsOpened (says i) → (finding : Finding) × Contains found finding × (slot_of finding ≡ i)
-  finding_of i lt is = found_at i found (ap (list_any (λ j. j == i)) findings.slots ∙ opened says n i lt is)
+  finding_of i lt is = at_slot says n found findings.slots i lt is
 
   pub found_below : (finding : Finding) → Contains found finding → slot_of finding < n
-  found_below finding at = open_below says n (slot_of finding) (ap (list_any (λ j. j == slot_of finding)) (sym findings.slots) ∙ at_found found finding at)
+  found_below finding at = below_slots says n found findings.slots finding at
 
   -- a key that a slot holds is told by a finding
   pub key_told : (i k : ℕ) → i < n → says i ≡ read.Member k → (first : ℕ) × Contains found (Key first k)

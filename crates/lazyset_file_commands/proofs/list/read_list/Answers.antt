@@ -1,7 +1,7 @@
 use Rattle.lazyset_file_commands.proofs.list.read_list.Goals as goal
-use Rattle.std.proofs.Common.{ℕ, Vec, Global, arith, take, ◌∙◌}
-use Rattle.lazyset_file_commands.specs.Lists.{named_by}
-use Rattle.lazyset_file_commands.proofs.ListPieces.{input_fails, input_lists, left_fails, left_first, left_more, left_none, named_as, no_memory, same_members}
+use Rattle.std.proofs.Common.{◌≡◌, ℕ, Vec, Global, arith, inr, take, ◌∙◌}
+use Rattle.lazyset_file_commands.{specs.Lists.{named_by}, proofs.ListPieces.{input_fails, input_lists, left_fails, left_first, left_more, left_none}}
+use Rattle.lazyset_file_commands.proofs.ListPieces.{lines_fail, named_as, no_memory, same_members}
 
 pub pieces-init : goal.pieces-init
 pieces-init g c = record {
@@ -40,6 +40,22 @@ returns-in-Err-take-clause-err g c =
     let left = g.R.Read.remaining in
     left_fails (named_by c.args.format c.args.lines) c.pieces.list (take c.in-Ok-receive.count c.receive.new.buffer) c.in-Err-take.fault (left c.args.reader.now) (left c.pieces.reader) (left c.receive.new.reader)
     (named_as c.args.format c.args.lines c.pieces.list c.pieces.invariant.like) c.in-Ok-receive.ensures.ok c.in-Err-take.ensures.err c.pieces.invariant.read
+
+pub returns-in_default-clause-err : goal.returns-in_default-clause-err
+returns-in_default-clause-err g c =
+    let left = g.R.Read.remaining in
+    lines_fail (named_by c.args.format c.args.lines) c.pieces.list c.fault.result (left c.args.reader.now) (left c.pieces.reader) (named_as c.args.format c.args.lines c.pieces.list c.pieces.invariant.like)
+    c.pieces.invariant.read c.fault.ensures
+
+pub returns-in-Err-judge-clause-err : goal.returns-in-Err-judge-clause-err
+returns-in-Err-judge-clause-err g c =
+    let left = g.R.Read.remaining in
+    let read = left_more c.pieces.list c.take.new.self (take c.in-Ok-receive.count c.receive.new.buffer) (left c.args.reader.now) (left c.pieces.reader) (left c.receive.new.reader)
+    c.in-Ok-receive.ensures.ok c.in_default-take.ensures.goes c.pieces.invariant.read in
+    let like : (c.take.new.self.format ≡ c.args.format) × (c.take.new.self.lines ≡ c.args.lines) =
+    (c.in_default-take.ensures.goes.same.0 ∙ c.pieces.invariant.like.0, c.in_default-take.ensures.goes.same.1 ∙ c.pieces.invariant.like.1) in
+    lines_fail (named_by c.args.format c.args.lines) c.take.new.self c.in-Err-judge.fault (left c.args.reader.now) (left c.receive.new.reader) (named_as c.args.format c.args.lines c.take.new.self like)
+    read (inr c.in-Err-judge.ensures.err)
 
 pub pieces-preserved : goal.pieces-preserved
 pieces-preserved g c =

@@ -44,9 +44,10 @@ returns-then-branch g c = λ input head begins size given.
     let more = subst (λ (b : Bool). HadMore b (left c.loop-done.reader) (left c.has_more.new.reader)) c.if-branch.true c.in_ok-has_more.ensures in
     read_longer c.args.header input (left c.loop-done.reader) (left c.has_more.new.reader) c.loop-done.done c.loop-done.scan (c.loop-done.invariant.read input head begins size given) all more
 
-pub returns : goal.returns
-returns g c = λ input head begins size given.
+pub returns-in-Ok : goal.returns-in-Ok
+returns-in-Ok g c = λ input head begins size given.
     let left = g.R.Read.remaining in
     let all : c.loop-done.done ≡ c.args.header.slots = omega (arith, c.loop-done.invariant.range) in
     let end = subst (λ (b : Bool). HadMore b (left c.loop-done.reader) (left c.has_more.new.reader)) c.if-branch.false c.in_ok-has_more.ensures in
     read_whole c.args.header input (left c.loop-done.reader) (left c.has_more.new.reader) c.loop-done.done c.loop-done.scan (c.loop-done.invariant.read input head begins size given) all end
+    c.in-Ok.findings c.in-Ok.ensures
