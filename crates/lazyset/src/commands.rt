@@ -3,7 +3,7 @@ ghost use Rattle.std.specs.Prelude.{◌≤◌};
 ghost use Rattle.lz_slot.specs.Limits.{most_buckets, most_buckets_of, most_rehearsed};
 ghost use Rattle.lazyset_arguments.specs.Requests.{IsWithin};
 
-use crate::control::ask_to_stop;
+use crate::asking::{ask_to_clear, ask_to_stop};
 use crate::copying::copy;
 use crate::fault::Fault;
 use crate::files::{StandIns, open_for, open_source, read_front, say_cause};
@@ -97,6 +97,7 @@ where
         } => run_file(rt, writer, file, buckets, no_lock),
         Request::Serve(service) => serve_file(rt, writer, service),
         Request::Stop { path, within } => ask_to_stop(rt, path, within),
+        Request::Clear { path, room } => ask_to_clear(rt, writer, path, room),
         Request::Info { file } => survey(rt, writer, file, Shown::Counts),
         Request::Check { file, of } => check(rt, writer, file, of),
         Request::Keys { file } => survey(rt, writer, file, Shown::Keys),

@@ -1,35 +1,28 @@
-//! The socket on which a service is asked to stop.
+//! The socket on which a service is asked to stop, or to clear a room.
 use crate::at_path::listen_at;
-use crate::fault::Fault;
-use crate::files::no_file;
 use crate::log::Stoppable;
-use lazyset_set_commands::Status;
-use lz_slot::read_number;
+use crate::wanted::{Answer, Wanted};
+use lz_resp::Cleared;
 use std::fs::File;
-use std::io::{ErrorKind, Read, Write};
+use std::io::ErrorKind;
 use std::net::{Net, Shutdown};
 use std::os::fd::OwnedFd;
 use std::os::unix::net::{UnixListener, UnixStream};
 use std::rt::Files;
+use std::sync::Wait;
 use std::sync::atomic::{AtomicBool, Ordering};
 use std::time::{Clock, Duration};
 use std::{io, thread};
 
-// What is sent on it, and what is sent back once the service has ended.
-const STOP: &[u8] = b"stop\n";
-
-const ENDED: &[u8] = b"ended\n";
-
 // How many may wait to be heard.
 const BACKLOG: i32 = 16;
 
-// For how many milliseconds one is heard, and how long it is waited where none can be.
+// For how many milliseconds one is heard, and how long it is waited where none can be; and where a room is being cleared.
 const PATIENCE_MS: u64 = 1_000;
 
-// What is said where a port is given in place of that socket.
-const NO_PORT_HINT: &str = "PATH is the control socket, as FILE.control";
+const CLEARING_MS: u64 = 20;
 
-/// A socket on which the service is asked to stop.
+/// A socket on which the service is asked to stop, or to clear a room.
 #[derive(Drop)]
 pub struct Control {
     listener: UnixListener,
@@ -48,27 +41,31 @@ impl Control {
         })
     }
 
-    /// Hears until it is closed, and has the service end once somebody has asked for it. Those who did wait for the end.
+    /// Hears until it is closed. The service ends once somebody has asked for it; those who did wait for the end. Who has a room cleared is told
+    /// what came of it.
     pub fn hear<R, O>(&self, rt: &R, log: &O) -> Vec<UnixStream>
     where
-        R: Clock + AllocGlobal,
+        R: Clock + Wait + AllocGlobal,
         O: Stoppable,
     {
-        let mut waiting = Vec::new(rt.alloc());
-        for stream in self.listener.incoming() {
+        let mut guests = Guests {
+            waiting: Vec::new(rt.alloc()),
+            clearing: None,
+        };
+        for _ in rt.forever() {
+            let _ = self.listener.set_nonblocking(guests.clearing.is_some());
+            let accepted = self.listener.accept();
             if self.is_closed.load(Ordering::SeqCst) {
                 break;
             }
-            let Ok(stream) = stream else {
-                thread::sleep(rt, Duration::from_millis(PATIENCE_MS));
-                continue;
-            };
-            if asks(&stream) {
-                log.stop();
-                let _ = waiting.push(stream);
+            match accepted {
+                Ok((stream, _)) => guests.hear(stream, log),
+                Err(error) => thread::sleep(rt, pause_after(&error)),
             }
+            guests.tell_cleared(log);
         }
-        waiting
+        guests.tell_ended(log);
+        guests.waiting
     }
 
     /// Hears no more.
@@ -80,75 +77,64 @@ impl Control {
     }
 }
 
-// Whether a stop is asked for on this connection.
-fn asks(stream: &UnixStream) -> bool {
-    let _ = stream.set_read_timeout(Some(Duration::from_millis(PATIENCE_MS)));
-    let mut word = [0; STOP.len()];
-    let mut reader = stream;
-    reader.read_exact(&mut word).is_ok() && word.as_slice() == STOP
+// How long it is waited after nobody could be heard.
+fn pause_after(error: &io::Error) -> Duration {
+    Duration::from_millis(if error.kind() == ErrorKind::WouldBlock {
+        CLEARING_MS
+    } else {
+        PATIENCE_MS
+    })
 }
 
-/// Tells those who have asked for it that the service has ended.
-pub fn tell_ended(waiting: &[UnixStream]) {
-    for stream in waiting {
-        let mut writer = stream;
-        let _ = writer.write_all(ENDED);
-    }
+// Those who have asked for something, and wait for it.
+#[derive(Drop)]
+struct Guests {
+    // for the end of the service
+    waiting: Vec<UnixStream>,
+    // for a room to be cleared
+    clearing: Option<UnixStream>,
 }
 
-// What becomes of a stop that was asked for.
-#[derive(Clone, Copy)]
-enum Outcome {
-    Ended,
-    /// Nothing was told in time.
-    Silent,
-    /// The connection ended before.
-    Lost,
-}
-
-impl Outcome {
-    // What is told on this connection.
-    fn told(stream: &UnixStream) -> Outcome {
-        let mut told = [0; ENDED.len()];
-        let mut reader = stream;
-        match reader.read_exact(&mut told) {
-            Ok(()) if told.as_slice() == ENDED => Outcome::Ended,
-            Err(error) if error.kind() == ErrorKind::WouldBlock => Outcome::Silent,
-            _ => Outcome::Lost,
+impl Guests {
+    // Hears what is wanted on this connection.
+    fn hear<O: Stoppable>(&mut self, stream: UnixStream, log: &O) {
+        match Wanted::on(&stream, Duration::from_millis(PATIENCE_MS)) {
+            Some(Wanted::Stop) => {
+                log.stop();
+                let _ = self.waiting.push(stream);
+            }
+            Some(Wanted::Clear(room)) => self.clear(room, stream, log),
+            None => {}
         }
     }
-}
 
-/// Asks the service that listens at this path to stop, and waits for its end, up to so many seconds.
-pub fn ask_to_stop<R>(rt: &R, path: &str, within: u64) -> Result<Status, Fault>
-where
-    R: Net + Eprint,
-{
-    let mut stream = match UnixStream::connect(rt, path) {
-        Ok(stream) => stream,
-        Err(error) if read_number(path.as_bytes(), 0, u64::MAX).is_some() => {
-            return Err(no_file(rt, path, format_args!("{error}: {NO_PORT_HINT}")));
+    // Has a room cleared, where that can be.
+    fn clear<O: Stoppable>(&mut self, room: u8, stream: UnixStream, log: &O) {
+        let clearings = log.clearings();
+        if clearings.is_closed() {
+            Answer::Never.tell(&stream);
+        } else if clearings.ask(room) {
+            self.clearing = Some(stream);
+        } else {
+            Answer::Cleared(Cleared::Busy).tell(&stream);
         }
-        Err(error) => return Err(no_file(rt, path, error)),
-    };
-    let patience = Duration::from_millis(within.saturating_mul(1_000).max(1));
-    let _ = stream.set_read_timeout(Some(patience));
-    if let Err(error) = stream.write_all(STOP) {
-        return Err(no_file(rt, path, error));
     }
-    match Outcome::told(&stream) {
-        Outcome::Ended => Ok(Status::Done),
-        Outcome::Silent => {
-            let _ = eprintln!(rt; "lazyset: stop {path}: it hasn't ended after {within} s");
-            Ok(Status::Failed)
+
+    // Tells who has a room cleared what came of it, once that is known.
+    fn tell_cleared<O: Stoppable>(&mut self, log: &O) {
+        if let Some(stream) = &self.clearing
+            && let Some(cleared) = log.clearings().outcome()
+        {
+            Answer::Cleared(cleared).tell(stream);
+            self.clearing = None;
         }
-        // One that was killed says nothing, nor does one of release 1.16 or before. Nobody listens there then.
-        Outcome::Lost if UnixStream::connect(rt, path).is_err() => Ok(Status::Done),
-        Outcome::Lost => {
-            let _ = eprintln!(rt;
-                "lazyset: stop {path}: the connection ended, and a service listens there"
-            );
-            Ok(Status::Failed)
+    }
+
+    // The same once the service has ended.
+    fn tell_ended<O: Stoppable>(&mut self, log: &O) {
+        self.tell_cleared(log);
+        if let Some(stream) = self.clearing.take() {
+            Answer::Cleared(Cleared::Stopped(0)).tell(&stream);
         }
     }
 }

@@ -20,7 +20,7 @@ use crate::watched::Watched;
 use crate::way_out::WayOut;
 use lazyset_set_commands::{Heed, Status};
 use lz_disk::Cause;
-use lz_serve::{Listener, Observer, close_listener};
+use lz_serve::{Clearings, Listener, Observer, close_listener};
 use lz_slot::Format;
 use std::fmt;
 use std::sync::atomic::{AtomicBool, AtomicUsize, Ordering};
@@ -80,6 +80,7 @@ pub struct Log<'a, R: Eprint> {
     /// A loop has no thread.
     lacks_loop: AtomicBool,
     stops: AtomicBool,
+    clearings: Clearings,
 }
 
 impl<'a, R> Log<'a, R>
@@ -119,6 +120,7 @@ where
             was_changed: AtomicBool::new(false),
             lacks_loop: AtomicBool::new(false),
             stops: AtomicBool::new(false),
+            clearings: Clearings::new(),
         };
         log.say(Level::Info, "opening");
         log

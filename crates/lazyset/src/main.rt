@@ -2,6 +2,7 @@
 #![tactic(auto)]
 
 mod asked;
+mod asking;
 mod at_path;
 mod backlog;
 mod before;
@@ -43,6 +44,7 @@ mod starting;
 mod tally;
 mod texts;
 mod told;
+mod wanted;
 mod watched;
 mod way_out;
 mod words;

@@ -1,6 +1,6 @@
-//! The secret of a service of texts, out of its file.
+//! The secret of texts, out of its file.
 use crate::fault::Fault;
-use lazyset_arguments::Service;
+use lazyset_arguments::Request;
 use lz_resp::{FEWEST_SECRET, MOST_SECRET, Secret};
 use std::alloc::Global;
 use std::fs::{File, Metadata};
@@ -47,19 +47,22 @@ impl fmt::Display for NoSecret {
     }
 }
 
-/// The secret that the command line names, if it names one. It lives as long as the process.
-pub fn secret_of<R>(rt: &R, service: Service<'_>) -> Result<Option<&'static Secret>, Fault>
+/// The secret that a command's line names by this path, if it names one. It lives as long as the process.
+pub fn secret_of<R>(
+    rt: &R,
+    request: Request<'_>,
+    path: Option<&str>,
+) -> Result<Option<&'static Secret>, Fault>
 where
     R: Files<File = File> + Eprint + AllocGlobal,
 {
-    let Some(path) = service.secret else {
+    let Some(path) = path else {
         return Ok(None);
     };
     match secret_at(rt, path) {
         Ok(secret) => Ok(Some(secret)),
         Err(why) => {
-            let file = service.file;
-            let _ = eprintln!(rt; "lazyset: serve {file}: --secret {path}: {why}");
+            let _ = eprintln!(rt; "lazyset: {request}: --secret {path}: {why}");
             Err(Fault::NoSecret)
         }
     }

@@ -6,7 +6,7 @@ ghost use Rattle.lazyset_set_commands.specs.Services.{IsServable};
 
 use crate::at_path::{SocketFile, listen_at};
 use crate::backlog::Backlog;
-use crate::control::{Control, tell_ended};
+use crate::control::Control;
 use crate::ending::has_ended;
 use crate::fault::Fault;
 use crate::files::shown;
@@ -15,6 +15,7 @@ use crate::level::is_journal;
 use crate::log::{Log, Stoppable, Surroundings};
 use crate::ready::Ready;
 use crate::texts::wanted_by;
+use crate::wanted::Answer;
 use crate::watched::Watched;
 use crate::way_out::WayOut;
 use lazyset_arguments::Service;
@@ -147,7 +148,9 @@ where
     take_away_sockets(rt, service.control, socket);
     log.ended();
     drop(disk);
-    tell_ended(&waiting);
+    for stream in &waiting {
+        Answer::Ended.tell(stream);
+    }
     Ok(log.status(status))
 }
 

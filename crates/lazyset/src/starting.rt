@@ -8,7 +8,7 @@ use crate::fault::Fault;
 use crate::files::open_for;
 use crate::secrets::secret_of;
 use crate::service::{At, serve};
-use lazyset_arguments::Service;
+use lazyset_arguments::{Request, Service};
 use lazyset_set_commands::{ServeOptions, Status};
 use lz_resp::{Naming, Secret};
 use lz_serve::{Language, Loops};
@@ -30,7 +30,7 @@ where
     requires { IsServable service.options }
 {
     let at = At::of(rt, service);
-    let secret = secret_of(rt, service)?;
+    let secret = secret_of(rt, Request::Serve(service), service.secret)?;
     let Service {
         file,
         options,

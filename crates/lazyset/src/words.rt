@@ -1,6 +1,6 @@
 //! What the lines that refuse say in words, for standard error.
 
-use lazyset_arguments::{New, Request, Service, Wish};
+use lazyset_arguments::{New, Request, Service, SetOfTexts, Wish};
 use lz_slot::Format;
 use std::fmt;
 
@@ -129,7 +129,13 @@ impl fmt::Display for Roomy<'_> {
         let (request, slots) = (self.request, self.slots);
         write!(f, "lazyset {request} {slots} --format 4")?;
         match request {
-            Request::MakeKeys(_, Some(name)) => write!(f, " --keys --text {name}"),
+            Request::MakeKeys(_, Some(SetOfTexts { name, secret })) => {
+                write!(f, " --keys --text {name}")?;
+                match secret {
+                    Some(path) => write!(f, " --secret {path}"),
+                    None => Ok(()),
+                }
+            }
             Request::MakeKeys(_, None) => f.write_str(" --keys"),
             _ => Ok(()),
         }

@@ -1,3 +1,4 @@
+pub mod ClearingRows
 pub mod Fronts
 pub mod Hashed
 pub mod Joined

@@ -1,9 +1,9 @@
 -- Worked queries.
-use Rattle.std.{proofs.Common.{◌≡◌, ◌≢◌, true, false, [], ◌∷◌, ◌++◌, refl, codes}, specs.Fmt.{digits}}
-use Rattle.lz_resp.specs.{Commands.{bad_syntax, item_of}, Frames.{bulk}}
+use Rattle.std.{proofs.Common.{◌≡◌, ◌≢◌, true, false, None, [], ◌∷◌, ◌++◌, refl, codes}, specs.Fmt.{digits}}
+use Rattle.lz_resp.specs.{Commands.{bad_syntax, item_of, no_room, no_texts}, Frames.{bulk}}
 use Rattle.lz_resp.specs.Queries.{clients_text, ends_service, info_text, keyspace_text, latency_text, lazyset_text, memory_text, query_text, server_text, stats_text, version_text}
-use Rattle.lz_resp.specs.declared.{figures.Figures.{Figures}, naming.Selected.TheVariants.{Room}, item.Item.TheVariants.{Says, Tells}}
-use Rattle.lz_resp.specs.declared.query.{Query.TheVariants.{Size, Info, Shutdown}, Sections.TheVariants.{All, Server, Clients, Latencies, Memory, Missing}}
+use Rattle.lz_resp.specs.declared.{figures.{Cleared.TheVariants.{Removed, Busy, Stopped}, Figures.{Figures}}, naming.Selected.TheVariants.{Room, Nameless}, item.Item.TheVariants.{Says, Tells}}
+use Rattle.lz_resp.specs.declared.query.{Query.TheVariants.{Size, Info, Clear, Shutdown}, Sections.TheVariants.{All, Server, Clients, Latencies, Memory, Missing}}
 
 asked :
     (item_of (Room 3) (codes "DbSize" ∷ []) ≡ Tells Size) × (item_of (Room 3) (codes "DBSIZE" ∷ codes "3" ∷ []) ≡ Says (codes "-ERR wrong number of arguments for 'dbsize' command\r\n"))
@@ -18,6 +18,13 @@ shut_down :
     × (item_of (Room 0) (codes "shutdown" ∷ codes "SAVE" ∷ []) ≡ Tells Shutdown) × (item_of (Room 0) (codes "SHUTDOWN" ∷ codes "abort" ∷ []) ≡ Says bad_syntax)
     × (item_of (Room 0) (codes "SHUTDOWN" ∷ codes "nosave" ∷ codes "now" ∷ []) ≡ Says bad_syntax)
 shut_down = (refl, refl, refl, refl, refl)
+
+cleared :
+    (item_of (Room 0) (codes "LZ.CLEAR" ∷ codes "3" ∷ []) ≡ Tells (Clear 3)) × (item_of (Room 0) (codes "lz.clear" ∷ codes "16" ∷ []) ≡ Says no_room)
+    × (item_of (Nameless None) (codes "LZ.CLEAR" ∷ codes "3" ∷ []) ≡ Says no_texts)
+    × (item_of (Room 0) (codes "LZ.CLEAR" ∷ []) ≡ Says (codes "-ERR wrong number of arguments for 'lz.clear' command\r\n"))
+    × (item_of (Room 0) (codes "LZ.CLEAR" ∷ codes "3" ∷ codes "4" ∷ []) ≡ Says (codes "-ERR wrong number of arguments for 'lz.clear' command\r\n"))
+cleared = (refl, refl, refl, refl, refl)
 
 abbrev pub seen : Figures
 seen = record {
@@ -47,6 +54,7 @@ seen = record {
   buckets = 16;
   passes = 4;
   loops = 1;
+  cleared = Removed 7;
 }
 
 -- members are counted, and not slots
@@ -69,6 +77,14 @@ sections :
     × (keyspace_text (record seen { members = 0 }) ≡ codes "# Keyspace\r\n")
 unfolding digits clients_text keyspace_text
 sections = (refl, refl, refl)
+
+-- how many keys were removed, and that is no matter of how many there are
+told_of_a_room :
+    (query_text (Clear 3) seen ≡ codes ":7\r\n") × (query_text (Clear 3) (record seen { members = 9 }) ≡ codes ":7\r\n") × (ends_service (Clear 3) seen ≡ false)
+    × (query_text (Clear 3) (record seen { cleared = Busy }) ≡ codes "-ERR a room is being cleared: try again after it\r\n")
+    × (query_text (Clear 3) (record seen { cleared = Stopped 12 }) ≡ codes "-ERR the room isn't cleared: 12 of its keys were removed\r\n")
+unfolding digits
+told_of_a_room = (refl, refl, refl, refl, refl)
 
 -- who may end a service is told nothing more, and who may not is told so
 ended :

@@ -6,7 +6,7 @@ use Rattle.lz_slot.specs.{Limits.{most_slots}, Numerals.{largest_read, number_in
 use Rattle.lz_proto.specs.{declared.request.Request.{Request, TheVariants.{Add, Remove, Has}}, Lines.{carriage_return, line_feed}}
 use Rattle.lz_resp.specs.{Limits.{few_listed, most_listed, most_value}, Frames.{bulk, line_end}, Keys.{Subset, key_of, of_name, room_of, unnamed}}
 use Rattle.lz_resp.specs.{Names.{command_of, is_name, name_of, sections_of, subcommand_of, subname_of, subtakes, takes}, declared.command.Command.{Command}}
-use Rattle.lz_resp.specs.declared.command.Command.TheVariants.{Sadd, Srem, Sismember, Smismember, Sscan, LzScan, Exists, Del, Unlink, Setnx, Set, Select, Ping, Echo}
+use Rattle.lz_resp.specs.declared.command.Command.TheVariants.{Sadd, Srem, Sismember, Smismember, Sscan, LzScan, LzClear, Exists, Del, Unlink, Setnx, Set, Select, Ping, Echo}
 use Rattle.lz_resp.specs.declared.command.Command.TheVariants.{Quit, Reset, Hello, Client, Catalog, Config, Dbsize, Info as AskInfo, Multi, Exec, Discard, Shutdown}
 use Rattle.lz_resp.specs.declared.subcommand.Subcommand.{Subcommand, TheVariants.{Getname, Setname, Setinfo, NoEvict, NoTouch, Count, Docs, Info, Get}}
 use Rattle.lz_resp.specs.declared.{form.Form.{Form, TheVariants.{Added, Removed, Found, Each, Stored}}, naming.Selected.{Selected}}
@@ -167,7 +167,7 @@ subtext_of Setname = ok_text
 subtext_of Setinfo = ok_text
 subtext_of NoEvict = ok_text
 subtext_of NoTouch = ok_text
-subtext_of Count = codes ":26\r\n"
+subtext_of Count = codes ":27\r\n"
 subtext_of Docs = no_arguments_text
 subtext_of Info = no_arguments_text
 subtext_of Get = no_arguments_text
@@ -217,6 +217,15 @@ scan_of (Nameless secret) arguments = Says no_texts
 abbrev pub scan_all_of : List (List ℕ) → Item
 scan_all_of arguments = page_from None (number_in 0 most_slots (argument arguments 1)) (drop 2 arguments)
 
+-- what is asked of a room that is to have no members
+abbrev pub clear_in : Option ℕ → Item
+clear_in None = Says no_room
+clear_in (Some room) = Tells (query.Clear room)
+
+abbrev pub clear_of : Selected → List (List ℕ) → Item
+clear_of (Room n) arguments = clear_in (room_of (argument arguments 1))
+clear_of (Nameless secret) arguments = Says no_texts
+
 -- what a client is told that selects this room: texts are in database 0
 abbrev pub select_of : Selected → Option ℕ → Item
 select_of (Room n) None = Says no_database
@@ -232,6 +241,7 @@ item_by Sismember selected arguments = in_named Found selected arguments
 item_by Smismember selected arguments = in_named Each selected arguments
 item_by Sscan selected arguments = scan_of selected arguments
 item_by LzScan selected arguments = scan_all_of arguments
+item_by LzClear selected arguments = clear_of selected arguments
 item_by Exists selected arguments = in_unnamed Found selected (drop 1 arguments)
 item_by Del selected arguments = in_unnamed Removed selected (drop 1 arguments)
 item_by Unlink selected arguments = in_unnamed Removed selected (drop 1 arguments)

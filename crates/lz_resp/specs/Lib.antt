@@ -1,3 +1,4 @@
+pub mod Clearings
 pub mod Commands
 pub mod Digits
 pub mod Frames

@@ -2,7 +2,7 @@
 use Rattle.lz_resp.specs.declared.query.Sections.TheVariants as sections
 use Rattle.std.specs.Prelude.{ℕ, ◌==◌, ◌||◌, Bool, true, nat_eq, nat_le, if◌then◌else◌, List, [], ◌∷◌, codes, map, Option, None, Some}
 use Rattle.std.specs.{Char.{to_ascii_lowercase}, Cmp.Lexicographic.{pointwise}}
-use Rattle.lz_resp.specs.declared.command.Command.{Command, TheVariants.{Sadd, Srem, Sismember, Smismember, Sscan, LzScan, Exists, Del, Unlink, Setnx, Set, Select}}
+use Rattle.lz_resp.specs.declared.command.Command.{Command, TheVariants.{Sadd, Srem, Sismember, Smismember, Sscan, LzScan, LzClear, Exists, Del, Unlink, Setnx, Set, Select}}
 use Rattle.lz_resp.specs.declared.command.Command.TheVariants.{Ping, Echo, Quit, Reset, Hello, Client, Catalog, Config, Dbsize, Info as AskInfo, Multi, Exec, Discard, Shutdown}
 use Rattle.lz_resp.specs.declared.{query.Sections.{Sections}, subcommand.Subcommand.{Subcommand}}
 use Rattle.lz_resp.specs.declared.subcommand.Subcommand.TheVariants.{Getname, Setname, Setinfo, NoEvict, NoTouch, Count, Docs, Info, Get}
@@ -14,6 +14,7 @@ name_of Sismember = codes "sismember"
 name_of Smismember = codes "smismember"
 name_of Sscan = codes "sscan"
 name_of LzScan = codes "lz.scan"
+name_of LzClear = codes "lz.clear"
 name_of Exists = codes "exists"
 name_of Del = codes "del"
 name_of Unlink = codes "unlink"
@@ -37,7 +38,7 @@ name_of Shutdown = codes "shutdown"
 
 abbrev pub all_commands : List Command
 all_commands =
-    Sadd ∷ Srem ∷ Sismember ∷ Smismember ∷ Sscan ∷ LzScan ∷ Exists ∷ Del ∷ Unlink ∷ Setnx ∷ Set ∷ Select ∷ Ping ∷ Echo ∷ Quit ∷ Reset ∷ Hello ∷ Client ∷ Catalog ∷ Config ∷ Dbsize ∷ AskInfo ∷ Multi ∷ Exec ∷ Discard ∷ Shutdown ∷ []
+    Sadd ∷ Srem ∷ Sismember ∷ Smismember ∷ Sscan ∷ LzScan ∷ LzClear ∷ Exists ∷ Del ∷ Unlink ∷ Setnx ∷ Set ∷ Select ∷ Ping ∷ Echo ∷ Quit ∷ Reset ∷ Hello ∷ Client ∷ Catalog ∷ Config ∷ Dbsize ∷ AskInfo ∷ Multi ∷ Exec ∷ Discard ∷ Shutdown ∷ []
 
 -- the command takes a frame of so many arguments
 abbrev pub takes : Command → ℕ → Bool
@@ -47,6 +48,7 @@ takes Sismember n = n == 3
 takes Smismember n = nat_le 3 n
 takes Sscan n = nat_le 3 n
 takes LzScan n = nat_le 2 n
+takes LzClear n = n == 2
 takes Exists n = nat_le 2 n
 takes Del n = nat_le 2 n
 takes Unlink n = nat_le 2 n

@@ -1,7 +1,7 @@
 -- What a service is asked of itself, and what it tells.
-use Rattle.std.specs.{Prelude.{ℕ, ◌-◌, ◌==◌, Bool, false, if◌then◌else◌, List, [], ◌∷◌, ◌++◌, length, drop, codes, decimal}, List.{flat_map}}
-use Rattle.lz_resp.specs.{Commands.{error}, Frames.{bulk, line_end}, Replies.{integer}, declared.{figures.Figures.{Figures}, query.Query.{Query}}}
-use Rattle.lz_resp.specs.declared.query.{Query.TheVariants.{Size, Info, Shutdown}, Sections.{Sections}}
+use Rattle.std.specs.{Prelude.{ℕ, ⊤, ◌-◌, ◌==◌, Bool, false, if◌then◌else◌, List, [], ◌∷◌, ◌++◌, length, drop, codes, decimal}, List.{flat_map}}
+use Rattle.lz_resp.specs.{Commands.{error}, Frames.{bulk, line_end}, Replies.{integer}, declared.{figures.{Cleared.{Cleared, TheVariants.{Removed, Busy, Stopped}}, Figures.{Figures}}, query.Query.{Query}}}
+use Rattle.lz_resp.specs.declared.query.{Query.TheVariants.{Size, Info, Clear, Shutdown}, Sections.{Sections}}
 use Rattle.lz_resp.specs.declared.query.Sections.TheVariants.{All, Server, Clients, Memory, Stats, Latencies, Keyspace, Lazyset, Missing}
 
 -- a line of a name and its number
@@ -69,13 +69,25 @@ info_text Keyspace f = keyspace_text f
 info_text Lazyset f = lazyset_text f
 info_text Missing f = []
 
+-- what a client is told of a room that was to be cleared
+abbrev pub cleared_text : Cleared → List ℕ
+cleared_text (Removed count) = integer count
+cleared_text Busy = error (codes "a room is being cleared: try again after it")
+cleared_text (Stopped count) = error (codes "the room isn't cleared: " ++ decimal count ++ codes " of its keys were removed")
+
 -- the reply of a service of which this is known: none to a client that ends it
 abbrev pub query_text : Query → Figures → List ℕ
 query_text Size f = integer f.members
 query_text (Info sections) f = bulk (info_text sections f)
+query_text (Clear room) f = cleared_text f.cleared
 query_text Shutdown f = if f.stoppable then [] else error (codes "SHUTDOWN is taken over a Unix socket alone")
 
 -- whether the service is to end then
 abbrev pub ends_service : Query → Figures → Bool
 ends_service Shutdown f = f.stoppable
 ends_service query f = false
+
+-- that a room is cleared is asked for, which takes a while
+abbrev pub IsClear : Query → Type 0
+IsClear (Clear room) = ⊤
+IsClear query = ⊥

@@ -14,7 +14,7 @@ use crate::item::{Item, Requests};
 use crate::limits::MOST_VALUE;
 use crate::naming::{Selected, room_of};
 use crate::query::{Query, Sections};
-use crate::scanning::{scan, scan_all};
+use crate::scanning::{clear, scan, scan_all};
 use crate::subset::Subset;
 use crate::text::{Text, bulk, error};
 use std::alloc::{AllocError, Global};
@@ -79,6 +79,7 @@ fn item_by(
         Command::Smismember => in_named(alloc, Form::Each, selected, arguments),
         Command::Sscan => scan(alloc, selected, arguments),
         Command::LzScan => scan_all(alloc, arguments),
+        Command::LzClear => clear(alloc, selected, arguments),
         Command::Exists => in_unnamed(alloc, Form::Found, selected, after(arguments, 1)),
         Command::Del | Command::Unlink => in_unnamed(
             alloc,

@@ -1,5 +1,17 @@
 //! What a service knows of itself.
 
+/// What came of a room that was to be cleared.
+#[derive(Clone, Copy, Debug, Default, PartialEq, Eq)]
+pub enum Cleared {
+    /// So many keys were removed, and it has no other that it had then.
+    Removed(usize),
+    /// Another room is being cleared.
+    #[default]
+    Busy,
+    /// The service stopped or halted, or had no memory, after so many keys were removed.
+    Stopped(usize),
+}
+
 /// What a service knows of itself at one moment.
 #[derive(Clone, Copy, Debug, Default, PartialEq, Eq)]
 pub struct Figures {
@@ -41,4 +53,6 @@ pub struct Figures {
     pub buckets: usize,
     pub passes: usize,
     pub loops: usize,
+    /// What came of the room that its client wanted cleared.
+    pub cleared: Cleared,
 }

@@ -7,6 +7,7 @@
 
 mod arguments;
 mod asking;
+mod clearing;
 mod command;
 mod digits;
 mod errors;
@@ -34,8 +35,9 @@ mod text;
 mod three;
 mod transactions;
 
+pub use clearing::{Awaits, Clearing};
 pub use fault::{Fault, Stop};
-pub use figures::Figures;
+pub use figures::{Cleared, Figures};
 pub use form::Form;
 pub use frames::Frames;
 pub use item::{Item, Requests};

@@ -1,13 +1,13 @@
 //! What is asked of the service itself.
 ghost use Rattle.std.specs.Prelude.{◌≡◌, IfOk};
 ghost use Rattle.lz_resp.specs.Names.{sections_of};
-ghost use Rattle.lz_resp.specs.Queries.{ends_service, query_text};
+ghost use Rattle.lz_resp.specs.Queries.{cleared_text, ends_service, query_text};
 
 use crate::command::is_name;
-use crate::figures::Figures;
+use crate::figures::{Cleared, Figures};
 use crate::info::info;
 use crate::reply::push_integer;
-use crate::text::{Text, bulk, error};
+use crate::text::{Text, bulk, error, push_number};
 use std::alloc::{AllocError, Global};
 
 /// Which sections are asked for of what a service tells of itself.
@@ -68,6 +68,8 @@ pub enum Query {
     Size,
     /// What the service tells of itself.
     Info(Sections),
+    /// That this room has no members any more.
+    Clear(u8),
     /// That the service ends.
     Shutdown,
 }
@@ -87,6 +89,7 @@ impl Query {
                 let text = info(alloc, sections, figures)?;
                 bulk(alloc, text.as_slice())
             }
+            Query::Clear(_) => cleared(alloc, figures.cleared),
             Query::Shutdown => {
                 if figures.stoppable {
                     return Text::of(alloc, b"");
@@ -102,7 +105,27 @@ impl Query {
     {
         match self {
             Query::Shutdown => figures.stoppable,
-            Query::Size | Query::Info(_) => false,
+            Query::Size | Query::Info(_) | Query::Clear(_) => false,
+        }
+    }
+}
+
+// What a client is told of a room that was to be cleared.
+fn cleared(alloc: Global, cleared: Cleared) -> Result<Text, AllocError>
+    ensures { IfOk result (λ text. text ≡ cleared_text cleared) }
+{
+    match cleared {
+        Cleared::Removed(count) => {
+            let mut text = Vec::new(alloc);
+            push_integer(&mut text, count)?;
+            Ok(Text::new(text))
+        }
+        Cleared::Busy => error(alloc, b"a room is being cleared: try again after it"),
+        Cleared::Stopped(count) => {
+            let mut words = Vec::from_slice(alloc, b"the room isn't cleared: ")?;
+            push_number(&mut words, count)?;
+            words.extend_from_slice(b" of its keys were removed")?;
+            error(alloc, words.as_slice())
         }
     }
 }

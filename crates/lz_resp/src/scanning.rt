@@ -2,7 +2,7 @@
 ghost use Rattle.std.specs.Prelude.{◌≡◌, ◌≤◌, IfOk, Some, length, map};
 ghost use Rattle.lz_slot.specs.Limits.{most_slots};
 ghost use Rattle.lz_slot.specs.Numerals.{number_in};
-ghost use Rattle.lz_resp.specs.Commands.{page_from, page_of, scan_all_of, scan_of};
+ghost use Rattle.lz_resp.specs.Commands.{clear_of, no_texts, page_from, page_of, scan_all_of, scan_of};
 
 use crate::arguments::{after, argument};
 use crate::command::is_name;
@@ -10,6 +10,7 @@ use crate::errors::no_room;
 use crate::item::Item;
 use crate::limits::{FEW_LISTED, MOST_LISTED};
 use crate::naming::{Selected, room_of};
+use crate::query::Query;
 use crate::scan::Scan;
 use crate::text::error;
 use lz_slot::{MOST_SLOTS, Slot, read_number};
@@ -25,8 +26,7 @@ pub(crate) fn scan(
     ensures { IfOk result (λ item. item ≡ scan_of selected (map (λ argument. argument.now) arguments.now)) }
 {
     let Selected::Room(_) = selected else {
-        let text = error(alloc, b"texts are not kept, and none can be listed")?;
-        return Ok(Item::Says(text));
+        return no_texts(alloc);
     };
     let Some(room) = room_of(argument(arguments, 1)) else {
         return Ok(Item::Says(no_room(alloc)?));
@@ -37,6 +37,32 @@ pub(crate) fn scan(
         argument(arguments, 2),
         after(arguments, 3),
     )
+}
+
+/// That the room which a frame names has no members any more.
+pub(crate) fn clear(
+    alloc: Global,
+    selected: Selected,
+    arguments: &[&[u8]],
+) -> Result<Item, AllocError>
+    requires { length arguments.now ≡ 2 }
+    ensures { IfOk result (λ item. item ≡ clear_of selected (map (λ argument. argument.now) arguments.now)) }
+{
+    let Selected::Room(_) = selected else {
+        return no_texts(alloc);
+    };
+    match room_of(argument(arguments, 1)) {
+        Some(room) => Ok(Item::Tells(Query::Clear(room))),
+        None => Ok(Item::Says(no_room(alloc)?)),
+    }
+}
+
+// The members of a set of texts aren't known.
+fn no_texts(alloc: Global) -> Result<Item, AllocError>
+    ensures { IfOk result (λ item. item ≡ Item.Says no_texts) }
+{
+    let text = error(alloc, b"texts are not kept, and none can be listed")?;
+    Ok(Item::Says(text))
 }
 
 /// A page of all rooms.

@@ -60,7 +60,7 @@ impl Subcommand {
             Subcommand::Getname => "$-1\r\n",
             Subcommand::Setname | Subcommand::Setinfo => "+OK\r\n",
             Subcommand::NoEvict | Subcommand::NoTouch => "+OK\r\n",
-            Subcommand::Count => ":26\r\n",
+            Subcommand::Count => ":27\r\n",
             Subcommand::Docs | Subcommand::Info | Subcommand::Get => "*0\r\n",
         }
     }

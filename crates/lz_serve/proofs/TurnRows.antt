@@ -2,7 +2,7 @@
 use Rattle.lz_serve.specs.declared.turn.Turn.TheVariants as turn
 use Rattle.std.proofs.Common.{◌≡◌, ◌≢◌, ◌∷◌, ℕ, zero, suc, false, List, [], inl, inr, Some, None, refl, sym, subst, arith, lit≤}
 use Rattle.lz_proto.specs.declared.{request.Request.TheVariants.{Add, Has}, reply.Reply.TheVariants.{Yes}}
-use Rattle.lz_resp.specs.declared.{query.Query.{Query}, scan.Scan.{Scan}}
+use Rattle.lz_resp.specs.{Queries.{IsClear}, declared.{query.Query.{Query, TheVariants.{Clear}}, scan.Scan.{Scan}}}
 use Rattle.lz_slot.specs.declared.format.Format.{Format}
 use Rattle.lz_board.specs.{declared.pass.Pass.{Pass}, Seats.{BoardId}}
 use Rattle.lz_serve.specs.{Askings.{Asked}, Clients.{Asker, Askers, ComesAfter, HasNoneAt, HasTold, HasToldTexts, IsInTurn, KeepsLinesOf, Remains, Turned}}
@@ -68,6 +68,16 @@ page_to_come p scan there = (λ goes first is ready. unready first is ready, λ 
     unready : (first : Turn) → turn.Lists scan ∷ [] ≡ first ∷ [] → IsReady first (awaited (Add 5) ∷ []) → ⊥
     unready first is ready = let lists : turn.Lists scan ≡ first = cc in subst (λ (t : Turn). IsReady t (awaited (Add 5) ∷ [])) (sym lists) ready
 
+-- a client waits for a room to be cleared
+room_to_clear : (p : Pass) → HasTold (record (asks p []) { turns = turn.Tells (Clear 3) ∷ [] })
+room_to_clear p there = (λ goes first is ready. unready first is ready, λ goes query is. clears query is)
+  where
+    unready : (first : Turn) → turn.Tells (Clear 3) ∷ [] ≡ first ∷ [] → IsReady first (awaited (Add 5) ∷ []) → ⊥
+    unready first is ready = let tells : turn.Tells (Clear 3) ≡ first = cc in subst (λ (t : Turn). IsReady t (awaited (Add 5) ∷ [])) (sym tells) ready
+
+    clears : (query : Query) → turn.Tells (Clear 3) ∷ [] ≡ turn.Tells query ∷ [] → IsClear query
+    clears query is = let same : Clear 3 ≡ query = cc in subst IsClear same tt
+
 -- its texts were told where a page or a line is in front of the next one
 texts_told : (p : Pass) (scan : Scan) → HasToldTexts (record (asks p []) { turns = turn.Lists scan ∷ turn.Says [] ∷ [] })
 texts_told p scan there = (λ goes first is text. none first is text, λ goes query is. absurd (cc))
@@ -126,8 +136,8 @@ other_has p turn = turn.others 0 (λ same. absurd (omega (arith, same))) (no_lin
 untold : (p : Pass) → HasTold (record (waiting p) { under = replied (Add 5) Yes ∷ [] }) → ⊥
 untold p told = (told refl).0 refl (turn.Asks Line 1) refl (Yes ∷ [], lit≤ tt, refl)
 
-unanswered : (p : Pass) (query : Query) → HasTold (record (asks p []) { turns = turn.Tells query ∷ [] }) → ⊥
-unanswered p query told = (told refl).1 refl query refl
+unanswered : (p : Pass) (query : Query) → (IsClear query → ⊥) → HasTold (record (asks p []) { turns = turn.Tells query ∷ [] }) → ⊥
+unanswered p query now told = now ((told refl).1 refl query refl)
 
 -- a text is in front, or what ends the session, or what the service itself knows is asked for
 unsaid : (p : Pass) → HasToldTexts (record (asks p []) { turns = turn.Says [] ∷ [] }) → ⊥
@@ -136,8 +146,8 @@ unsaid p told = (told refl).0 refl (turn.Says []) refl tt
 not_ended : (p : Pass) → HasToldTexts (record (asks p []) { turns = turn.Ends [] ∷ [] }) → ⊥
 not_ended p told = (told refl).0 refl (turn.Ends []) refl tt
 
-query_waits : (p : Pass) (query : Query) → HasToldTexts (record (asks p []) { turns = turn.Tells query ∷ [] }) → ⊥
-query_waits p query told = (told refl).1 refl query refl
+query_waits : (p : Pass) (query : Query) → (IsClear query → ⊥) → HasToldTexts (record (asks p []) { turns = turn.Tells query ∷ [] }) → ⊥
+query_waits p query now told = now ((told refl).1 refl query refl)
 
 -- a line comes after itself
 again : (p : Pass) → ComesAfter (Some (asks p [])) (posed 1 p) → ⊥

@@ -4,7 +4,7 @@ use Rattle.std.specs.Prelude.{◌≡◌, ◌≢◌, ◌⊎◌, ⊤, ◌+◌, ◌
 use Rattle.std.specs.{Prelude.{IfSome, IsSomeAnd, slice_get, take}, declared.snapshot.Snapshot.{Snapshot}}
 use Rattle.lz_list.specs.Traces.{Trace, Begins}
 use Rattle.lz_board.specs.{declared.pass.Pass.{Pass}, Seats.{part}}
-use Rattle.lz_resp.specs.declared.{query.Query.{Query}, scan.Scan.{Scan}}
+use Rattle.lz_resp.specs.{Queries.{IsClear}, declared.{query.Query.{Query}, scan.Scan.{Scan}}}
 use Rattle.lz_serve.specs.{declared.{line.Line.{Line}, turn.Turn.{Turn}}, Conversations.{IsReady, IsText}, Grants.{Posed, key_asked}}
 use Rattle.lz_serve.specs.{Lines.{AreReplied, IsFree, StandsAt}, Queues.{is_in}, Refusals.{cut_turns, kept_waiting}}
 use Rattle.lz_proto.specs.declared.{request.Request.{Request}, end.End.{End, TheVariants.{Done}}}
@@ -101,19 +101,19 @@ KeepsHeard old new = (q : Posed) → IsOwnOf old q → IsHeardOf old q → IsHea
 abbrev pub HasNoReady : Asker → Type 0
 HasNoReady a = a.ended ≡ Done → (first : Turn) → a.turns ≡ first ∷ drop 1 a.turns → IsReady first a.under → ⊥
 
--- nor one that asks the service itself
+-- nor one that asks the service itself, unless a room is to be cleared
 abbrev pub HasNoQuery : Asker → Type 0
-HasNoQuery a = a.ended ≡ Done → (query : Query) → a.turns ≡ turn.Tells query ∷ drop 1 a.turns → ⊥
+HasNoQuery a = a.ended ≡ Done → (query : Query) → a.turns ≡ turn.Tells query ∷ drop 1 a.turns → IsClear query
 
 -- nor one that is a text, which asks for nothing
 abbrev pub HasNoText : Asker → Type 0
 HasNoText a = a.ended ≡ Done → (first : Turn) → a.turns ≡ first ∷ drop 1 a.turns → IsText first → ⊥
 
--- It has told each exchange that asks for no key, up to one that does or a page, unless it is lost.
+-- It has told each exchange that asks for no key, up to one that does, a page or a room that is to be cleared, unless it is lost.
 abbrev pub HasToldTexts : Asker → Type 0
 HasToldTexts a = a.lost ≡ false → HasNoText a × HasNoQuery a
 
--- It has told each exchange that may be told, unless it is lost. (A page is told once a pass has listed it.)
+-- It has told each exchange that may be told, unless it is lost. (A page is told once a pass has listed it, and of a room once it is cleared.)
 abbrev pub HasTold : Asker → Type 0
 HasTold a = a.lost ≡ false → HasNoReady a × HasNoQuery a
 

@@ -3,6 +3,7 @@ ghost use Rattle.std.specs.Prelude.{◌≡◌, ◌≢◌, ◌↔◌, ◌⊎◌, 
 ghost use Rattle.lz_list.specs.Traces.{Begins};
 ghost use Rattle.lz_board.specs.Seats.{part};
 ghost use Rattle.lz_proto.specs.declared.end.End.TheVariants.{Done};
+ghost use Rattle.lz_resp.specs.Queries.{IsClear};
 ghost use Rattle.lz_serve.specs.Clients.{AwaitsNoPage, HasLine, HasNoQuery, HasNoReady, HasNoText, HasTold, HasToldTexts, IsHeard, IsOwn, KeepsLines, KeepsOwn, TellsOf};
 ghost use Rattle.lz_serve.specs.Grants.{Grant, IsGrant, IsLater, Posed};
 ghost use Rattle.lz_serve.specs.Lines.{AreReplied};
@@ -16,6 +17,7 @@ use crate::asking::Granted;
 use crate::conversation::{Conversation, pass_over};
 use crate::observer::Observer;
 use crate::stream::{Received, Stream, Taken};
+use lz_resp::{Cleared, Figures, Query};
 use lz_set::{Named, Pass};
 pub use question::Question;
 use std::alloc::Global;
@@ -227,11 +229,47 @@ impl<S: Stream> Client<S> {
         let Some(query) = self.talk.query() else {
             return false;
         };
-        let figures = observer.figures();
+        let Some(figures) = self.figures_for(query, observer) else {
+            return false;
+        };
         if query.ends_service(&figures) {
             observer.shut_down();
         }
-        match self.talk.tell_query(&figures) {
+        self.tell_figures(&figures)
+    }
+
+    // What is known of the service then: of a room that is to be cleared nothing yet, until it is.
+    fn figures_for<O: Observer>(&mut self, query: Query, observer: &O) -> Option<Figures>
+        ensures same { self.new ≡ self.old }
+        ensures none { result ≡ None → IsClear query }
+    {
+        let Query::Clear(room) = query else {
+            return Some(observer.figures());
+        };
+        // Replies to requests after it, which may have been carried out, would wait for one more.
+        let cleared = if self.talk.waits() || self.talk.is_asked() {
+            Cleared::Stopped(0)
+        } else {
+            self.stream.clear(room)?
+        };
+        Some(Figures {
+            cleared,
+            ..observer.figures()
+        })
+    }
+
+    // Tells the first exchange, if it asks the service itself, by what is known of that, and says whether it did.
+    fn tell_figures(&mut self, figures: &Figures) -> bool
+        ensures lines { KeepsLines self.old self.new }
+        ensures lost { self.old.lost ≡ true → self.new ≡ self.old }
+        ensures fewer { result ≡ true → length self.new.turns < length self.old.turns }
+        ensures same { result ≡ false → self.new.turns ≡ self.old.turns }
+        ensures rests { result ≡ false → self.new.lost ≡ false → (self.new ≡ self.old) × HasNoQuery self.old }
+    {
+        if self.lost {
+            return false;
+        }
+        match self.talk.tell_query(figures) {
             Ok(told) => told,
             Err(_) => {
                 self.lost = true;
@@ -336,7 +374,11 @@ impl<S: Stream> Client<S> {
 
     /// Whether what is unsent is held back: lines wait, whose replies are to go out with it.
     pub(crate) fn holds_back(&self) -> bool {
-        self.waits() && !self.lists() && !self.talk.is_over() && self.talk.unsent().len() < HELD
+        self.waits()
+            && !self.lists()
+            && !self.clears()
+            && !self.talk.is_over()
+            && self.talk.unsent().len() < HELD
     }
 
     /// Whether nothing more is to be told.
@@ -351,7 +393,12 @@ impl<S: Stream> Client<S> {
     pub(crate) fn is_occupied(&self) -> bool
         ensures { result ≡ false → (self.now.lost ≡ false) × (self.now.waiting ≡ []) × AwaitsNoPage self.now }
     {
-        self.is_over() || self.has_unsent() || self.waits() || self.lists()
+        self.is_over() || self.has_unsent() || self.waits() || self.lists() || self.clears()
+    }
+
+    /// Whether it waits for a room to be cleared.
+    pub(crate) fn clears(&self) -> bool {
+        !self.lost && matches!(self.talk.query(), Some(Query::Clear(_)))
     }
 
     /// Where it has nothing to do, and has more room than a little, it gives all of it back.

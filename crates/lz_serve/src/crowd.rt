@@ -21,6 +21,7 @@ use crate::queue::Queue;
 use crate::stream::Stream;
 use lz_set::{Named, Pass};
 use std::alloc::{AllocError, Global};
+use std::collections::VecDeque;
 use std::marker::Model;
 use std::time::Duration;
 
@@ -34,8 +35,8 @@ pub struct Crowd<S: Stream> {
     places: Vec<Place<S>>,
     vacant: Vec<usize>,
     queue: Queue,
-    /// Those that were answered, or had no line in their turn, and weren't tended to since.
-    back: Vec<usize>,
+    /// Those that were answered, had no line in their turn or have a room cleared, and weren't tended to since.
+    back: VecDeque<usize>,
     /// Those that wait for a page.
     scans: Vec<usize>,
     /// How many were admitted, and how many of these have left.
@@ -69,7 +70,7 @@ impl<S: Stream> Crowd<S> {
         let mut places = Vec::with_capacity(alloc, most)?;
         let mut vacant = Vec::with_capacity(alloc, most)?;
         let queue = Queue::new(alloc, most)?;
-        let back = Vec::with_capacity(alloc, most)?;
+        let back = VecDeque::with_capacity(alloc, most)?;
         let scans = Vec::with_capacity(alloc, most)?;
         for token in 0..most {
             places.push(Place::empty())?;
@@ -128,9 +129,9 @@ impl<S: Stream> Crowd<S> {
         self.queue.is_empty()
     }
 
-    /// Whether a client is waited for whose session is over.
+    /// Whether a client is waited for whose session is over, or which waits for a room to be cleared.
     pub fn is_left(&self) -> bool {
-        self.leaving > 0
+        self.leaving > 0 || !self.back.is_empty()
     }
 
     /// Whether fewer asked since the last sync than were answered.
@@ -224,18 +225,17 @@ impl<S: Stream> Crowd<S> {
         }
     }
 
-    /// Does for those that were answered, or had no line, what needs no pass.
+    /// Does for those that were answered, had no line or have a room cleared what needs no pass.
     pub fn tend_back<O: Observer>(&mut self, observer: &O, buffer: &mut [u8])
         ensures kept { Keeps self.old self.new }
         ensures begun { self.new.begun ≡ self.old.begun }
     {
-        for at in 0..self.back.len() {
-            let Some(token) = self.back.get(at).copied() else {
+        for _ in 0..self.back.len() {
+            let Some(token) = self.back.pop_front() else {
                 return;
             };
             self.tend(token, observer, buffer);
         }
-        self.back.clear();
     }
 
     /// The question to this pass whose turn it is, if there is one, with the token of its client. Where there is none, none that waited has a
@@ -343,6 +343,7 @@ impl<S: Stream> Crowd<S> {
             Wish::Nothing => {}
             Wish::Turn => self.put(token, true),
             Wish::Page => self.put_scan(token),
+            Wish::Clearing => self.put_back(token, true),
             Wish::Close => self.close(token),
         }
     }
@@ -369,7 +370,7 @@ impl<S: Stream> Crowd<S> {
         ensures queue { self.new.queue ≡ self.old.queue }
         ensures scans { self.new.scans ≡ self.old.scans }
     {
-        if is_back && self.back.push(token).is_err() {
+        if is_back && self.back.push_back(token).is_err() {
             self.close(token);
         }
     }

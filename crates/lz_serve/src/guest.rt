@@ -4,6 +4,7 @@ ghost use Rattle.std.specs.Prelude.{◌≡◌};
 use crate::language::Language;
 use crate::observer::Observer;
 use crate::stream::{Received, Stream, Taken};
+use lz_resp::Cleared;
 use std::io::{Read, Write};
 use std::net::{Shutdown, TcpStream};
 use std::time::Duration;
@@ -86,6 +87,11 @@ impl<O: Observer> Stream for Guest<'_, O> {
             }
         }
         Taken::Failed
+    }
+
+    // A line asks for no such thing.
+    fn clear(&mut self, _room: u8) -> Option<Cleared> {
+        Some(Cleared::Stopped(0))
     }
 
     fn leave(&mut self) {

@@ -19,6 +19,14 @@ pub enum Language {
 }
 
 impl Language {
+    /// Whether keys are numbers in rooms.
+    pub(crate) fn has_rooms(self) -> bool {
+        !matches!(
+            self,
+            Language::Frames(Naming::Texts(_)) | Language::Either(Naming::Texts(_))
+        )
+    }
+
     /// The language in which a text is read that begins with this piece. An empty one tells none of two.
     pub fn read_as(self, piece: &[u8]) -> Language
         ensures { result ≡ read_as self piece.now }

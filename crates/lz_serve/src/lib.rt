@@ -10,6 +10,7 @@
 
 mod answering;
 mod asking;
+mod clearing;
 mod client;
 mod clock;
 mod conversation;
@@ -50,6 +51,7 @@ mod turn;
 mod workers;
 
 pub use asking::{Asking, Granted};
+pub use clearing::Clearings;
 pub use client::{Client, Question};
 pub use conversation::Conversation;
 pub use crowd::Crowd;

@@ -52,7 +52,7 @@ where
     let Ok(loads) = Loads::new(rt.alloc(), count) else {
         return none_served(passes, observer, Lack::Memory);
     };
-    let mut sockets = match sockets_of(rt, listener, loops.language, &loads, count) {
+    let mut sockets = match sockets_of(rt, listener, loops.language, &loads, observer, count) {
         Ok(sockets) => sockets,
         Err(why) => return none_served(passes, observer, why),
     };
@@ -86,19 +86,24 @@ where
 }
 
 // What each of so many loops waits for.
-fn sockets_of<'a, R>(
+fn sockets_of<'a, R, O>(
     rt: &'a R,
     listener: &Listener,
     language: Language,
     loads: &'a Loads,
+    observer: &'a O,
     loops: usize,
 ) -> Result<Vec<Sockets<'a, R>>, Lack>
 where
     R: Net + Clock + AllocGlobal,
+    O: Observer,
 {
     let mut all = Vec::new(rt.alloc());
     for index in 0..loops {
-        let sockets = Sockets::new(rt, listener, language, loads, index).map_err(Lack::System)?;
+        let clearings = observer.clearings();
+        let sockets = Sockets::new(rt, listener, language, loads, clearings, index).map_err(
+            Lack::System,
+        )?;
         if all.push(sockets).is_err() {
             return Err(Lack::Memory);
         }

@@ -2,6 +2,7 @@
 ghost use Rattle.std.specs.Prelude.{◌≡◌, true};
 ghost use Rattle.lz_serve.specs.Verbs.{verb_of};
 
+use crate::clearing::Clearings;
 use crate::language::Language;
 use crate::listener::Listener;
 use lz_proto::{Reply, Request};
@@ -152,6 +153,9 @@ pub trait Observer: Drop {
 
     /// What is known of the service now. A client has asked.
     fn figures(&self) -> Figures;
+
+    /// The clearings of the service.
+    fn clearings(&self) -> &Clearings;
 
     /// A client has asked for the end of the service, which by its figures may be had.
     fn shut_down(&self);

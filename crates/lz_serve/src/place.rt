@@ -33,6 +33,8 @@ pub(crate) enum Wish {
     Turn,
     /// A page.
     Page,
+    /// To be tended to in each turn, which its place has noted: a room is being cleared for it.
+    Clearing,
     /// Nothing more: its connection is to be closed.
     Close,
 }
@@ -55,7 +57,7 @@ pub(crate) struct Place<S: Stream> {
     readable: bool,
     /// It is read until nothing comes, also after less than there was room for.
     drains: bool,
-    /// It was answered, and wasn't tended to since.
+    /// It was answered, or a room is being cleared for it, and it wasn't tended to since.
     back: bool,
     /// It waits for a page, which was noted.
     lists: bool,
@@ -275,6 +277,7 @@ impl<S: Stream> Place<S> {
         if self.leaves {
             return see_off(client, buffer);
         }
+        tell_cleared(client, observer);
         let holds_back = crowded && !self.parts && client.holds_back();
         if !holds_back && client.has_unsent() {
             client.write();
@@ -296,14 +299,9 @@ impl<S: Stream> Place<S> {
         if self.parts || client.has_unsent() && !holds_back {
             return Wish::Nothing;
         }
-        if client.scan().is_some() {
-            return note_page(&mut self.lists);
-        }
-        if self.readable && !client.waits() || client.may_ask() {
-            return Wish::Turn;
-        }
-        client.rest();
-        Wish::Nothing
+        let wish = wish_of(client, &mut self.lists, self.readable);
+        self.back = wish == Wish::Clearing;
+        wish
     }
 
     /// Its session is to end once all is sent, whatever waits.
@@ -334,7 +332,8 @@ impl<S: Stream> Place<S> {
     pub(crate) fn is_idle(&self, now: u64, idle: Option<u64>, queued: bool) -> bool {
         match &self.client {
             Some(client)
-                if (self.leaves || self.parts || !queued && !self.lists) && !client.is_asked() => {}
+                if (self.leaves || self.parts || !queued && !self.lists && !self.back)
+                    && !client.is_asked() => {}
             _ => return false,
         }
         let still = now.saturating_sub(self.moved);
@@ -353,6 +352,32 @@ impl<S: Stream> Place<S> {
         self.leaves = false;
         was_taken
     }
+}
+
+// Tells what came of a room, where its client waits for that to be cleared, and what no other exchange holds up.
+fn tell_cleared<S: Stream, O: Observer>(client: &mut Client<S>, observer: &O)
+    ensures { KeepsLines client.old client.new }
+{
+    if client.clears() {
+        client.tell_texts(observer);
+    }
+}
+
+// What a client wants that has nothing to send, where there may be something to read.
+fn wish_of<S: Stream>(client: &mut Client<S>, lists: &mut bool, readable: bool) -> Wish
+    ensures { client.new ≡ client.old }
+{
+    if client.scan().is_some() {
+        return note_page(lists);
+    }
+    if client.clears() {
+        return Wish::Clearing;
+    }
+    if readable && !client.waits() || client.may_ask() {
+        return Wish::Turn;
+    }
+    client.rest();
+    Wish::Nothing
 }
 
 // Notes that a client waits for a page, which is its wish unless that was noted.

@@ -3,6 +3,7 @@ ghost use Rattle.std.specs.Prelude.{◌≡◌, ◌≢◌, ◌≤◌, IfOk, IfSom
 ghost use Rattle.lz_serve.specs.Streams.{MayTake, Receives, Takes, counted, sent};
 
 use crate::language::Language;
+use lz_resp::Cleared;
 use std::io;
 use std::io::ErrorKind;
 
@@ -104,6 +105,10 @@ pub trait Stream: Drop {
         ensures bound { sent result ≤ length text.now }
         ensures some { result ≢ Taken.Count 0 }
         ensures taken { Takes (traffic self.old) (traffic self.new) result text.now };
+
+    /// Has this room cleared, and tells what came of it, once that is known. None until then: its client asks again.
+    fn clear(&mut self, room: u8) -> Option<Cleared>
+        ensures { traffic self.new ≡ traffic self.old };
 
     /// Says that nothing more will be sent.
     fn leave(&mut self)

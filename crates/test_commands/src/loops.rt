@@ -9,7 +9,7 @@ use crate::scripts::{Script, script_of};
 use lz_disk::MemoryDisk;
 use lz_proto::Reply;
 use lz_resp::Figures;
-use lz_serve::{Bounds, Lack, Listener, Observer, Serving, Verb, serve_loop};
+use lz_serve::{Bounds, Clearings, Lack, Listener, Observer, Serving, Verb, serve_loop};
 use lz_set::{Blank, Named, NoGate, Pass, Set};
 use lz_vault::suit;
 use std::alloc::Global;
@@ -38,6 +38,7 @@ struct Counts {
     answered: Cell<u64>,
     halted: Cell<u64>,
     most: u64,
+    clearings: Clearings,
 }
 
 impl Observer for Counts {
@@ -79,6 +80,10 @@ impl Observer for Counts {
 
     fn figures(&self) -> Figures {
         Figures::default()
+    }
+
+    fn clearings(&self) -> &Clearings {
+        &self.clearings
     }
 
     fn shut_down(&self) {}
@@ -145,6 +150,7 @@ fn serve_blank<N: Named, R: Wait + Clock + AllocGlobal>(
         answered: Cell::new(0),
         halted: Cell::new(0),
         most,
+        clearings: Clearings::new(),
     };
     let (passes, halted) = serve_all(rt, &set, passes, network, &counts);
     Ended {

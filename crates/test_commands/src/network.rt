@@ -2,6 +2,7 @@
 ghost use Rattle.std.specs.Prelude.{◌≡◌, ◌≢◌, ◌≤◌, ◌<◌, length};
 ghost use Rattle.lz_serve.specs.Streams.{counted, sent};
 
+use lz_resp::Cleared;
 use lz_serve::{Language, Poller, Ready, Received, Stream, Taken};
 use std::alloc::Global;
 use std::cell::RefCell;
@@ -117,6 +118,10 @@ impl<'a> Stream for Wire<'a> {
             Ok(mut network) => network.take(self.index, text),
             Err(_) => Taken::Failed,
         }
+    }
+
+    fn clear(&mut self, _room: u8) -> Option<Cleared> {
+        Some(Cleared::Busy)
     }
 
     fn leave(&mut self) {

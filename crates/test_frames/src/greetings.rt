@@ -22,7 +22,7 @@ fn clients_are_greeted(rt: HostRuntime) -> Result<(), Fail> {
         b"+OK\r\n",
         b"*0\r\n",
         b"*0\r\n",
-        b":26\r\n",
+        b":27\r\n",
         b"$-1\r\n",
         b"-ERR unknown subcommand 'ID'. Try CLIENT HELP.\r\n",
         b"+RESET\r\n",

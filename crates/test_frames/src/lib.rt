@@ -2,6 +2,8 @@
 #![tactic(auto)]
 
 #[cfg(test)]
+mod clearing;
+#[cfg(test)]
 mod frames;
 #[cfg(test)]
 mod greetings;

@@ -1,5 +1,5 @@
 //! What a service is asked of itself.
-use lz_resp::{Figures, Frames, Item, Naming, Query, Scan, Sections};
+use lz_resp::{Cleared, Figures, Frames, Item, Naming, Query, Scan, Sections};
 use lz_slot::{Key, Slot};
 use std::collections::VecDeque;
 use std::test::Fail;
@@ -49,6 +49,37 @@ fn a_service_ends_where_it_may(rt: HostRuntime) -> Result<(), Fail> {
     );
     let keys = Query::Info(Sections::Keyspace).text(rt.alloc(), &figures)?;
     assert!(rt; keys.as_bytes() == b"$12\r\n# Keyspace\r\n\r\n".as_slice());
+    Ok(())
+}
+
+#[test]
+fn a_room_is_told_as_it_was_cleared(rt: HostRuntime) -> Result<(), Fail> {
+    let mut frames = Frames::new(rt.alloc(), Naming::Rooms);
+    let mut items = VecDeque::new(rt.alloc());
+    frames.feed_into(b"SELECT 7\r\nlz.clear 3\r\n", &mut items)?;
+    let _selected = items.pop_front();
+    let Some(Item::Tells(Query::Clear(3))) = items.pop_front() else {
+        return Err("room 3".into());
+    };
+    let outcomes: [(Cleared, &[u8]); 3] = [
+        (Cleared::Removed(5), b":5\r\n"),
+        (
+            Cleared::Busy,
+            b"-ERR a room is being cleared: try again after it\r\n",
+        ),
+        (
+            Cleared::Stopped(2),
+            b"-ERR the room isn't cleared: 2 of its keys were removed\r\n",
+        ),
+    ];
+    for (cleared, text) in outcomes.as_slice() {
+        let figures = Figures {
+            cleared: *cleared,
+            ..figures()
+        };
+        let told = Query::Clear(3).text(rt.alloc(), &figures)?;
+        assert!(rt; told.as_bytes() == *text);
+    }
     Ok(())
 }
 
@@ -128,5 +159,6 @@ fn figures() -> Figures {
         buckets: 16,
         passes: 4,
         loops: 1,
+        cleared: Cleared::Stopped(2),
     }
 }

@@ -10,10 +10,10 @@ ghost use Rattle.lz_set.specs.Names.{MayCall};
 
 use lz_disk::MemoryDisk;
 use lz_proto::Reply;
-use lz_resp::Figures;
+use lz_resp::{Cleared, Figures};
 use lz_serve::{
-    Client, FreePass, Given, Lack, Language, Listener, Observer, Received, Serving, Stream, Taken,
-    Verb, serve_client,
+    Clearings, Client, FreePass, Given, Lack, Language, Listener, Observer, Received, Serving,
+    Stream, Taken, Verb, serve_client,
 };
 use lz_set::{Blank, Fault, Named, NoGate, Pass, Set};
 use lz_slot::Key;
@@ -131,12 +131,18 @@ impl<'a, N: Named> Stream for Tape<'a, N> {
         }
     }
 
+    fn clear(&mut self, _room: u8) -> Option<Cleared> {
+        Some(Cleared::Busy)
+    }
+
     fn leave(&mut self) {}
 }
 
 /// Hears nothing, and never ends a service.
 #[derive(Drop)]
-struct Deaf;
+struct Deaf {
+    clearings: Clearings,
+}
 
 impl Observer for Deaf {
     ghost asked = { ⊥ };
@@ -169,6 +175,10 @@ impl Observer for Deaf {
 
     fn figures(&self) -> Figures {
         Figures::default()
+    }
+
+    fn clearings(&self) -> &Clearings {
+        &self.clearings
     }
 
     fn shut_down(&self) {}
@@ -212,7 +222,10 @@ fn serve_stream<S: Stream, N: Named, B: Given, R: Wait + Clock>(
 {
     let mut client = Client::new(alloc, 1, stream);
     let mut free = FreePass::<N, B>::new(pass, false);
-    serve_client(rt, set, &mut client, &mut free, &Deaf);
+    let deaf = Deaf {
+        clearings: Clearings::new(),
+    };
+    serve_client(rt, set, &mut client, &mut free, &deaf);
     let (pass, _) = free.into_parts();
     pass
 }

@@ -8,8 +8,8 @@ use crate::watched::Watched;
 use lazyset_arguments::{MAJOR, MINOR};
 use lazyset_set_commands::format_number;
 use lz_proto::Reply;
-use lz_resp::Figures;
-use lz_serve::{Lack, Listener, Observer, Serving, Verb, close_listener};
+use lz_resp::{Cleared, Figures};
+use lz_serve::{Clearings, Lack, Listener, Observer, Serving, Verb, close_listener};
 use std::io;
 use std::sync::Wait;
 use std::sync::atomic::Ordering;
@@ -171,7 +171,12 @@ where
             buckets: shape.buckets,
             passes: shape.passes,
             loops: shape.loops,
+            cleared: Cleared::Busy,
         }
+    }
+
+    fn clearings(&self) -> &Clearings {
+        &self.clearings
     }
 
     fn shut_down(&self) {

@@ -27,3 +27,10 @@ returns-in-Page-clause-kept g c =
     (keeps_at (λ place. place.client) c.args.self.now c.self.inside.admitted c.self.inside.places.items c.args.token c.in-Some.place.now c.self.view_is
     c.in-Some.ensures.item.3.0 c.in-Some.ensures.value c.tend-wish.new.self (lines_own _ _ c.tend-wish.ensures) (lines_heard _ _ c.tend-wish.ensures)
     (lines_seen _ _ c.tend-wish.ensures)) (leave_keeps _ c.put_scan.new.self c.put_scan.ensures)
+
+pub returns-in-Clearing-clause-kept : goal.returns-in-Clearing-clause-kept
+returns-in-Clearing-clause-kept g c =
+    keeps_then c.args.self.now _ c.put_back.new.self
+    (keeps_at (λ place. place.client) c.args.self.now c.self.inside.admitted c.self.inside.places.items c.args.token c.in-Some.place.now c.self.view_is
+    c.in-Some.ensures.item.3.0 c.in-Some.ensures.value c.tend-wish.new.self (lines_own _ _ c.tend-wish.ensures) (lines_heard _ _ c.tend-wish.ensures)
+    (lines_seen _ _ c.tend-wish.ensures)) (leave_keeps _ c.put_back.new.self c.put_back.ensures.leave)

@@ -2,5 +2,5 @@ use Rattle.lz_serve.proofs.crowd.Crowd.tend_back.Given as goal
 use Rattle.std.specs.Prelude.{◌≡◌}
 use Rattle.lz_serve.specs.Clients.{Keeps}
 
-abbrev pub invariant-loop-at : goal.invariant-loop-at
-invariant-loop-at g l = record { kept : Keeps l.fn.self l.self; begun : l.self.begun ≡ l.fn.self.begun }
+abbrev pub invariant-loop : goal.invariant-loop
+invariant-loop g l = record { kept : Keeps l.fn.self l.self; begun : l.self.begun ≡ l.fn.self.begun }
