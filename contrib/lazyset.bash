@@ -1,6 +1,6 @@
 # Completion of lazyset's command line for bash: source it, or put it into a folder of bash-completion as `lazyset`.
 _lazyset() {
-    local word=${COMP_WORDS[COMP_CWORD]} commands="make renew grow copy run serve stop info check judge rehearse help"
+    local word=${COMP_WORDS[COMP_CWORD]} commands="make renew grow copy run serve stop clear info check judge rehearse help"
     case "$COMP_CWORD,${COMP_WORDS[1]}" in
     1,*) mapfile -t COMPREPLY < <(compgen -W "$commands --help --version" -- "$word") ;;
     2,help) mapfile -t COMPREPLY < <(compgen -W "$commands" -- "$word") ;;
@@ -12,7 +12,7 @@ _lazyset() {
 _lazyset_words() {
     local word=$1 options formats="1 2 3 4"
     case "${COMP_WORDS[1]}" in
-    make) options="--format --keys --text --help" ;;
+    make) options="--format --keys --text --secret --help" ;;
     renew | grow) options="--format --help" formats="2 3 4" ;;
     copy) options="--format --replace --help" formats="2 3 4" ;;
     run) options="--buckets --no-lock --help" ;;

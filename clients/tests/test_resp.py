@@ -5,6 +5,7 @@ from __future__ import annotations
 import os
 import socket
 import threading
+import time
 from typing import List
 
 import lazyset
@@ -72,6 +73,8 @@ class ByRedisProtocol(AgainstTheProgram):
                 keys.remove_all([1] * (PAGE + 1))
             with self.assertRaises(ValueError):
                 list(keys.pages(16))
+            with self.assertRaises(ValueError):
+                keys.clear(16)
             self.assertEqual(keys.remove_all([]), 0)
             self.assertFalse(keys.has(17))
 
@@ -89,6 +92,17 @@ class Rooms(AgainstTheProgram):
             self.assertEqual([keys.remove_all(page, 7) for page in pages], [len(page) for page in pages])
             self.assertEqual(sum(keys.pages(7), []), [])
             self.assertEqual(len(sum(keys.pages(0), [])), 300)
+
+    def test_a_room_that_is_cleared(self) -> None:
+        with RespKeys(self.service.port, timeout=10) as keys, RespKeys(self.service.port) as others:
+            for number in range(600):
+                keys.add(number, room=number % 2 * 7)
+            self.assertEqual(keys.clear(7), 300)
+            self.assertEqual((sum(others.pages(7), []), len(sum(others.pages(0), []))), ([], 300))
+            self.assertEqual((keys.clear(7), keys.clear(15)), (0, 0))
+            self.assertTrue(keys.add(1, room=7))
+            self.assertEqual(keys.clear(7, timeout=10), 1)
+            self.assertEqual(keys.clear(0), 300)
 
     def test_eight_threads_share_one_connection(self) -> None:
         told: List[bool] = []
@@ -131,6 +145,57 @@ class Answers(AgainstAFake):
         error = self.raised(b"-ERR stopping; nothing was done\r\n")
         assert isinstance(error, lazyset.Stopping)
         self.assertEqual((error.replies, error.command), ([], Command.has(1)))
+
+    def test_clearings_that_are_refused_or_end_early(self) -> None:
+        """The connection goes on: the next call is asked on it."""
+        told = [b"-ERR a room is being cleared: try again after it\r\n", b"-ERR the room isn't cleared: 17 of its keys were removed\r\n", b":5\r\n"]
+
+        def tells(connection: socket.socket) -> None:
+            for reply in told:
+                self.assertEqual(connection.recv(4096), b"*2\r\n$8\r\nLZ.CLEAR\r\n$1\r\n3\r\n")
+                connection.sendall(reply)
+
+        keys = RespKeys(self.fake(tells).port)
+        with self.assertRaises(lazyset.BeingCleared) as busy:
+            keys.clear(3)
+        self.assertEqual(busy.exception.room, 3)
+        with self.assertRaises(lazyset.NotCleared) as early:
+            keys.clear(3)
+        self.assertEqual((early.exception.room, early.exception.removed), (3, 17))
+        self.assertEqual(keys.clear(3), 5)
+
+    def test_clearings_that_have_no_count(self) -> None:
+        rows = {
+            **{b"-ERR unknown command 'LZ.CLEAR'\r\n": lazyset.BadReply, b"-ERR texts are not kept\r\n": lazyset.BadReply, b"$1\r\n5\r\n": lazyset.BadReply},
+            **{b"-ERR stopping; nothing was done\r\n": lazyset.Stopping, b"-HALTED the device failed\r\n": lazyset.Halted, b"": lazyset.LostConnection},
+        }
+        for reply, kind in rows.items():
+            keys = RespKeys(self.fake(answers(reply)).port)
+            with self.assertRaises(lazyset.LazysetError) as caught:
+                keys.clear(3)
+            self.assertIs(type(caught.exception), kind, reply)
+            with self.assertRaises(lazyset.Closed):
+                keys.clear(3)
+
+    def test_a_clearing_that_takes_longer(self) -> None:
+        """It is awaited for longer than another reply, unless it has a limit of its own."""
+
+        def is_slow(connection: socket.socket) -> None:
+            for _ in range(2):
+                connection.recv(4096)
+                time.sleep(0.5)
+                connection.sendall(b":7\r\n")
+
+        keys = RespKeys(self.fake(is_slow).port, timeout=0.2)
+        self.assertEqual(keys.clear(3), 7)
+        with self.assertRaises(lazyset.TimedOut):
+            keys.has(1)
+        keys = RespKeys(self.fake(is_slow).port)
+        with self.assertRaises(lazyset.TimedOut) as caught:
+            keys.clear(3, timeout=0.2)
+        self.assertIn("within 0.2 seconds", str(caught.exception))
+        with self.assertRaises(lazyset.Closed):
+            keys.has(1)
 
     def test_a_page_that_is_none(self) -> None:
         for replies in (b":1\r\n", b"*1\r\n:1\r\n", b"*2\r\n:1\r\n*0\r\n", b"*2\r\n$1\r\n0\r\n*1\r\n$1\r\nx\r\n"):

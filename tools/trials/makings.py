@@ -8,7 +8,7 @@ import re
 import subprocess
 import tempfile
 import time
-from typing import List, NamedTuple
+from typing import List, NamedTuple, Sequence
 
 from trials.faults import FAILURES, count_calls, failing, needs_strace
 from trials.plain import MOST_SLOTS
@@ -23,15 +23,17 @@ DEVICE_FAILED = Ended("refused 3\n", 1)
 
 
 class Making(NamedTuple):
-    """A making of so many slots, of the empty set or of a list's keys, one a line."""
+    """A making of so many slots, of the empty set or of a list, one key a line. Where its lines are other ones by these options, of such keys."""
 
     slots: int
     form: int
     listed: str = ""
+    options: Sequence[str] = ()
+    keys: str = ""
 
     def words(self, file: str) -> List[str]:
         words = ["make", file, str(self.slots), "--format", str(self.form)]
-        return [*words, "--keys"] if self.listed else words
+        return [*words, "--keys", *self.options] if self.listed else words
 
     def made(self) -> Ended:
         """What it prints."""
@@ -39,7 +41,7 @@ class Making(NamedTuple):
 
     def whole(self) -> Ended:
         """What a check of the keys says of the file."""
-        return Ended(self.listed, 0)
+        return Ended(self.keys or self.listed, 0)
 
 
 def keys_in_order(count: int) -> str:
@@ -97,17 +99,16 @@ LOADED = Making(100_000, 3, keys_in_order(70_000))
 GATHERED = LOADED._replace(form=4)
 
 
-def try_faults(program: Program, folder: str, listed: str = "") -> None:
-    """Has each write and each sync of a making of two slots fail."""
+def try_faults(program: Program, folder: str, making: Making = Making(2, 2)) -> None:
+    """Has each write and each sync of a making fail, of one of two slots where none is given."""
     needs_strace()
-    making = Making(2, 2, listed)
     counted = os.path.join(folder, "counted")
     open(counted, "wb").close()
-    counts = count_calls(program, making.words(counted), listed, os.path.join(folder, "log"))
+    counts = count_calls(program, making.words(counted), making.listed, os.path.join(folder, "log"))
     for call, number in ((call, number) for call in FAILURES for number in range(1, counts[call] + 1)):
         file = os.path.join(folder, f"{call}-{number}")
         open(file, "wb").close()
-        ended = program.run(*making.words(file), lines=listed, before=failing(file, call, number))
+        ended = program.run(*making.words(file), lines=making.listed, before=failing(file, call, number))
         expect(ended, DEVICE_FAILED, f"a making whose {call} {number} fails")
         expect_whole_or_nothing(program, file, making)
     told = ", ".join(f"{count} of {call}" for call, count in counts.items())

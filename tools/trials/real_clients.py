@@ -118,6 +118,7 @@ DIFFERENCES = (
     asked(f"SETNX 212 {'v' * 65}", ":1", "-ERR values are not kept, and may have 64 bytes"),
     # Commands that aren't there.
     asked("SCARD 4", ":2", unknown("SCARD 4")),
+    asked("LZ.CLEAR 9", unknown("LZ.CLEAR 9"), ":0"),
     # Nothing of a transaction is done.
     Difference(array(b"MULTI") + array(b"SADD", b"0", b"9") + array(b"EXEC"), b"+OK\r\n+QUEUED\r\n*1\r\n:1\r\n", 2 * NO_TRANSACTIONS + ENDS["exec"]),
     asked("SISMEMBER 0 9", ":1", ":0"),

@@ -9,7 +9,7 @@ import socket
 import subprocess
 import tempfile
 import time
-from typing import Callable, Optional, Sequence, Tuple, Union
+from typing import Callable, Iterator, Optional, Sequence, Tuple, Union
 
 from lazyset import key_of, mark_of
 from trials.at_path import socket_of
@@ -150,32 +150,35 @@ BAD_FILES: Tuple[Tuple[bytes, int, str], ...] = (
 )
 
 
-def try_files(program: Program, folder: str) -> None:
-    """A secret that can't be had, or that others may read, serves nobody: it is told so, with the reason, and nothing is written."""
-    file, path = os.path.join(folder, "f"), os.path.join(folder, "secret")
-    before = made(program, file, (), 4, 2)
-
-    def expect_refused(what: str, why: str) -> None:
-        for words in (("0", "2", *under(path)), ("0", "--text", "--secret", path)):
-            found = program.run_loud("serve", file, *words, patience=PATIENCE)
-            expect(found, (Ended("nosecret\n", 3), f"lazyset: serve {file}: --secret {path}: {why}\n"), f"{' '.join(words)}, where there is {what}")
-        with open(file, "rb") as text:
-            expect(text.read(), before, f"what is left, where there is {what}")
-
+def bad_secrets(folder: str) -> Iterator[Tuple[str, str]]:
+    """Puts one thing after the other there that is no secret of this user's alone: what it is, and why it is refused."""
+    path = os.path.join(folder, "secret")
     for what, put_there, why in NO_FILES:
         if put_there is not None:
             put_there(path)
-        expect_refused(what, why)
+        yield what, why
         if os.path.isdir(path):
             os.rmdir(path)
         elif os.path.lexists(path):
             os.remove(path)
     for secret, mode, why in BAD_FILES:
         kept(folder, secret, mode)
-        expect_refused(f"a file of {len(secret)} bytes, {secret[:16]!r}, mode {mode:04o}", why)
+        yield f"a file of {len(secret)} bytes, {secret[:16]!r}, mode {mode:04o}", why
     if os.geteuid() == 0:
         os.chown(kept(folder, SECRET), 1, -1)
-        expect_refused("another user's file", "it is another user's")
+        yield "another user's file", "it is another user's"
+
+
+def try_files(program: Program, folder: str) -> None:
+    """A secret that can't be had, or that others may read, serves nobody: it is told so, with the reason, and nothing is written."""
+    file, path = os.path.join(folder, "f"), os.path.join(folder, "secret")
+    before = made(program, file, (), 4, 2)
+    for what, why in bad_secrets(folder):
+        for words in (("0", "2", *under(path)), ("0", "--text", "--secret", path)):
+            found = program.run_loud("serve", file, *words, patience=PATIENCE)
+            expect(found, (Ended("nosecret\n", 3), f"lazyset: serve {file}: --secret {path}: {why}\n"), f"{' '.join(words)}, where there is {what}")
+        with open(file, "rb") as text:
+            expect(text.read(), before, f"what is left, where there is {what}")
     for mode in (0o600, 0o400):
         expect(started(program, file, under(kept(folder, SECRET, mode)))[0][:10], "listening ", f"a start by a secret of mode {mode:04o}")
     expect(sorted(os.listdir(folder)), ["f", "secret"], "what is left")
@@ -194,7 +197,7 @@ def try_words(program: Program, folder: str) -> None:
     ):
         ended = program.run("serve", file, *words, patience=PATIENCE)
         expect((ended.text[:7], ended.status), ("error: ", 2), f"a service {' '.join(words)}")
-    for command in (("run", file), ("make", file, "4", "--keys", "--text", "s"), ("check", file)):
+    for command in (("run", file), ("renew", file, f"{file}2", "4"), ("check", file)):
         ended = program.run(*command, *named)
         expect((ended.text[:7], ended.status), ("error: ", 2), f"{' '.join(command)} with a secret")
     with open(file, "rb") as text:

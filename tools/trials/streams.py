@@ -14,16 +14,22 @@ from trials.report import expect
 # What the program's address space may take: a list that is kept whole doesn't fit.
 MEMORY = 64 << 20
 
-# More than the program may take of an endless list: what one read takes, and what a pipe holds.
+# More than the program may take of an endless list: 65,536 keys, what one read takes, and what a pipe holds.
 MOST_TAKEN = 1 << 20
 
 # The beginnings of lists, and what is told of them while their writer keeps the pipe open.
 AT_FAULT: Tuple[Tuple[bytes, str], ...] = (
     (b"x\n", "line 1\n"),
     (b"17\n5\n\n", "line 3\n"),
-    (b"17\n5\n0:17\n", "twice 3\n"),
+    (b"17\n5\n0:17\nx\n", "twice 3\n"),
     (b"17\n" + b"1" * 23, "line 2\n"),
-    (b"15:999999999999999999\r\n15:999999999999999999\r\n", "twice 2\n"),
+    (b"15:999999999999999999\r\n15:999999999999999999\r\n\n", "twice 2\n"),
+)
+
+# Lists whose writer repeats them without end: keys that stand twice are looked for each time that there are four times as many.
+REPEATED: Tuple[Tuple[bytes, str], ...] = (
+    (b"17\n", "twice 2\n"),
+    (b"".join(b"%d\n" % key for key in range(1, 1001)), "twice 1001\n"),
 )
 
 
@@ -67,8 +73,17 @@ def try_endless(program: Program, folder: str) -> None:
         expect(taken < MOST_TAKEN, True, f"{taken} bytes were taken")
 
 
+def try_repeated(program: Program, folder: str) -> None:
+    """A list that repeats its lines without end is refused at the first that stands twice."""
+    for piece, told in REPEATED:
+        process = start(program, folder, PIPE)
+        taken = pour(process, piece * (4096 // len(piece) + 1))
+        expect(end(process), Ended(told, 3), f"{piece[:8]!r} without end")
+        expect(taken < MOST_TAKEN, True, f"{taken} bytes were taken")
+
+
 def try_early(program: Program, folder: str) -> None:
-    """The first fault is told before the list ends."""
+    """A line at fault is told before the list ends, and so is a key above it that stands twice."""
     for text, told in AT_FAULT:
         process = start(program, folder, PIPE)
         assert process.stdin is not None
@@ -89,5 +104,5 @@ def try_broken(program: Program, folder: str) -> None:
 
 
 def try_streams(program: Program, folder: str) -> None:
-    for trial in (try_endless, try_early, try_broken):
+    for trial in (try_endless, try_repeated, try_early, try_broken):
         trial(program, folder)

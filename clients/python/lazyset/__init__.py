@@ -18,6 +18,7 @@
 
     with RespKeys(7009) as keys:                  # a service with --resp
         Periods(keys, 86400).is_new(21)           # True once a day; the key is forgotten a day later
+        keys.clear(3)                             # removes all members of room 3, and gives how many
 
 What each reply means, and what a lost connection leaves unknown, is told in docs/PROTOCOL.md; what a call may raise in
 `lazyset.errors`.
@@ -29,6 +30,7 @@ from .connection import CONNECT_TIMEOUT, REPLY_TIMEOUT, Lazyset
 from .errors import (
     Bad,
     BadReply,
+    BeingCleared,
     Closed,
     Full,
     Halted,
@@ -37,6 +39,7 @@ from .errors import (
     LazysetError,
     LostConnection,
     NoConnection,
+    NotCleared,
     NotServed,
     OldFile,
     Refused,
@@ -50,7 +53,7 @@ from .pool import Pool
 from .resp import RespKeys
 from .texts import key_of, mark_of
 
-__version__ = "1.18"
+__version__ = "1.19"
 
 __all__ = [
     "CONNECT_TIMEOUT",
@@ -60,6 +63,7 @@ __all__ = [
     "REPLY_TIMEOUT",
     "Bad",
     "BadReply",
+    "BeingCleared",
     "Closed",
     "Command",
     "Full",
@@ -70,6 +74,7 @@ __all__ = [
     "LazysetError",
     "LostConnection",
     "NoConnection",
+    "NotCleared",
     "NotServed",
     "OldFile",
     "Periods",

@@ -5,6 +5,8 @@
             Full, OldFile, Worn
         InDoubt             a claim of which an earlier try had no answer: it isn't known whose the key is
         Late                a claim of a period took too long: it isn't known whether the key is new
+        BeingCleared        a room is being cleared, and one at a time: nothing was done; the connection goes on
+        NotCleared          a clearing ended early; what it removed stays so
         NotServed           the child of `Lazyset.open` didn't serve its file, or ended badly, and why
         Unfinished          the connection is closed; `replies` and `command` say how far the call came
             Halted          the service's device failed
@@ -74,6 +76,24 @@ class Late(LazysetError):
         super().__init__(f"a claim of {number} took {seconds:.1f} seconds, which is longer than the guard")
         self.number = number
         self.seconds = seconds
+
+
+class BeingCleared(LazysetError):
+    """A room is being cleared, and a service clears one at a time. Nothing was done for this call: ask again after it. The connection goes on."""
+
+    def __init__(self, room: int) -> None:
+        super().__init__(f"a room is being cleared, and room {room} isn't: ask again after it")
+        self.room = room
+
+
+class NotCleared(LazysetError):
+    """The clearing of `room` ended early: the service stops, its device failed, or it has no memory. So many of its keys were `removed`, for good.
+    Ask again once it is started again."""
+
+    def __init__(self, room: int, removed: int) -> None:
+        super().__init__(f"room {room} isn't cleared: {removed} of its keys were removed")
+        self.room = room
+        self.removed = removed
 
 
 class NotServed(LazysetError):

@@ -2,6 +2,7 @@
 
 from __future__ import annotations
 
+import re
 import socket
 import threading
 from types import TracebackType
@@ -9,7 +10,21 @@ from typing import IO, Any, Iterator, List, Optional, Sequence, Type, Union
 
 from .commands import Command, Verb
 from .connection import CONNECT_TIMEOUT, REPLY_TIMEOUT
-from .errors import BadReply, Closed, Full, Halted, LostConnection, NoConnection, OldFile, Stopping, TimedOut, Unfinished, Worn
+from .errors import (
+    BadReply,
+    BeingCleared,
+    Closed,
+    Full,
+    Halted,
+    LostConnection,
+    NoConnection,
+    NotCleared,
+    OldFile,
+    Stopping,
+    TimedOut,
+    Unfinished,
+    Worn,
+)
 
 # How many keys a page of a room has at most: a service gives no more.
 PAGE = 256
@@ -20,6 +35,10 @@ _REFUSED = {"FULL": Full, "OLDFILE": OldFile, "WORN": Worn}
 # The error of a service that ends and has begun nothing of what was asked.
 _STOPPING = "ERR stopping"
 
+# The errors of a clearing that wasn't begun, since another one is under way, and of one that ended early.
+_BEING_CLEARED = "ERR a room is being cleared"
+_NOT_CLEARED = re.compile(r"ERR the room isn't cleared: ([0-9]+) of its keys were removed")
+
 
 class ErrorReply(str):
     """What a service answers in place of a reply."""
@@ -28,8 +47,8 @@ class ErrorReply(str):
 class RespKeys:
     """A connection to a service with `--resp`, on a port or on the Unix socket at a path.
 
-    It asks for keys as a `Lazyset` does, one command after the other, and lists the members of a room besides. Threads may share it.
-    Each client of Redis may be used in its place. Whatever ends a call before its reply was read closes the connection, and each later
+    It asks for keys as a `Lazyset` does, one command after the other, and lists the members of a room besides, or removes them all. Threads may
+    share it. Each client of Redis may be used in its place. Whatever ends a call before its reply was read closes the connection, and each later
     call raises `Closed`, until `reconnect()`."""
 
     def __init__(
@@ -92,6 +111,21 @@ class RespKeys:
             if cursor == "0":
                 return
 
+    def clear(self, room: int, timeout: Optional[float] = None) -> int:
+        """Removes all members of a room, and gives how many it removed: docs/PROTOCOL.md, "A clearing". The service is of release 1.19 or later.
+
+        A large room takes its time, so the reply is awaited without a limit unless `timeout` sets one, in seconds. The room is cleared also where
+        the connection is lost. `BeingCleared`: one is being cleared already. `NotCleared`: it ended early, and has removed so many."""
+        some_key = Command.has(0, room)
+        reply = self._exchange(some_key, ("LZ.CLEAR", str(room)), timeout)
+        if isinstance(reply, ErrorReply):
+            if reply.startswith(_BEING_CLEARED):
+                raise BeingCleared(room)
+            early = _NOT_CLEARED.match(reply)
+            if early:
+                raise NotCleared(room, int(early[1]))
+        return self._number(self._unless_error(some_key, reply))
+
     def close(self) -> None:
         """Ends the connection."""
         with self._lock:
@@ -115,18 +149,21 @@ class RespKeys:
         else:
             self._socket = socket.create_connection(self._address, self._connect_timeout)
             self._socket.setsockopt(socket.IPPROTO_TCP, socket.TCP_NODELAY, 1)
-        self._socket.settimeout(self._timeout)
         self._received = self._socket.makefile("rb")
 
     def _count(self, command: Command, *further: str) -> int:
-        reply = self._ask(command, _WORDS[command.verb], str(command.room), str(command.number), *further)
+        return self._number(self._ask(command, _WORDS[command.verb], str(command.room), str(command.number), *further))
+
+    def _number(self, reply: object) -> int:
         if not isinstance(reply, int):
             raise self._no_reply(reply)
         return reply
 
     def _ask(self, command: Command, *words: str) -> Any:
         """The reply to these words, which ask for what a command asks."""
-        reply = self._exchange(command, words)
+        return self._unless_error(command, self._exchange(command, words, self._timeout))
+
+    def _unless_error(self, command: Command, reply: Any) -> Any:
         if isinstance(reply, ErrorReply):
             kind = reply.split(" ")[0]
             if kind in _REFUSED:
@@ -137,18 +174,19 @@ class RespKeys:
             raise Halted(reply, (), command) if kind == "HALTED" else BadReply(reply, (), command)
         return reply
 
-    def _exchange(self, command: Command, words: Sequence[str]) -> Any:
+    def _exchange(self, command: Command, words: Sequence[str], timeout: Optional[float]) -> Any:
         """Sends the words and reads their reply, as the only call on this connection."""
         with self._lock:
             if self._socket is None or self._received is None:
                 raise Closed("the connection is closed", (), command)
             try:
+                self._socket.settimeout(timeout)
                 self._socket.sendall(frame(words))
                 return read_reply(self._received)
             except BaseException as error:
                 self._drop()
                 if isinstance(error, socket.timeout):
-                    raise TimedOut(f"no reply within {self._timeout} seconds", (), command) from error
+                    raise TimedOut(f"no reply within {timeout} seconds", (), command) from error
                 if isinstance(error, OSError):
                     raise LostConnection(f"no reply: {error}", (), command) from error
                 if isinstance(error, Unfinished):

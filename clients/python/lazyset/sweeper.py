@@ -5,6 +5,9 @@ usage: python3 -m lazyset.sweeper PORT SECONDS [--guard SECONDS] [--once]
 PORT is a port of this machine, or the path of a Unix socket. A period is SECONDS long, and the guard is 60 unless given: both as the
 clients have them. It sweeps now, and again after each change of period, or with --once now alone, as for a timer. Each room that no period
 uses is swept, so what a sweep that failed has left is gone after the next one. It says how many keys it removed.
+
+A service of release 1.19 or later removes the keys of one room by one command (LZ.CLEAR, `RespKeys.clear`). A sweep goes page by page: so it serves
+older ones too, and leaves a room at once where a change of period comes to it.
 """
 
 from __future__ import annotations
