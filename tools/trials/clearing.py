@@ -143,12 +143,12 @@ def try_second(program: Program, folder: str) -> None:
         with Service(program, file, 16, "--loops", loops, *by_frames(8)) as service, connect(service.port) as second, asking(service.port) as first:
             time.sleep(0.1)
             some = b"%d" % others[0].number
-            second.sendall(clear(ROOM) + clear(0) + array(b"PING") + array(b"SISMEMBER", b"0", some) + clear(16))
-            expect_told(second, 2 * BUSY + PONG + integer(1) + NO_ROOM, "what a second client is told while a room is cleared")
+            second.sendall(array(b"PING") + array(b"SISMEMBER", b"0", some) + clear(16) + clear(ROOM) + clear(0))
+            expect_told(second, PONG + integer(1) + NO_ROOM + 2 * BUSY, "what a second client is told while a room is cleared")
             expect(values(second)["connected_clients"], "3", "the clients meanwhile")
             expect_told(first, integer(len(room)), "what the first client is told")
-            second.sendall(clear(ROOM) + array(b"SISMEMBER", b"0", some))
-            expect_told(second, integer(0) + integer(1), "what the second client is told after it")
+            second.sendall(array(b"SISMEMBER", b"0", some) + clear(ROOM))
+            expect_told(second, integer(1) + integer(0), "what the second client is told after it")
             latest = time.monotonic() + PATIENCE
             while values(second)["connected_clients"] != "2":
                 expect(time.monotonic() < latest, True, "that the connection inside has ended")
