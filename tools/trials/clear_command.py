@@ -130,7 +130,7 @@ def try_words(program: Program, folder: str) -> None:
         expect(told.text[len(first) :], MORE, f"how it ends of {room!r}")
     for given in ((), (missing,), (missing, "3", "4"), (missing, "-1"), (missing, "3", "--within", "5")):
         expect(program.run("clear", *given).status, 2, f"the status of clear {' '.join(given)}")
-    for count in (0, 1, 5, 4096):
+    for count in (1, 5, 4096):
         path = os.path.join(folder, f"earlier-{count}")
         with ending_after(path, count):
             expect(program.run_loud("clear", path, "3"), said(path, HAS_ENDED), f"a service that ends the connection after {count} bytes")
@@ -138,7 +138,7 @@ def try_words(program: Program, folder: str) -> None:
 
 @contextmanager
 def ending_after(path: str, count: int) -> Iterator[None]:
-    """A socket where a connection ends once up to so many bytes have come."""
+    """A socket where a connection ends once up to so many bytes have come, one at least: where none is awaited the client may not write any more."""
     with socket.socket(socket.AF_UNIX) as listener:
         listener.bind(path)
         listener.listen(1)
