@@ -20,7 +20,7 @@ use crate::watched::Watched;
 use crate::way_out::WayOut;
 use lazyset_set_commands::{Heed, Status};
 use lz_disk::Cause;
-use lz_serve::{Clearings, Listener, Observer, close_listener};
+use lz_serve::{Clearings, Forgetting, Listener, Observer, close_listener};
 use lz_slot::Format;
 use std::fmt;
 use std::sync::atomic::{AtomicBool, AtomicUsize, Ordering};
@@ -81,6 +81,8 @@ pub struct Log<'a, R: Eprint> {
     lacks_loop: AtomicBool,
     stops: AtomicBool,
     clearings: Clearings,
+    /// How keys are forgotten, where they are.
+    forgetting: Option<&'a Forgetting>,
 }
 
 impl<'a, R> Log<'a, R>
@@ -93,6 +95,7 @@ where
         file: &'a str,
         watched: Option<Watched>,
         around: Surroundings,
+        forgetting: Option<&'a Forgetting>,
     ) -> Log<'a, R> {
         let format = watched
             .as_ref()
@@ -121,6 +124,7 @@ where
             lacks_loop: AtomicBool::new(false),
             stops: AtomicBool::new(false),
             clearings: Clearings::new(),
+            forgetting,
         };
         log.say(Level::Info, "opening");
         log
@@ -272,7 +276,15 @@ where
 
     // How many members it has, without its marks.
     fn members(&self) -> usize {
-        self.gauge.members().saturating_sub(self.shape().marks)
+        self.gauge.members().saturating_sub(self.marks())
+    }
+
+    // How many marks it has.
+    fn marks(&self) -> usize {
+        match self.forgetting {
+            Some(shared) => shared.marks(),
+            None => self.shape().marks,
+        }
     }
 
     // Says that lists are long, where they are.

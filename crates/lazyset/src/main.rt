@@ -15,6 +15,7 @@ mod descriptors;
 mod ending;
 mod fault;
 mod files;
+mod forgetting;
 mod formats;
 mod gauge;
 mod growing;

@@ -126,7 +126,8 @@ where
     let place = at.place(rt);
     let disk = shown(rt, file, disk, bytes_read(rt, file, &wanted));
     let socket = socket_of(rt, &place);
-    let log = Log::new(rt, file, watched, around);
+    let forgetting = options.loops.and_then(|loops| loops.forgetting);
+    let log = Log::new(rt, file, watched, around, forgetting);
     let Ended {
         status,
         disk,

@@ -6,6 +6,7 @@ ghost use Rattle.lazyset_set_commands.specs.Services.{IsServable};
 use crate::descriptors::connections_allowed;
 use crate::fault::Fault;
 use crate::files::open_for;
+use crate::forgetting::forgetting_of;
 use crate::secrets::secret_of;
 use crate::service::{At, serve};
 use lazyset_arguments::{Request, Service};
@@ -21,6 +22,10 @@ use std::sync::Wait;
 use std::thread::Threads;
 use std::time::Clock;
 
+// What is said of a service that forgets and is to end after so many sessions.
+const NO_SESSIONS: &str =
+    "error: the argument '--sessions <N>' cannot be used with '--forget <SECONDS>'\n\nFor more information, try '--help'.\n";
+
 /// Opens the file that is to be served, and serves its set.
 pub fn serve_file<R, W>(rt: &R, writer: &mut W, service: Service<'_>) -> Result<Status, Fault>
 where
@@ -29,6 +34,11 @@ where
     W: Write + Drop,
     requires { IsServable service.options }
 {
+    // The keeper of the epochs is a session that has no end.
+    if service.forgets.is_some() && service.options.sessions > 0 {
+        let text = format!(in rt.alloc(); "{NO_SESSIONS}")?;
+        return Err(Fault::NotUnderstood(text));
+    }
     let at = At::of(rt, service);
     let secret = secret_of(rt, Request::Serve(service), service.secret)?;
     let Service {
@@ -37,7 +47,15 @@ where
         chosen,
         ..
     } = service;
-    let (disk, header) = open_for(rt, file, options.buckets, service.no_lock)?;
+    let (mut disk, header) = open_for(rt, file, options.buckets, service.no_lock)?;
+    let alloc = rt.alloc();
+    let forgetting = match service.forgets {
+        Some(period) => match forgetting_of(alloc, writer, &mut disk, header, period, secret) {
+            Ok(shared) => Some(shared),
+            Err(status) => return Ok(status),
+        },
+        None => None,
+    };
     let buckets = if chosen.buckets {
         buckets_for(header)
     } else {
@@ -50,13 +68,12 @@ where
     };
     let options = ServeOptions {
         buckets,
-        loops: match secret {
-            Some(secret) => loops.map(|loops| with_secret(loops, secret)),
-            None => loops,
-        },
+        loops: loops.map(|loops| Loops {
+            forgetting,
+            ..with_secret(loops, secret)
+        }),
         ..options
     };
-    let alloc = rt.alloc();
     let beside = format!(in alloc; "{file}.control")?;
     let control = if chosen.control {
         Some(beside.as_str())
@@ -84,8 +101,11 @@ fn buckets_for(header: Option<Header>) -> usize
     slots.clamp(1, most)
 }
 
-// The same loops, whose clients' texts are hashed after this secret.
-fn with_secret(loops: Loops, secret: &'static Secret) -> Loops {
+// The same loops, whose clients' texts are hashed after this secret, if there is one.
+fn with_secret(loops: Loops, secret: Option<&'static Secret>) -> Loops {
+    let Some(secret) = secret else {
+        return loops;
+    };
     Loops {
         language: Language::Frames(Naming::Texts(Some(secret))),
         ..loops

@@ -33,3 +33,8 @@ pub const ADOPT: &str = "adopt";
 
 /// The option for the file of a secret.
 pub const SECRET_ID: &str = "secret";
+
+/// The option by which texts are forgotten, and the one for the number of epochs by which they are.
+pub const FORGET_ID: &str = "forget";
+
+pub const EPOCHS_ID: &str = "epochs";

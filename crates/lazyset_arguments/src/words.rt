@@ -1,8 +1,9 @@
 //! The words of the commands, as a table.
 use crate::ids::{
-    ADOPT, CONNECTIONS_ID, CONTROL_ID, LINES_ID, NUMBERS_ID, PASSES_ID, RESP_ID, SECRET_ID,
-    SOCKET_ID, SOCKET_MODE_ID, TEXT_ID,
+    ADOPT, CONNECTIONS_ID, CONTROL_ID, EPOCHS_ID, FORGET_ID, LINES_ID, NUMBERS_ID, PASSES_ID,
+    RESP_ID, SECRET_ID, SOCKET_ID, SOCKET_MODE_ID, TEXT_ID,
 };
+use crate::period::{FEWEST_EPOCHS, MOST_EPOCHS, MOST_SECONDS};
 use lz_serve::{MOST_CONNECTIONS, MOST_THREADS};
 use lz_slot::{MOST_BUCKETS, MOST_REHEARSED};
 
@@ -246,7 +247,12 @@ pub(crate) const LINES: Word = Word {
     value_name: None,
     form: Form::Flag,
     default: None,
-    beside: Beside::Serving(None, &[RESP_ID, TEXT_ID, NUMBERS_ID, SECRET_ID]),
+    beside: Beside::Serving(
+        None,
+        &[
+            RESP_ID, TEXT_ID, NUMBERS_ID, SECRET_ID, FORGET_ID, EPOCHS_ID,
+        ],
+    ),
     help: "Speaks lines alone",
 };
 
@@ -273,12 +279,30 @@ pub(crate) const SECRET_OF: Word = Word {
     ..SECRET
 };
 
+pub(crate) const FORGET: Word = Word {
+    id: FORGET_ID,
+    value_name: Some("SECONDS"),
+    form: Form::Within(1, MOST_SECONDS as i64),
+    default: None,
+    beside: Beside::Needs(TEXT_ID),
+    help: "Forgets each text SECONDS after its addition, 1 to 100000000, or up to an epoch later, which is SECONDS / (E - 1). Frames alone are spoken then",
+};
+
+pub(crate) const EPOCHS: Word = Word {
+    id: EPOCHS_ID,
+    value_name: Some("E"),
+    form: Form::Within(FEWEST_EPOCHS as i64, MOST_EPOCHS as i64),
+    default: None,
+    beside: Beside::Needs(FORGET_ID),
+    help: "By how many epochs it forgets, 2 to 12; 3 unless given. The more there are the sooner a text is forgotten after SECONDS, and the more an addition costs",
+};
+
 pub(crate) const NUMBERS: Word = Word {
     id: NUMBERS_ID,
     value_name: None,
     form: Form::Flag,
     default: None,
-    beside: Beside::Serving(Some(RESP_ID), &[TEXT_ID, SECRET_ID]),
+    beside: Beside::Serving(Some(RESP_ID), &[TEXT_ID, SECRET_ID, FORGET_ID, EPOCHS_ID]),
     help: "Takes keys for numbers though the file is marked as one of texts, which is refused without it, `othertext`",
 };
 
