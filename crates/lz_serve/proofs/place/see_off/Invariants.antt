@@ -1,5 +1,0 @@
-use Rattle.lz_serve.proofs.place.see_off.Given as goal
-use Rattle.lz_serve.specs.Clients.{KeepsLines}
-
-abbrev pub invariant-loop : goal.invariant-loop
-invariant-loop g l = KeepsLines l.fn.client l.client
