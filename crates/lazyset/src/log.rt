@@ -20,7 +20,7 @@ use crate::watched::Watched;
 use crate::way_out::WayOut;
 use lazyset_set_commands::{Heed, Status};
 use lz_disk::Cause;
-use lz_serve::{Clearings, Forgetting, Listener, Observer, close_listener};
+use lz_serve::{Clearings, Listener, Observer, close_listener};
 use lz_slot::Format;
 use std::fmt;
 use std::sync::atomic::{AtomicBool, AtomicUsize, Ordering};
@@ -81,8 +81,9 @@ pub struct Log<'a, R: Eprint> {
     lacks_loop: AtomicBool,
     stops: AtomicBool,
     clearings: Clearings,
-    /// How keys are forgotten, where they are.
-    forgetting: Option<&'a Forgetting>,
+    /// How many marks its file has, where keys are forgotten. (What the loops share can't stand here: the kit's borrow checker takes no type of several
+    /// lifetimes in a call whose signature names `'static`, and a secret has one.)
+    marks: Option<&'a AtomicUsize>,
 }
 
 impl<'a, R> Log<'a, R>
@@ -95,7 +96,7 @@ where
         file: &'a str,
         watched: Option<Watched>,
         around: Surroundings,
-        forgetting: Option<&'a Forgetting>,
+        marks: Option<&'a AtomicUsize>,
     ) -> Log<'a, R> {
         let format = watched
             .as_ref()
@@ -124,7 +125,7 @@ where
             lacks_loop: AtomicBool::new(false),
             stops: AtomicBool::new(false),
             clearings: Clearings::new(),
-            forgetting,
+            marks,
         };
         log.say(Level::Info, "opening");
         log
@@ -281,8 +282,8 @@ where
 
     // How many marks it has.
     fn marks(&self) -> usize {
-        match self.forgetting {
-            Some(shared) => shared.marks(),
+        match self.marks {
+            Some(count) => count.load(Ordering::SeqCst),
             None => self.shape().marks,
         }
     }

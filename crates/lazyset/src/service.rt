@@ -21,6 +21,7 @@ use crate::way_out::WayOut;
 use lazyset_arguments::Service;
 use lazyset_set_commands::{Listener, Place, ServeOptions, Status, Wanted, serve_kept_on};
 use lz_disk::{Disk, FileDisk};
+use lz_serve::Loops;
 use std::fs::File;
 use std::io::{ErrorKind, Write};
 use std::net::{Net, TcpListener, TcpStream};
@@ -126,8 +127,16 @@ where
     let place = at.place(rt);
     let disk = shown(rt, file, disk, bytes_read(rt, file, &wanted));
     let socket = socket_of(rt, &place);
-    let forgetting = options.loops.and_then(|loops| loops.forgetting);
-    let log = Log::new(rt, file, watched, around, forgetting);
+    let marks = match options.loops {
+        Some(
+            Loops {
+                forgetting: Some(shared),
+                ..
+            },
+        ) => Some(shared.marks()),
+        _ => None,
+    };
+    let log = Log::new(rt, file, watched, around, marks);
     let Ended {
         status,
         disk,

@@ -96,8 +96,8 @@ impl Turns {
     }
 
     /// How many marks the file has.
-    pub fn marks(&self) -> usize {
-        self.marks.load(Ordering::SeqCst)
+    pub fn marks(&self) -> &AtomicUsize {
+        &self.marks
     }
 
     pub(crate) fn note_marks(&self, count: usize) {

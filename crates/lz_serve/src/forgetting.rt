@@ -12,7 +12,7 @@ use lz_slot::Key;
 pub(crate) use spoken::Spoken;
 use std::alloc::{AllocError, Global};
 use std::fmt;
-use std::sync::atomic::{AtomicBool, Ordering};
+use std::sync::atomic::{AtomicBool, AtomicUsize, Ordering};
 use std::time::{Clock, Duration};
 
 /// What the loops of a service share whose keys are forgotten: which rooms are remembered, and which is swept.
@@ -64,7 +64,7 @@ impl Forgetting {
     }
 
     /// How many marks its file has.
-    pub fn marks(&self) -> usize {
+    pub fn marks(&self) -> &AtomicUsize {
         self.turns.marks()
     }
 
