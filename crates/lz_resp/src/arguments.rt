@@ -3,7 +3,7 @@ ghost use Rattle.std.specs.Prelude.{◌≡◌, ◌≤◌, ◌<◌, drop, length,
 ghost use Rattle.lz_resp.specs.Commands.{argument};
 
 /// The argument at this place.
-pub(crate) fn argument<'t>(arguments: &[&'t [u8]], index: usize) -> &'t [u8]
+pub fn argument<'t>(arguments: &[&'t [u8]], index: usize) -> &'t [u8]
     requires { index < length arguments.now }
     ensures { result.now ≡ argument (map (λ argument. argument.now) arguments.now) index }
 {

@@ -136,7 +136,7 @@ fn commands() -> &'static [Command]
 }
 
 /// Whether an argument is this name, in capitals or not.
-pub(crate) fn is_name(name: &[u8], argument: &[u8]) -> bool
+pub fn is_name(name: &[u8], argument: &[u8]) -> bool
     ensures { result ≡ is_name name.now argument.now }
 {
     argument.eq_ignore_ascii_case(name)

@@ -42,7 +42,7 @@ impl Form {
     }
 
     /// What a yes tells of a key.
-    pub(crate) fn done(self) -> &'static str
+    pub fn done(self) -> &'static str
         ensures { result.now ≡ done self }
     {
         match self {

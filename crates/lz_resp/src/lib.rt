@@ -35,7 +35,9 @@ mod text;
 mod three;
 mod transactions;
 
+pub use arguments::argument;
 pub use clearing::{Awaits, Clearing};
+pub use command::is_name;
 pub use fault::{Fault, Stop};
 pub use figures::{Cleared, Figures};
 pub use form::Form;
@@ -45,10 +47,13 @@ pub use limits::{
     FEWEST_SECRET, MOST_ARGUMENT, MOST_ARGUMENTS, MOST_FRAME, MOST_LISTED, MOST_SECRET, MOST_VALUE,
 };
 pub use naming::Naming;
-pub use page::{Page, page_request, read_page};
+pub use page::{Page, page_request, push_plain, read_page};
 pub use query::{Query, Sections};
-pub use reply::{has_halted, push_reply};
-pub use scan::Scan;
+pub use reading::{read_argument, read_first, read_line};
+pub use reply::{fault_text, has_halted, push_reply};
+pub use scan::{Scan, push_decimal};
 pub use secret::Secret;
+pub use state::State;
 pub use subset::text_number;
-pub use text::Text;
+pub use text::{Text, push_number};
+pub use transactions::item_in;

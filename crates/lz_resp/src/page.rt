@@ -31,7 +31,7 @@ pub fn page_request(alloc: Global, cursor: u64) -> Result<Text, AllocError>
 }
 
 /// Puts a number's plain decimal after a text.
-pub(crate) fn push_plain(text: &mut Vec<u8>, number: u64) -> Result<(), AllocError>
+pub fn push_plain(text: &mut Vec<u8>, number: u64) -> Result<(), AllocError>
     ensures { OnOk result (text.new.items ≡ text.old.items ++ decimal number) }
 {
     let mut digits = Buffer::new();

@@ -12,7 +12,7 @@ use memchr::memchr;
 use std::alloc::{AllocError, Global};
 
 /// The arguments of the first frame of a text, and how many bytes it has; none where no whole one has come.
-pub(crate) fn read_first(alloc: Global, text: &[u8]) -> Result<Option<(Vec<&[u8]>, usize)>, Stop>
+pub fn read_first(alloc: Global, text: &[u8]) -> Result<Option<(Vec<&[u8]>, usize)>, Stop>
     ensures gives { Gives (λ p. (map (λ argument. argument.now) p.0.items, drop p.1 text.now)) result (first_of text.now) }
     ensures inside { IfOk result (λ found. IfSome found (λ p. (0 < p.1) × (p.1 ≤ length text.now))) }
 {
@@ -149,7 +149,7 @@ fn count_of(digits: &[u8]) -> Option<usize>
 }
 
 /// A bulk string's bytes, and what follows it.
-pub(crate) fn read_argument(text: &[u8]) -> Result<Option<(&[u8], &[u8])>, Fault>
+pub fn read_argument(text: &[u8]) -> Result<Option<(&[u8], &[u8])>, Fault>
     ensures gives { seen (λ p. (p.0.now, p.1.now)) result ≡ argument_at text.now }
     ensures inside { IfOk result (λ found. IfSome found (λ p. length p.1.now ≤ length text.now)) }
 {
@@ -190,7 +190,7 @@ fn cut_argument(count: usize, text: &[u8]) -> Result<Option<(&[u8], &[u8])>, Fau
 }
 
 /// A line less its end, and what follows it.
-pub(crate) fn read_line(fault: Fault, text: &[u8]) -> Result<Option<(&[u8], &[u8])>, Fault>
+pub fn read_line(fault: Fault, text: &[u8]) -> Result<Option<(&[u8], &[u8])>, Fault>
     ensures gives { seen (λ p. (p.0.now, p.1.now)) result ≡ line_at fault text.now }
     ensures inside { IfOk result (λ found. IfSome found (λ p. length p.1.now ≤ length text.now)) }
 {

@@ -154,7 +154,7 @@ fn is_yes(reply: &Reply) -> bool
 }
 
 /// The last reply to a stream that goes on in no frame.
-pub(crate) fn fault_text(alloc: Global, fault: Fault) -> Result<Text, AllocError>
+pub fn fault_text(alloc: Global, fault: Fault) -> Result<Text, AllocError>
     ensures { IfOk result (λ text. text ≡ fault_text fault) }
 {
     let mut text = Vec::from_slice(alloc, b"-ERR Protocol error: ")?;

@@ -90,7 +90,7 @@ fn told_of(room: Option<u8>, key: Key) -> u64
 }
 
 /// Puts a number's decimal as a bulk string after a text.
-pub(crate) fn push_decimal(text: &mut Vec<u8>, number: u64) -> Result<(), AllocError>
+pub fn push_decimal(text: &mut Vec<u8>, number: u64) -> Result<(), AllocError>
     ensures { OnOk result (text.new.items ≡ text.old.items ++ bulk (decimal number)) }
 {
     let mut digits = Buffer::new();

@@ -6,14 +6,14 @@ use crate::naming::{Naming, Selected};
 
 /// What is selected, and whether frames are refused, since they stand in a transaction.
 #[derive(Clone, Copy, Debug)]
-pub(crate) struct State {
+pub struct State {
     pub(crate) selected: Selected,
     pub(crate) refuses: bool,
 }
 
 impl State {
     /// No frame has come.
-    pub(crate) fn at_first(naming: Naming) -> State
+    pub fn at_first(naming: Naming) -> State
         ensures state { result ≡ at_first naming }
         ensures range { IsRoom result.selected }
     {

@@ -44,7 +44,7 @@ impl Text {
 }
 
 /// Puts a number's plain decimal after a text.
-pub(crate) fn push_number(text: &mut Vec<u8>, number: usize) -> Result<(), AllocError>
+pub fn push_number(text: &mut Vec<u8>, number: usize) -> Result<(), AllocError>
     ensures { OnOk result (text.new.items ≡ text.old.items ++ decimal number) }
 {
     let mut digits = Buffer::new();

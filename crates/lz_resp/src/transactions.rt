@@ -15,11 +15,7 @@ use std::alloc::{AllocError, Global};
 
 /// What a frame of some arguments comes to, and the state after it.
 #[inline(always)]
-pub(crate) fn item_in(
-    alloc: Global,
-    state: &mut State,
-    arguments: &[&[u8]],
-) -> Result<Item, AllocError>
+pub fn item_in(alloc: Global, state: &mut State, arguments: &[&[u8]]) -> Result<Item, AllocError>
     requires some { 0 < length arguments.now }
     requires range { IsRoom state.old.selected }
     ensures item { IfOk result (λ item. item ≡ item_in state.old (map (λ argument. argument.now) arguments.now)) }
