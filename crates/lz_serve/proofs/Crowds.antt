@@ -1,11 +1,11 @@
 -- Clients at their places: what each operation on a place keeps.
 use Rattle.std.proofs.Common.{◌≡◌, ◌≢◌, ◌≤◌, ◌<◌, ◌+◌, inr, ℕ, zero, suc, All, List, [], ◌∷◌, Option, Some, None, IfSome, length, map, get_or, set, slice_get}
-use Rattle.std.proofs.{Common.{refl, sym, ap, subst, arith}, lemmas.List.Elements.{All-cons, All-head, All-nil, All-tail, All-weaker}}
+use Rattle.std.proofs.{Common.{refl, sym, ap, ◌∙◌, subst, arith}, lemmas.List.Elements.{All-cons, All-head, All-nil, All-tail, All-weaker}}
 use Rattle.std.proofs.lemmas.Option.{slice_get_read}
 use Rattle.lz_list.specs.Traces.{Trace, Begins}
 use Rattle.lz_resp.specs.declared.scan.Scan.{Scan}
 use Rattle.lz_serve.specs.Clients.{Asker, Askers, ChangesAt, ComesAfter, HasSeenIn, HaveSeenIn, IsAskedBy, IsAwaited, IsHeard, IsHeardAt, IsHeardOf, IsNext}
-use Rattle.lz_serve.specs.Clients.{IsOwn, IsOwnOf, Keeps, KeepsAwaited, KeepsHeard, KeepsLinesOf, KeepsOwn, KeepsReplies, KeepsSeen, OnlyLeave, TakesScan}
+use Rattle.lz_serve.specs.Clients.{IsOwn, IsOwnOf, Keeps, KeepsAwaited, KeepsHeard, KeepsLinesOf, KeepsOwn, KeepsReplies, KeepsSeen, OnlyLeave, Remains, TakesScan}
 use Rattle.lz_serve.specs.{Clients.{RefusesAt, RefusesOf, TellsPageAt, TellsPageOf}, Grants.{Posed}}
 
 pub from_nothing : (known : Trace) → Begins [] known
@@ -89,6 +89,14 @@ lines_seen None None same admitted known seen = tt
 lines_seen None (Some b) same admitted known seen = absurd same
 lines_seen (Some a) None same admitted known seen = tt
 lines_seen (Some a) (Some b) same admitted known seen = subst (λ (x : Asker). HasSeenIn admitted known (Some x)) (sym same) seen
+
+pub lines_stay : (old told new : Option Asker) → Remains old told → KeepsLinesOf told new → Remains old new
+lines_stay None None None stays same = tt
+lines_stay None None (Some c) stays same = absurd same
+lines_stay None (Some b) new stays same = absurd stays
+lines_stay (Some a) None new stays same = absurd stays
+lines_stay (Some a) (Some b) None stays same = absurd same
+lines_stay (Some a) (Some b) (Some c) stays same = ap (λ (x : Asker). x.connection) same ∙ stays
 
 -- what a client has seen, whatever its number
 pub only_seen : (admitted : ℕ) (known : Trace) (client : Option Asker) → HasSeenIn admitted known client → IfSome client (λ a. Begins a.seen known)

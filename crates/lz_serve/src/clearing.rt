@@ -28,8 +28,6 @@ const STOPPED: usize = 5;
 pub struct Clearings {
     stage: AtomicUsize,
     removed: AtomicUsize,
-    /// The number of the loop, and 1, whose clearing has something to send or has ended.
-    wakes: AtomicUsize,
 }
 
 impl Clearings {
@@ -38,7 +36,6 @@ impl Clearings {
         Clearings {
             stage: AtomicUsize::new(CLOSED),
             removed: AtomicUsize::new(0),
-            wakes: AtomicUsize::new(0),
         }
     }
 
@@ -92,6 +89,11 @@ impl Clearings {
         self.stage() >= ASKED
     }
 
+    /// Whether one has ended, and who asked wasn't told.
+    pub(crate) fn has_ended(&self) -> bool {
+        matches!(self.stage(), DONE | STOPPED)
+    }
+
     /// No loop has a place for its client.
     pub(crate) fn refuse(&self) {
         if self.take().is_some() {
@@ -106,19 +108,6 @@ impl Clearings {
         if !self.turn(RUNS, stage) {
             self.stage.store(FREE, Ordering::SeqCst);
         }
-    }
-
-    /// The client of this loop that clears a room can be read.
-    pub(crate) fn wake(&self, index: usize) {
-        self.wakes.store(index.saturating_add(1), Ordering::SeqCst);
-    }
-
-    /// Whether it can be read since this was asked last.
-    pub(crate) fn has_woken(&self, index: usize) -> bool {
-        let woken = index.saturating_add(1);
-        self.wakes
-            .compare_exchange(woken, 0, Ordering::SeqCst, Ordering::SeqCst)
-            .is_ok()
     }
 
     fn stage(&self) -> usize {

@@ -3,13 +3,13 @@ ghost use Rattle.std.specs.Prelude.{◌≡◌, ◌≢◌, ◌↔◌, ◌⊎◌, 
 ghost use Rattle.lz_list.specs.Traces.{Begins};
 ghost use Rattle.lz_board.specs.Seats.{part};
 ghost use Rattle.lz_proto.specs.declared.end.End.TheVariants.{Done};
-ghost use Rattle.lz_resp.specs.Queries.{IsClear};
-ghost use Rattle.lz_serve.specs.Clients.{AwaitsNoPage, HasLine, HasNoQuery, HasNoReady, HasNoText, HasTold, HasToldTexts, IsHeard, IsOwn, KeepsLines, KeepsOwn, TellsOf};
+ghost use Rattle.lz_serve.specs.Clients.{AwaitsNoPage, HasLine, HasNoReady, HasNoText, HasTold, HasToldTexts, IsHeard, IsOwn, KeepsLines, KeepsOwn, TellsOf};
 ghost use Rattle.lz_serve.specs.Grants.{Grant, IsGrant, IsLater, Posed};
 ghost use Rattle.lz_serve.specs.Lines.{AreReplied};
 ghost use Rattle.lz_serve.specs.Streams.{IsFresh};
 
 mod page;
+mod query;
 mod question;
 mod stop;
 
@@ -17,7 +17,6 @@ use crate::asking::Granted;
 use crate::conversation::{Conversation, pass_over};
 use crate::observer::Observer;
 use crate::stream::{Received, Stream, Taken};
-use lz_resp::{Cleared, Figures, Query};
 use lz_set::{Named, Pass};
 pub use question::Question;
 use std::alloc::Global;
@@ -120,6 +119,16 @@ impl<S: Stream> Client<S> {
         }
     }
 
+    /// Whether something has come for it of which no poller tells.
+    pub(crate) fn has_come(&self) -> bool {
+        !self.lost && !self.ended && self.stream.has_come()
+    }
+
+    /// Whether it waits for what no poller tells of.
+    pub(crate) fn stalls(&self) -> bool {
+        !self.lost && self.stream.stalls()
+    }
+
     /// Sends what is unsent, until the connection takes no more.
     pub fn write(&mut self)
         ensures { KeepsLines self.old self.new }
@@ -214,72 +223,8 @@ impl<S: Stream> Client<S> {
         }
     }
 
-    // Tells the first exchange, if it asks the service itself, and says whether it did.
-    #[inline(always)]
-    fn tell_query<O: Observer>(&mut self, observer: &O) -> bool
-        ensures lines { KeepsLines self.old self.new }
-        ensures lost { self.old.lost ≡ true → self.new ≡ self.old }
-        ensures fewer { result ≡ true → length self.new.turns < length self.old.turns }
-        ensures same { result ≡ false → self.new.turns ≡ self.old.turns }
-        ensures rests { result ≡ false → self.new.lost ≡ false → (self.new ≡ self.old) × HasNoQuery self.old }
-    {
-        if self.lost {
-            return false;
-        }
-        let Some(query) = self.talk.query() else {
-            return false;
-        };
-        let Some(figures) = self.figures_for(query, observer) else {
-            return false;
-        };
-        if query.ends_service(&figures) {
-            observer.shut_down();
-        }
-        self.tell_figures(&figures)
-    }
-
-    // What is known of the service then: of a room that is to be cleared nothing yet, until it is.
-    fn figures_for<O: Observer>(&mut self, query: Query, observer: &O) -> Option<Figures>
-        ensures same { self.new ≡ self.old }
-        ensures none { result ≡ None → IsClear query }
-    {
-        let Query::Clear(room) = query else {
-            return Some(observer.figures());
-        };
-        // Replies to requests after it, which may have been carried out, would wait for one more.
-        let cleared = if self.talk.waits() || self.talk.is_asked() {
-            Cleared::Stopped(0)
-        } else {
-            self.stream.clear(room)?
-        };
-        Some(Figures {
-            cleared,
-            ..observer.figures()
-        })
-    }
-
-    // Tells the first exchange, if it asks the service itself, by what is known of that, and says whether it did.
-    fn tell_figures(&mut self, figures: &Figures) -> bool
-        ensures lines { KeepsLines self.old self.new }
-        ensures lost { self.old.lost ≡ true → self.new ≡ self.old }
-        ensures fewer { result ≡ true → length self.new.turns < length self.old.turns }
-        ensures same { result ≡ false → self.new.turns ≡ self.old.turns }
-        ensures rests { result ≡ false → self.new.lost ≡ false → (self.new ≡ self.old) × HasNoQuery self.old }
-    {
-        if self.lost {
-            return false;
-        }
-        match self.talk.tell_query(figures) {
-            Ok(told) => told,
-            Err(_) => {
-                self.lost = true;
-                false
-            }
-        }
-    }
-
-    // Tells each exchange that can be told.
-    fn tell_all<O: Observer>(&mut self, observer: &O)
+    /// Tells each exchange that can be told.
+    pub(crate) fn tell_all<O: Observer>(&mut self, observer: &O)
         ensures connection { self.new.connection ≡ self.old.connection }
         ensures lines { self.new.lines ≡ self.old.lines }
         ensures kept { KeepsOwn (Some self.old) (Some self.new) }
@@ -394,11 +339,6 @@ impl<S: Stream> Client<S> {
         ensures { result ≡ false → (self.now.lost ≡ false) × (self.now.waiting ≡ []) × AwaitsNoPage self.now }
     {
         self.is_over() || self.has_unsent() || self.waits() || self.lists() || self.clears()
-    }
-
-    /// Whether it waits for a room to be cleared.
-    pub(crate) fn clears(&self) -> bool {
-        !self.lost && matches!(self.talk.query(), Some(Query::Clear(_)))
     }
 
     /// Where it has nothing to do, and has more room than a little, it gives all of it back.

@@ -35,7 +35,7 @@ pub struct Crowd<S: Stream> {
     places: Vec<Place<S>>,
     vacant: Vec<usize>,
     queue: Queue,
-    /// Those that were answered, had no line in their turn or have a room cleared, and weren't tended to since.
+    /// Those that were answered, had no line in their turn or are to be tended to in each turn, and weren't since.
     back: VecDeque<usize>,
     /// Those that wait for a page.
     scans: Vec<usize>,
@@ -129,7 +129,7 @@ impl<S: Stream> Crowd<S> {
         self.queue.is_empty()
     }
 
-    /// Whether a client is waited for whose session is over, or which waits for a room to be cleared.
+    /// Whether a client is waited for whose session is over, or one is to be tended to in each turn.
     pub fn is_left(&self) -> bool {
         self.leaving > 0 || !self.back.is_empty()
     }
@@ -225,7 +225,7 @@ impl<S: Stream> Crowd<S> {
         }
     }
 
-    /// Does for those that were answered, had no line or have a room cleared what needs no pass.
+    /// Does what needs no pass for those that were answered, had no line or are to be tended to in each turn.
     pub fn tend_back<O: Observer>(&mut self, observer: &O, buffer: &mut [u8])
         ensures kept { Keeps self.old self.new }
         ensures begun { self.new.begun ≡ self.old.begun }
@@ -343,7 +343,7 @@ impl<S: Stream> Crowd<S> {
             Wish::Nothing => {}
             Wish::Turn => self.put(token, true),
             Wish::Page => self.put_scan(token),
-            Wish::Clearing => self.put_back(token, true),
+            Wish::Again => self.put_back(token, true),
             Wish::Close => self.close(token),
         }
     }

@@ -94,6 +94,14 @@ impl<O: Observer> Stream for Guest<'_, O> {
         Some(Cleared::Stopped(0))
     }
 
+    fn has_come(&self) -> bool {
+        false
+    }
+
+    fn stalls(&self) -> bool {
+        false
+    }
+
     fn leave(&mut self) {
         let _ = self.stream.shutdown(Shutdown::Write);
     }

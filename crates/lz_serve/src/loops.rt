@@ -7,13 +7,13 @@ ghost use Rattle.lz_serve.specs.Services.{Serves, parts_of};
 use crate::desk::Desk;
 use crate::free_pass::FreePass;
 use crate::given::Given;
-use crate::language::Language;
 use crate::listener::Listener;
 use crate::loads::Loads;
 use crate::observer::{Lack, Loops, Observer};
 use crate::server::{Bounds, Served, none_served};
 use crate::serving::{serve_in, serve_loop, take_in_all};
-use crate::sockets::{Socket, Sockets};
+use crate::socket::Socket;
+use crate::sockets::Sockets;
 use crate::workers::{Worker, serve_by};
 use lz_disk::Disk;
 use lz_set::{Named, Pass, Set, StepGate};
@@ -52,7 +52,8 @@ where
     let Ok(loads) = Loads::new(rt.alloc(), count) else {
         return none_served(passes, observer, Lack::Memory);
     };
-    let mut sockets = match sockets_of(rt, listener, loops.language, &loads, observer, count) {
+    let connections = loops.connections.saturating_add(loops.places_inside());
+    let mut sockets = match sockets_of(rt, listener, &loops, &loads, observer, count) {
         Ok(sockets) => sockets,
         Err(why) => return none_served(passes, observer, why),
     };
@@ -65,7 +66,7 @@ where
             own,
             set,
             passes,
-            loops.connections,
+            connections,
             bounds,
             observer,
             &told,
@@ -78,7 +79,7 @@ where
         sockets,
         set,
         passes,
-        loops.connections,
+        connections,
         bounds,
         observer,
         &told,
@@ -89,19 +90,22 @@ where
 fn sockets_of<'a, R, O>(
     rt: &'a R,
     listener: &Listener,
-    language: Language,
+    loops: &Loops,
     loads: &'a Loads,
     observer: &'a O,
-    loops: usize,
+    count: usize,
 ) -> Result<Vec<Sockets<'a, R>>, Lack>
 where
     R: Net + Clock + AllocGlobal,
     O: Observer,
 {
     let mut all = Vec::new(rt.alloc());
-    for index in 0..loops {
-        let clearings = observer.clearings();
-        let sockets = Sockets::new(rt, listener, language, loads, clearings, index).map_err(
+    for index in 0..count {
+        let clearings = match loops.forgetting {
+            Some(shared) => shared.sweeps(),
+            None => observer.clearings(),
+        };
+        let sockets = Sockets::new(rt, listener, loops, loads, clearings, index).map_err(
             Lack::System,
         )?;
         if all.push(sockets).is_err() {

@@ -3,10 +3,11 @@ ghost use Rattle.std.specs.Prelude.{◌≡◌, true};
 ghost use Rattle.lz_serve.specs.Verbs.{verb_of};
 
 use crate::clearing::Clearings;
+use crate::forgetting::Forgetting;
 use crate::language::Language;
 use crate::listener::Listener;
 use lz_proto::{Reply, Request};
-use lz_resp::Figures;
+use lz_resp::{Figures, Naming};
 use std::time::Duration;
 use std::{fmt, io};
 
@@ -30,6 +31,8 @@ pub struct Loops {
     pub connections: usize,
     /// What their clients speak.
     pub language: Language,
+    /// How keys are forgotten, where they are. Then the language is one of texts.
+    pub forgetting: Option<&'static Forgetting>,
 }
 
 impl Loops {
@@ -41,6 +44,19 @@ impl Loops {
     {
         let most = self.count.min(self.connections);
         passes.min(most).max(1)
+    }
+
+    /// How many places of their own clients in memory have: the keeper of epochs, and what sweeps a room.
+    pub(crate) fn places_inside(&self) -> usize {
+        if self.forgetting.is_some() { 2 } else { 0 }
+    }
+
+    /// What the service speaks with their clients' sessions: numbers in rooms, where keys are forgotten.
+    pub(crate) fn language_inside(&self) -> Language {
+        match self.forgetting {
+            Some(_) => Language::Frames(Naming::Rooms),
+            None => self.language,
+        }
     }
 }
 
@@ -68,6 +84,7 @@ impl fmt::Display for Serving {
                     count,
                     connections,
                     language: _,
+                    forgetting: _,
                 },
             ) => write!(
                 f,

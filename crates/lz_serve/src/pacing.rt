@@ -2,7 +2,7 @@
 use std::time::Duration;
 
 /// For how many times as long as pages took no further one is listed, while commands wait; and for how many milliseconds at most.
-const REST: u32 = 64;
+const REST: u32 = 16;
 
 const MOST_REST_MS: u64 = 100;
 

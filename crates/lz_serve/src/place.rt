@@ -6,6 +6,7 @@ ghost use Rattle.lz_serve.specs.Clients.{AwaitsBefore, AwaitsNoPage, AwaitsPage,
 ghost use Rattle.lz_serve.specs.Grants.{Promises};
 
 mod stop;
+mod wish;
 
 use crate::asking::Granted;
 use crate::client::{Client, Question};
@@ -17,27 +18,14 @@ use lz_resp::Scan;
 use lz_set::{Named, Pass};
 use std::time::Duration;
 use stop::may_read;
+pub(crate) use wish::Wish;
+use wish::{rest_of, see_off, wish_of};
 
 /// How many pieces of one client are read in a turn, at most.
 const MOST_READS: usize = 16;
 
 /// For how many milliseconds a client whose session is over is waited for.
 const FAREWELL_MS: u64 = 100;
-
-/// What the client of a place wants.
-#[derive(Clone, Copy, PartialEq, Eq)]
-pub(crate) enum Wish {
-    /// Nothing, until it can be read or written again.
-    Nothing,
-    /// Its turn: it has a request, or there may be more to read.
-    Turn,
-    /// A page.
-    Page,
-    /// To be tended to in each turn, which its place has noted: a room is being cleared for it.
-    Clearing,
-    /// Nothing more: its connection is to be closed.
-    Close,
-}
 
 /// What a turn gave.
 #[derive(Drop)]
@@ -57,7 +45,7 @@ pub(crate) struct Place<S: Stream> {
     readable: bool,
     /// It is read until nothing comes, also after less than there was room for.
     drains: bool,
-    /// It was answered, or a room is being cleared for it, and it wasn't tended to since.
+    /// It was answered, or waits for what no poller tells of, and wasn't tended to since.
     back: bool,
     /// It waits for a page, which was noted.
     lists: bool,
@@ -246,14 +234,14 @@ impl<S: Stream> Place<S> {
         }
     }
 
-    /// Reads its client once more, if none of its requests waits.
+    /// Reads its client once more, if none of its requests waits, nor it for a room to be cleared.
     pub(crate) fn read_last<O: Observer>(&mut self, observer: &O, buffer: &mut [u8])
         ensures { KeepsLinesOf self.old.client self.new.client }
     {
         let Some(client) = &mut self.client else {
             return;
         };
-        if !client.waits() {
+        if !client.waits() && !client.clears() {
             let _ = client.read(buffer, self.drains);
             client.tell_texts(observer);
         }
@@ -268,21 +256,53 @@ impl<S: Stream> Place<S> {
         crowded: bool,
         now: u64,
     ) -> Wish
+        ensures stays { Remains self.old.client self.new.client }
+        ensures kept { KeepsOwn self.old.client self.new.client }
+        ensures heard { KeepsHeard self.old.client self.new.client }
+        ensures seen { KeepsSeen self.old.client self.new.client }
+    {
+        self.tell_cleared(observer);
+        let wish = self.send_and_read(observer, buffer, crowded, now);
+        self.back = wish == Wish::Again;
+        wish
+    }
+
+    // Tells what came of a room, where its client waits for that to be cleared, and what waited behind that.
+    fn tell_cleared<O: Observer>(&mut self, observer: &O)
+        ensures stays { Remains self.old.client self.new.client }
+        ensures kept { KeepsOwn self.old.client self.new.client }
+        ensures heard { KeepsHeard self.old.client self.new.client }
+        ensures seen { KeepsSeen self.old.client self.new.client }
+    {
+        let Some(client) = &mut self.client else {
+            return;
+        };
+        if client.clears() {
+            client.tell_all(observer);
+        }
+    }
+
+    // Sends what is unsent, and reads. What a sending brought about is read after it.
+    fn send_and_read<O: Observer>(
+        &mut self,
+        observer: &O,
+        buffer: &mut [u8],
+        crowded: bool,
+        now: u64,
+    ) -> Wish
         ensures { KeepsLinesOf self.old.client self.new.client }
     {
-        self.back = false;
         let Some(client) = &mut self.client else {
             return Wish::Nothing;
         };
         if self.leaves {
             return see_off(client, buffer);
         }
-        tell_cleared(client, observer);
         let holds_back = crowded && !self.parts && client.holds_back();
         if !holds_back && client.has_unsent() {
             client.write();
         }
-        if self.readable && !self.parts {
+        if (self.readable || client.has_come()) && !self.parts {
             self.readable = client.is_occupied()
                 || may_read(&mut self.left) && read_pieces(client, observer, buffer, self.drains);
         }
@@ -297,11 +317,10 @@ impl<S: Stream> Place<S> {
             return see_off(client, buffer);
         }
         if self.parts || client.has_unsent() && !holds_back {
-            return Wish::Nothing;
+            return rest_of(client);
         }
-        let wish = wish_of(client, &mut self.lists, self.readable);
-        self.back = wish == Wish::Clearing;
-        wish
+        let readable = self.readable || self.left != Some(0) && client.has_come();
+        wish_of(client, &mut self.lists, readable)
     }
 
     /// Its session is to end once all is sent, whatever waits.
@@ -354,39 +373,6 @@ impl<S: Stream> Place<S> {
     }
 }
 
-// Tells what came of a room, where its client waits for that to be cleared, and what no other exchange holds up.
-fn tell_cleared<S: Stream, O: Observer>(client: &mut Client<S>, observer: &O)
-    ensures { KeepsLines client.old client.new }
-{
-    if client.clears() {
-        client.tell_texts(observer);
-    }
-}
-
-// What a client wants that has nothing to send, where there may be something to read.
-fn wish_of<S: Stream>(client: &mut Client<S>, lists: &mut bool, readable: bool) -> Wish
-    ensures { client.new ≡ client.old }
-{
-    if client.scan().is_some() {
-        return note_page(lists);
-    }
-    if client.clears() {
-        return Wish::Clearing;
-    }
-    if readable && !client.waits() || client.may_ask() {
-        return Wish::Turn;
-    }
-    client.rest();
-    Wish::Nothing
-}
-
-// Notes that a client waits for a page, which is its wish unless that was noted.
-fn note_page(lists: &mut bool) -> Wish {
-    let was_noted = *lists;
-    *lists = true;
-    if was_noted { Wish::Nothing } else { Wish::Page }
-}
-
 // Reads pieces of a client's text, and tells what of them needs no pass, until there is something else to do for it. It says whether there may
 // be more to read.
 fn read_pieces<S: Stream, O: Observer>(
@@ -406,19 +392,4 @@ fn read_pieces<S: Stream, O: Observer>(
         client.tell_texts(observer);
     }
     readable
-}
-
-// Throws away what a client sends after its session's end: a connection that is closed over unread bytes is reset, and the client
-// may lose its last replies. One that sends much is seen to again in its turn.
-fn see_off<S: Stream>(client: &mut Client<S>, buffer: &mut [u8]) -> Wish
-    ensures { KeepsLines client.old client.new }
-{
-    for _ in 0..MOST_READS {
-        match client.pass_over(buffer) {
-            Some(true) => {}
-            Some(false) => return Wish::Nothing,
-            None => return Wish::Close,
-        }
-    }
-    Wish::Turn
 }

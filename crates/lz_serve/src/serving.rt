@@ -344,6 +344,7 @@ where
             let patience = farewell_turn(crowd);
             listen(rt, poller, crowd, patience, None, ready, observer, buffer);
             crowd.tend_queue(observer, buffer);
+            crowd.tend_back(observer, buffer);
         }
     }
     crowd.close_all();

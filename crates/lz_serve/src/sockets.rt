@@ -1,19 +1,21 @@
-//! The connections of a loop, as the system's sockets, and one in memory while it clears a room.
-ghost use Rattle.std.specs.Prelude.{◌≡◌, ◌≢◌, ◌≤◌, length};
-ghost use Rattle.lz_serve.specs.Streams.{counted, sent};
+//! The connections of a loop, as the system's sockets, and those in memory: of one that clears a room, and of the keeper of epochs.
 
 use crate::clearing::Clearings;
+use crate::forgetting::{Forgetting, Kept, Spoken};
 use crate::language::Language;
 use crate::listener::Listener;
 use crate::loads::Loads;
+use crate::moments::MOMENT_MS;
+use crate::observer::Loops;
 use crate::poller::{Poller, Ready};
-use crate::stream::{Received, Stream, Taken};
-use lz_resp::{Cleared, Clearing, Naming};
+use crate::socket::{Carrier, Socket};
+use lz_resp::{Clearing, Naming};
 use mio::net::TcpStream;
 use mio::unix::SourceFd;
 use mio::{Events, Interest, Poll, Token};
-use std::io::{ErrorKind, Read, Write};
-use std::net::{Net, Shutdown};
+use std::alloc::AllocError;
+use std::io::ErrorKind;
+use std::net::Net;
 use std::time::{Clock, Duration};
 use std::{io, thread};
 
@@ -44,31 +46,9 @@ pub struct Sockets<'a, R: Clock> {
     /// Since when a connection is left to those that have fewer.
     left: Option<Duration>,
     clearings: &'a Clearings,
-    /// The token of the connection in memory, where there was one.
-    inner: Option<usize>,
-    /// How many turns had no place for it, though a room is to be cleared.
+    forgetting: Option<&'static Forgetting>,
+    /// How many turns had no place for the connection in memory, though a room is to be cleared.
     missed: usize,
-}
-
-/// What a connection goes over.
-#[derive(Drop)]
-enum Carrier {
-    Socket(TcpStream),
-    /// Memory: its client is the service itself, which clears a room.
-    Memory(Clearing),
-    /// The same, once it was told what it can't go on with, after so many keys were removed.
-    Broken(usize),
-}
-
-/// A connection whose calls don't wait.
-pub struct Socket<'a> {
-    carrier: Carrier,
-    language: Language,
-    loads: &'a Loads,
-    index: usize,
-    clearings: &'a Clearings,
-    /// Its client has asked for a clearing, and wasn't told what came of it.
-    awaits: bool,
 }
 
 impl<'a, R: Clock> Drop for Sockets<'a, R> {
@@ -85,43 +65,19 @@ impl<'a, R: Clock> Drop for Sockets<'a, R> {
             index: _,
             left: _,
             clearings: _,
-            inner: _,
+            forgetting: _,
             missed: _,
         } = self;
     }
 }
 
-impl<'a> Drop for Socket<'a> {
-    fn drop(self) {
-        self.loads.take_off(self.index);
-        if self.awaits {
-            self.clearings.forget();
-        }
-        match &self.carrier {
-            Carrier::Socket(_) => {}
-            Carrier::Memory(clearing) => {
-                self.clearings.end(clearing.is_over(), clearing.removed());
-            }
-            Carrier::Broken(removed) => self.clearings.end(false, *removed),
-        }
-        let Socket {
-            carrier: _,
-            language: _,
-            loads: _,
-            index: _,
-            clearings: _,
-            awaits: _,
-        } = self;
-    }
-}
-
 impl<'a, R: Net + Clock + AllocGlobal> Sockets<'a, R> {
-    /// Waits for the connections of the listener, whose clients speak this language, as the loop of this number. Accepting at the listener doesn't wait
+    /// Waits for the connections of the listener, whose clients speak the language of these loops, as the loop of this number. Accepting at the listener doesn't wait
     /// any more from now on. Rooms can be cleared from now on too, where keys are numbers.
     pub fn new(
         rt: &'a R,
         listener: &Listener,
-        language: Language,
+        loops: &Loops,
         loads: &'a Loads,
         clearings: &'a Clearings,
         index: usize,
@@ -138,6 +94,7 @@ impl<'a, R: Net + Clock + AllocGlobal> Sockets<'a, R> {
             return Err(io::Error::from(ErrorKind::OutOfMemory));
         };
         loads.begin(index);
+        let language = loops.language_inside();
         if language.has_rooms() {
             clearings.open();
         }
@@ -152,36 +109,48 @@ impl<'a, R: Net + Clock + AllocGlobal> Sockets<'a, R> {
             index,
             left: None,
             clearings,
-            inner: None,
+            forgetting: loops.forgetting,
             missed: 0,
         })
     }
 }
 
 impl<'a, R: Clock + AllocGlobal> Sockets<'a, R> {
-    // The client that clears this room, at this token.
-    fn clear(&mut self, room: u8, token: usize) -> io::Result<Option<Socket<'a>>> {
+    // The client that clears this room.
+    fn clear(&self, room: u8) -> io::Result<Option<Socket<'a>>> {
         let Ok(clearing) = Clearing::new(self.rt.alloc(), room) else {
             self.clearings.end(false, 0);
             return Err(io::Error::from(ErrorKind::OutOfMemory));
         };
-        self.inner = Some(token);
         Ok(Some(self.carried(Carrier::Memory(clearing), Language::Frames(Naming::Rooms))))
+    }
+
+    // The client that keeps the epochs, where no loop has it yet.
+    fn keep(&self, shared: &'static Forgetting) -> io::Result<Option<Socket<'a>>> {
+        shared.see_time(self.rt);
+        match shared.keeper(self.rt.alloc()) {
+            Some(Ok(keeper)) => {
+                let kept = Carrier::Kept(Kept::new(keeper, shared));
+                Ok(Some(self.carried(kept, Language::Frames(Naming::Rooms))))
+            }
+            Some(Err(AllocError)) => Err(io::Error::from(ErrorKind::OutOfMemory)),
+            None => Ok(None),
+        }
+    }
+
+    // What a connection goes over that came at the listener.
+    fn carrier_of(&self, stream: TcpStream) -> Carrier<'a> {
+        match self.forgetting {
+            Some(shared) => Carrier::Spoken(Spoken::new(self.rt.alloc(), stream, shared)),
+            None => Carrier::Socket(stream),
+        }
     }
 }
 
 impl<'a, R: Clock> Sockets<'a, R> {
-    // A connection that goes over this, for all loops to see.
-    fn carried(&self, carrier: Carrier, language: Language) -> Socket<'a> {
-        self.loads.add(self.index);
-        Socket {
-            carrier,
-            language,
-            loads: self.loads,
-            index: self.index,
-            clearings: self.clearings,
-            awaits: false,
-        }
+    // A connection that goes over this.
+    fn carried(&self, carrier: Carrier<'a>, language: Language) -> Socket<'a> {
+        Socket::new(carrier, language, self.loads, self.index, self.clearings)
     }
 
     // Refuses a clearing that this turn and the last one had no place for. (It may have been asked for after this turn's.)
@@ -196,10 +165,19 @@ impl<'a, R: Clock> Sockets<'a, R> {
         }
     }
 
-    // The token of the connection in memory, where that can be read.
-    fn woken(&self) -> Option<usize> {
-        let token = self.inner?;
-        self.clearings.has_woken(self.index).then_some(token)
+    // For how much of this time a loop waits: not long where a client of it may have asked for a clearing that has ended.
+    fn most_patience(&self, patience: Duration) -> Duration {
+        let patience = match self.forgetting {
+            Some(shared) => patience.min(shared.see_time(self.rt)),
+            None => patience,
+        };
+        if self.clearings.has_ended() {
+            return patience.min(Duration::from_millis(MOMENT_MS));
+        }
+        match self.left {
+            Some(_) => patience.min(Duration::from_millis(COURTESY_MS)),
+            None => patience,
+        }
     }
 
     // Whether a connection that may have come is left to a loop that has fewer, for a while.
@@ -225,18 +203,7 @@ impl<'a, R: Clock + AllocGlobal> Poller for Sockets<'a, R> {
 
     fn poll(&mut self, patience: Duration, ready: &mut Vec<Ready>) {
         self.refuse_missed();
-        let inner = self.woken();
-        let patience = match (inner, self.left) {
-            (Some(_), _) => Duration::ZERO,
-            (None, Some(_)) => patience.min(Duration::from_millis(COURTESY_MS)),
-            (None, None) => patience,
-        };
-        if let Some(token) = inner {
-            let _ = ready.push(Ready {
-                token,
-                drains: false,
-            });
-        }
+        let patience = self.most_patience(patience);
         // The system tells of a change once, so it isn't asked before there is room for what it tells.
         if ready.reserve(EVENTS).is_err()
             || self.poll.poll(&mut self.events, Some(patience)).is_err()
@@ -259,7 +226,12 @@ impl<'a, R: Clock + AllocGlobal> Poller for Sockets<'a, R> {
     #[tactic(auto, unfolding(crate::specs::Streams::IsFresh))]
     fn accept(&mut self, token: usize) -> io::Result<Option<Socket<'a>>> {
         if let Some(room) = self.clearings.take() {
-            return self.clear(room, token);
+            return self.clear(room);
+        }
+        if let Some(shared) = self.forgetting
+            && let Some(kept) = self.keep(shared)?
+        {
+            return Ok(Some(kept));
         }
         if !self.has_come || self.leaves_it() {
             return Ok(None);
@@ -281,111 +253,6 @@ impl<'a, R: Clock + AllocGlobal> Poller for Sockets<'a, R> {
         self.poll
             .registry()
             .register(&mut stream, Token(token), wanted)?;
-        Ok(Some(self.carried(Carrier::Socket(stream), self.language)))
+        Ok(Some(self.carried(self.carrier_of(stream), self.language)))
     }
-}
-
-impl<'a> Stream for Socket<'a> {
-    ghost use Rattle.std.specs.Prelude.{None, ⊤};
-
-    ghost traffic = { λ _. None };
-
-    ghost promised = { λ _. ⊤ };
-
-    ghost listed = { λ _. ⊤ };
-
-    ghost asked = { ⊤ };
-
-    fn language(&self) -> Language {
-        self.language
-    }
-
-    fn receive(&mut self, buffer: &mut [u8]) -> Received {
-        match &mut self.carrier {
-            Carrier::Socket(stream) => receive_at(stream, buffer),
-            Carrier::Memory(clearing) => read_from(clearing, buffer),
-            Carrier::Broken(_) => Received::Failed,
-        }
-    }
-
-    fn take(&mut self, text: &[u8]) -> Taken {
-        match &mut self.carrier {
-            Carrier::Socket(stream) => take_at(stream, text),
-            Carrier::Memory(_) if text.is_empty() => Taken::Later,
-            Carrier::Memory(clearing) => {
-                self.clearings.wake(self.index);
-                if clearing.hear(text).is_err() {
-                    self.carrier = Carrier::Broken(clearing.removed());
-                }
-                Taken::Count(text.len())
-            }
-            Carrier::Broken(_) => Taken::Failed,
-        }
-    }
-
-    fn clear(&mut self, room: u8) -> Option<Cleared> {
-        if !self.awaits {
-            self.awaits = self.clearings.ask(room);
-            return if self.awaits {
-                None
-            } else {
-                Some(Cleared::Busy)
-            };
-        }
-        let cleared = self.clearings.outcome()?;
-        self.awaits = false;
-        Some(cleared)
-    }
-
-    fn leave(&mut self) {
-        if let Carrier::Socket(stream) = &mut self.carrier {
-            let _ = stream.shutdown(Shutdown::Write);
-        }
-    }
-}
-
-// Receives what a socket has.
-fn receive_at(stream: &mut TcpStream, buffer: &mut [u8]) -> Received
-    ensures length { length buffer.new ≡ length buffer.old }
-    ensures bound { counted result ≤ length buffer.new }
-    ensures some { result ≢ Received.Count 0 }
-{
-    'tries: for _ in 0..u64::MAX {
-        let read = stream.read(buffer);
-        if let Some(received) = Received::of(read, buffer.len()) {
-            return received;
-        }
-    }
-    Received::Failed
-}
-
-// Sends a beginning of a text on a socket.
-fn take_at(stream: &mut TcpStream, text: &[u8]) -> Taken
-    ensures bound { sent result ≤ length text.now }
-    ensures some { result ≢ Taken.Count 0 }
-{
-    'tries: for _ in 0..u64::MAX {
-        if let Some(taken) = Taken::of(stream.write(text), text.len()) {
-            return taken;
-        }
-    }
-    Taken::Failed
-}
-
-// Receives what a clearing asks next: nothing yet while its last request isn't answered, and nothing more once the room was gone through.
-fn read_from(clearing: &mut Clearing, buffer: &mut [u8]) -> Received
-    ensures length { length buffer.new ≡ length buffer.old }
-    ensures bound { counted result ≤ length buffer.new }
-    ensures some { result ≢ Received.Count 0 }
-{
-    if clearing.is_over() {
-        return Received::Over;
-    }
-    let count = clearing.unsent().len().min(buffer.len());
-    if count == 0 {
-        return Received::Later;
-    }
-    buffer[..count].copy_from_slice(&clearing.unsent()[..count]);
-    clearing.sent(count);
-    Received::Count(count)
 }

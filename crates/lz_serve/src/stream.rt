@@ -110,6 +110,12 @@ pub trait Stream: Drop {
     fn clear(&mut self, room: u8) -> Option<Cleared>
         ensures { traffic self.new ≡ traffic self.old };
 
+    /// Whether something can be received of which no poller tells.
+    fn has_come(&self) -> bool;
+
+    /// Whether it waits for what no poller tells of: its client is tended to in each turn.
+    fn stalls(&self) -> bool;
+
     /// Says that nothing more will be sent.
     fn leave(&mut self)
         ensures { traffic self.new ≡ traffic self.old };

@@ -12,7 +12,7 @@ use crate::observer::{Lack, Observer};
 use crate::pass_thread::Host;
 use crate::server::{Served, none_served};
 use crate::shares::{HandsBack, Running, add_all, join_all, set_free, take_share};
-use crate::sockets::Socket;
+use crate::socket::Socket;
 use lz_disk::Disk;
 use lz_set::{Named, Pass, StepGate};
 use std::alloc::{AllocError, Global};

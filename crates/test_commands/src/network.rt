@@ -124,6 +124,14 @@ impl<'a> Stream for Wire<'a> {
         Some(Cleared::Busy)
     }
 
+    fn has_come(&self) -> bool {
+        false
+    }
+
+    fn stalls(&self) -> bool {
+        false
+    }
+
     fn leave(&mut self) {
         if let Ok(mut network) = self.network.try_borrow_mut() {
             network.leave(self.index);

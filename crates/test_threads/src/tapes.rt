@@ -135,6 +135,14 @@ impl<'a, N: Named> Stream for Tape<'a, N> {
         Some(Cleared::Busy)
     }
 
+    fn has_come(&self) -> bool {
+        false
+    }
+
+    fn stalls(&self) -> bool {
+        false
+    }
+
     fn leave(&mut self) {}
 }
 

@@ -15,7 +15,8 @@ use std::sync::Wait;
 use std::thread;
 use std::time::{Clock, Duration};
 
-/// For how many milliseconds it is waited for something to be heard, at most; and while a client is waited for that is to leave.
+/// For how many milliseconds it is waited for something to be heard, at most; and while a client is waited for that is to leave, or one is to be
+/// tended to in each turn.
 const PATIENCE_MS: u64 = 1_000;
 
 const SHORT_PATIENCE_MS: u64 = 100;
