@@ -1,7 +1,7 @@
 //! What the words of a command line tell before they are understood. On it depends what else may stand there.
 use crate::ids::SOCKET_ID;
 use crate::sheets::SERVICE;
-use crate::words::Form;
+use crate::word::Form;
 
 /// Where a service listens.
 #[derive(Clone, Copy)]

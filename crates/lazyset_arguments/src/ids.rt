@@ -33,3 +33,11 @@ pub const ADOPT: &str = "adopt";
 
 /// The option for the file of a secret.
 pub const SECRET_ID: &str = "secret";
+
+/// The option by which texts are forgotten, and the one for the number of epochs by which they are.
+pub const FORGET_ID: &str = "forget";
+
+pub const EPOCHS_ID: &str = "epochs";
+
+/// The option by which it waits for a file that another process has.
+pub const STANDBY_ID: &str = "standby";

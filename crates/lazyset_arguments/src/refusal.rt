@@ -72,6 +72,13 @@ pub fn late_secret(alloc: Global) -> Refusal {
     ))
 }
 
+/// Older texts have no epochs.
+pub fn late_epochs(alloc: Global) -> Refusal {
+    not_understood(format!(in alloc;
+        "error: the argument '--text=adopt' cannot be used with '--forget <SECONDS>': older texts have no epochs\n\nFor more information, try '--help'.\n"
+    ))
+}
+
 /// No service of texts takes such a name.
 pub fn long_name(alloc: Global) -> Refusal {
     not_understood(format!(in alloc;

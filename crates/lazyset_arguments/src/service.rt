@@ -1,13 +1,15 @@
 //! What a command line asks of a service.
-ghost use Rattle.std.specs.Prelude.{◌≡◌, ◌≤◌, IfSome};
+ghost use Rattle.std.specs.Prelude.{◌≡◌, ◌≤◌, IfSome, true};
 ghost use Rattle.lz_slot.specs.Limits.{most_buckets};
 ghost use Rattle.lz_serve.specs.Options.{most_connections};
-ghost use Rattle.lazyset_arguments.specs.Requests.{ArePasses, AreWithin, IsWithin};
+ghost use Rattle.clap.specs.Words.{found_of};
+ghost use Rattle.lazyset_arguments.specs.Requests.{ArePasses, AreWithin, IsToldPeriod, IsWithin, SpeakTexts};
 
 use crate::ids::{
-    ADOPT, CONNECTIONS_ID, CONTROL_ID, LINES_ID, NUMBERS_ID, PASSES_ID, RESP_ID, SECRET_ID,
-    SOCKET_ID, SOCKET_MODE_ID, TEXT_ID,
+    ADOPT, CONNECTIONS_ID, CONTROL_ID, FORGET_ID, LINES_ID, NUMBERS_ID, PASSES_ID, RESP_ID,
+    SECRET_ID, SOCKET_ID, SOCKET_MODE_ID, STANDBY_ID, TEXT_ID,
 };
+use crate::period::{Period, named_period};
 use crate::request::Request;
 use crate::values::{named_mode, number, number_within, text};
 use clap::ArgMatches;
@@ -62,6 +64,8 @@ pub struct Service<'a> {
     pub mode: Option<u32>,
     /// It stops when standard input ends.
     pub until_eof: bool,
+    /// It waits where another process has the file. Its control socket is named then.
+    pub stands_by: bool,
     /// It goes on where the file can't be locked.
     pub no_lock: bool,
     /// Its keys are taken for numbers, whatever the file says.
@@ -70,6 +74,15 @@ pub struct Service<'a> {
     pub adopts: bool,
     /// The path of the secret that is hashed before each text.
     pub secret: Option<&'a str>,
+    /// For how long it keeps a text, where it forgets. Its options have loops that speak frames of texts alone then.
+    pub forgets: Option<Period>,
+}
+
+/// What older texts don't have.
+#[derive(Clone, Copy)]
+pub(crate) enum Lack {
+    Secret,
+    Epochs,
 }
 
 /// A mode that no socket can have.
@@ -82,11 +95,21 @@ pub(crate) enum StrayMode<'a> {
 }
 
 pub(crate) fn serve<'a>(words: &ArgMatches<'a>) -> Option<Request<'a>>
-    ensures { IfSome result IsWithin }
+    ensures within { IfSome result IsWithin }
+    ensures period { IfSome result (IsToldPeriod (found_of words.now)) }
 {
     let options = serve_options(words)?;
     let mode = named_mode(words, SOCKET_MODE_ID)?;
-    if mode.is_some() && !has_socket(words) || adopts_secretly(words) {
+    if mode.is_some() && !has_socket(words) || lacking(words).is_some() {
+        return None;
+    }
+    let forgets = named_period(words)?;
+    if forgets.is_some() && !speak_texts(options.loops) {
+        return None;
+    }
+    let control = text(words, CONTROL_ID);
+    let stands_by = words.get_flag(STANDBY_ID);
+    if stands_by && control.is_none() {
         return None;
     }
     Some(Request::Serve(Service {
@@ -94,13 +117,15 @@ pub(crate) fn serve<'a>(words: &ArgMatches<'a>) -> Option<Request<'a>>
         options,
         chosen: Chosen::by(words),
         socket: text(words, SOCKET_ID),
-        control: text(words, CONTROL_ID),
+        control,
         mode,
         until_eof: words.get_flag("until-eof"),
+        stands_by,
         no_lock: words.get_flag("no-lock"),
         as_numbers: words.get_flag(NUMBERS_ID),
         adopts: words.get_str(TEXT_ID) == Some(ADOPT),
         secret: text(words, SECRET_ID),
+        forgets,
     }))
 }
 
@@ -110,14 +135,35 @@ fn has_socket(words: &ArgMatches<'_>) -> bool {
     is_named || words.get_str(PASSES_ID).is_none()
 }
 
-// Whether older texts are to be of a secret, which they aren't.
-fn adopts_secretly(words: &ArgMatches<'_>) -> bool {
-    words.get_str(TEXT_ID) == Some(ADOPT) && words.get_str(SECRET_ID).is_some()
+// What older texts are to have that they don't: there were no secrets, and no epochs, when they were added.
+fn lacking(words: &ArgMatches<'_>) -> Option<Lack> {
+    if words.get_str(TEXT_ID) != Some(ADOPT) {
+        None
+    } else if words.get_str(SECRET_ID).is_some() {
+        Some(Lack::Secret)
+    } else if words.get_str(FORGET_ID).is_some() {
+        Some(Lack::Epochs)
+    } else {
+        None
+    }
 }
 
-/// Whether a service is to adopt older texts under a secret.
-pub(crate) fn is_late_secret(matches: &ArgMatches<'_>) -> bool {
-    matches!(matches.subcommand(), Some(("serve", words)) if adopts_secretly(words))
+// Whether clients speak frames alone, whose names are texts. By a line one would add to an epoch, or take a mark away.
+fn speak_texts(loops: Option<Loops>) -> bool
+    ensures { result ≡ true → SpeakTexts loops }
+{
+    match loops {
+        Some(loops) => matches!(loops.language, Language::Frames(Naming::Texts(None))),
+        None => false,
+    }
+}
+
+/// What a service is to have of older texts that it adopts, which they don't.
+pub(crate) fn lacked(matches: &ArgMatches<'_>) -> Option<Lack> {
+    match matches.subcommand()? {
+        ("serve", words) => lacking(words),
+        _ => None,
+    }
 }
 
 /// The mode of a service's sockets that is none, or that no socket has.
@@ -214,6 +260,7 @@ fn loops_of(matches: &ArgMatches<'_>, passes: usize) -> Option<Loops>
         count: count.min(connections),
         connections,
         language: language_of(matches),
+        forgetting: None,
     })
 }
 
@@ -227,15 +274,16 @@ fn connections_of(matches: &ArgMatches<'_>) -> Option<usize>
     }
 }
 
-// What their clients speak: where no language is named, and PASSES were left out, each client the one that it begins with. Of texts under a secret
-// frames, since a line names a key by its number.
+// What their clients speak: where no language is named, and PASSES were left out, each client the one that it begins with. Of texts under a secret,
+// or in epochs, frames, since a line names a key by its room and number.
 fn language_of(matches: &ArgMatches<'_>) -> Language {
     let naming = if matches.contains_id(TEXT_ID) {
         Naming::Texts(None)
     } else {
         Naming::Rooms
     };
-    if matches.get_flag(RESP_ID) || matches.get_str(SECRET_ID).is_some() {
+    let are_hidden = matches.get_str(SECRET_ID).is_some() || matches.get_str(FORGET_ID).is_some();
+    if matches.get_flag(RESP_ID) || are_hidden {
         Language::Frames(naming)
     } else if matches.get_flag(LINES_ID) || matches.get_str(PASSES_ID).is_some() {
         Language::Lines

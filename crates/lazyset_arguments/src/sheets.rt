@@ -1,9 +1,11 @@
 //! The commands, as a table.
+use crate::word::Word;
 use crate::words::{
-    ADDRESS, BUCKETS, CONNECTIONS, CONTROL, CONTROLLED, COPIED_FORMAT, COPIED_SLOTS, FILE, FORMAT,
-    GROWN_FORMAT, HISTORY, IDLE, KEYS, LINES, LIST, LOOPS, NEW, NO_LOCK, NUMBERS, OF, OLD, PASSES,
-    PORT, REHEARSED, REPLACE, RESP, ROOM, ROOMY_FORMAT, SECRET, SECRET_OF, SERVED_BUCKETS,
-    SESSIONS, SLOTS, SOCKET, SOCKET_MODE, TEXT, TEXTS_OF, UNTIL_EOF, WITHIN, Word,
+    ADDRESS, BUCKETS, CONNECTIONS, CONTROL, CONTROLLED, COPIED_FORMAT, COPIED_SLOTS, EPOCHS, FILE,
+    FORGET, FORMAT, GROWN_FORMAT, HISTORY, IDLE, KEYS, LINES, LIST, LOOPS, NEW, NO_LOCK, NUMBERS,
+    OF, OLD, PASSES, PORT, REHEARSED, REPLACE, RESP, ROOM, ROOMY_FORMAT, SECRET, SECRET_OF,
+    SERVED_BUCKETS, SERVED_NO_LOCK, SESSIONS, SLOTS, SOCKET, SOCKET_MODE, STANDBY, TEXT, TEXTS_OF,
+    UNTIL_EOF, WITHIN,
 };
 
 /// A command.
@@ -31,6 +33,8 @@ pub(crate) const SERVICE: &[Word] = &[
     LINES,
     TEXT,
     SECRET,
+    FORGET,
+    EPOCHS,
     NUMBERS,
     SESSIONS,
     IDLE,
@@ -39,7 +43,8 @@ pub(crate) const SERVICE: &[Word] = &[
     CONTROL,
     SOCKET_MODE,
     UNTIL_EOF,
-    NO_LOCK,
+    STANDBY,
+    SERVED_NO_LOCK,
 ];
 
 /// The commands, as the help lists them.
@@ -77,7 +82,7 @@ pub const SHEETS: [Sheet; 12] = [
     Sheet {
         name: "serve",
         about: "Answers many connections at once: their lines, as `run` does, or the frames of Redis's protocol",
-        notes: "Without PASSES it chooses what isn't given: port 7000, 1024 commands at once, as many connections as descriptors allow, 10000 at most, as many buckets as the file has slots, or as its format allows, and a control socket at FILE.control. A connection whose first byte is `*` speaks Redis's protocol then, and any other lines. With PASSES nothing but the buckets is chosen, and lines are spoken unless --resp is given.\n\nPrints `listening PORT`, or `listening PATH`, when clients can connect, `refused N` as `run` does, `noport`, `othertext`, `othernumbers` or `othersecret`, or `nosecret` where a secret can't be had. Standard error is its log.\n\nIt locks the file: where another process has it, it says `nofile`.\n\nExample: lazyset serve f\n\nFor Redis's clients, whose members are any bytes: lazyset serve f 7000 --resp --text\n\nFor this user's programs alone: lazyset serve f --socket f.socket\n\nBy a thread for each of 8 connections, in lines: lazyset serve f 7000 8 --buckets 1024 --idle 600\n\nBy a few threads for thousands of them: lazyset serve f 7000 1024 --connections 5000",
+        notes: "Without PASSES it chooses what isn't given: port 7000, 1024 commands at once, as many connections as descriptors allow, 10000 at most, as many buckets as the file has slots, or as its format allows, and a control socket at FILE.control. A connection whose first byte is `*` speaks Redis's protocol then, and any other lines. With PASSES nothing but the buckets is chosen, and lines are spoken unless --resp is given.\n\nPrints `listening PORT`, or `listening PATH`, when clients can connect, `refused N` as `run` does, `noport`, `othertext`, `othernumbers` or `othersecret`, or `nosecret` where a secret can't be had. Standard error is its log.\n\nIt locks the file: where another process has it, it says `nofile`, or waits by --standby.\n\nExample: lazyset serve f\n\nFor Redis's clients, whose members are any bytes: lazyset serve f 7000 --resp --text\n\nFor this user's programs alone: lazyset serve f --socket f.socket\n\nBy a thread for each of 8 connections, in lines: lazyset serve f 7000 8 --buckets 1024 --idle 600\n\nBy a few threads for thousands of them: lazyset serve f 7000 1024 --connections 5000",
         words: SERVICE,
     },
     Sheet {

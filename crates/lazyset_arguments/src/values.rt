@@ -2,7 +2,8 @@
 ghost use Rattle.std.specs.Prelude.{◌≡◌, ◌≤◌, IfSome};
 ghost use Rattle.lz_slot.specs.Limits.{last_room};
 ghost use Rattle.lz_slot.specs.Rooms.{last_room_of};
-ghost use Rattle.lazyset_arguments.specs.Requests.{last_mode};
+ghost use Rattle.clap.specs.Words.{found_of};
+ghost use Rattle.lazyset_arguments.specs.Requests.{Tells, last_mode};
 
 use clap::ArgMatches;
 use lz_slot::{Format, LAST_ROOM};
@@ -48,7 +49,9 @@ pub(crate) fn text<'a>(matches: &ArgMatches<'a>, name: &str) -> Option<&'a str> 
 }
 
 // A number of the command line.
-pub(crate) fn number(matches: &ArgMatches<'_>, name: &str) -> Option<u64> {
+pub(crate) fn number(matches: &ArgMatches<'_>, name: &str) -> Option<u64>
+    ensures { IfSome result (Tells (found_of matches.now) name.now) }
+{
     matches.get_one::<u64>(name)
 }
 

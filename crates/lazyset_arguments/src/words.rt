@@ -1,52 +1,12 @@
 //! The words of the commands, as a table.
 use crate::ids::{
-    ADOPT, CONNECTIONS_ID, CONTROL_ID, LINES_ID, NUMBERS_ID, PASSES_ID, RESP_ID, SECRET_ID,
-    SOCKET_ID, SOCKET_MODE_ID, TEXT_ID,
+    ADOPT, CONNECTIONS_ID, CONTROL_ID, EPOCHS_ID, FORGET_ID, LINES_ID, NUMBERS_ID, PASSES_ID,
+    RESP_ID, SECRET_ID, SOCKET_ID, SOCKET_MODE_ID, STANDBY_ID, TEXT_ID,
 };
+use crate::period::{FEWEST_EPOCHS, MOST_EPOCHS, MOST_SECONDS};
+use crate::word::{Beside, Form, Word};
 use lz_serve::{MOST_CONNECTIONS, MOST_THREADS};
 use lz_slot::{MOST_BUCKETS, MOST_REHEARSED};
-
-/// What a word may be.
-#[derive(Clone, Copy)]
-pub enum Form {
-    /// It stands there or not.
-    Flag,
-    Text,
-    /// One of these after a `=`, or nothing.
-    Choice(&'static [&'static str]),
-    Number,
-    /// A number in the last place, which may be left out.
-    LastNumber,
-    Within(i64, i64),
-    /// Within these bounds, or `-` where `--socket` stands. It may be left out where PASSES are.
-    Port(i64, i64),
-    /// A number that may be left out, as a service's PASSES.
-    Passes,
-}
-
-/// What else may stand with an option.
-#[derive(Clone, Copy)]
-pub enum Beside {
-    Anything,
-    /// It needs this one.
-    Needs(&'static str),
-    /// It stands without this one.
-    Excludes(&'static str),
-    /// Where a service's PASSES stand it needs the first one, if there is one. It stands without the others.
-    Serving(Option<&'static str>, &'static [&'static str]),
-}
-
-/// A word of a command.
-#[derive(Clone, Copy)]
-pub struct Word {
-    pub id: &'static str,
-    /// What the help calls the value of an option. A word without it stands in its place, and is required unless its form says otherwise.
-    pub value_name: Option<&'static str>,
-    pub form: Form,
-    pub default: Option<&'static str>,
-    pub beside: Beside,
-    pub help: &'static str,
-}
 
 pub(crate) const FILE: Word = Word {
     id: "FILE",
@@ -246,7 +206,12 @@ pub(crate) const LINES: Word = Word {
     value_name: None,
     form: Form::Flag,
     default: None,
-    beside: Beside::Serving(None, &[RESP_ID, TEXT_ID, NUMBERS_ID, SECRET_ID]),
+    beside: Beside::Serving(
+        None,
+        &[
+            RESP_ID, TEXT_ID, NUMBERS_ID, SECRET_ID, FORGET_ID, EPOCHS_ID,
+        ],
+    ),
     help: "Speaks lines alone",
 };
 
@@ -273,12 +238,30 @@ pub(crate) const SECRET_OF: Word = Word {
     ..SECRET
 };
 
+pub(crate) const FORGET: Word = Word {
+    id: FORGET_ID,
+    value_name: Some("SECONDS"),
+    form: Form::Within(1, MOST_SECONDS as i64),
+    default: None,
+    beside: Beside::Needs(TEXT_ID),
+    help: "Forgets each text SECONDS after its addition, 1 to 100000000, or up to an epoch later, which is SECONDS / (E - 1). Frames alone are spoken then",
+};
+
+pub(crate) const EPOCHS: Word = Word {
+    id: EPOCHS_ID,
+    value_name: Some("E"),
+    form: Form::Within(FEWEST_EPOCHS as i64, MOST_EPOCHS as i64),
+    default: None,
+    beside: Beside::Needs(FORGET_ID),
+    help: "By how many epochs it forgets, 2 to 12; 3 unless given. The more there are the sooner a text is forgotten after SECONDS, and the more an addition costs",
+};
+
 pub(crate) const NUMBERS: Word = Word {
     id: NUMBERS_ID,
     value_name: None,
     form: Form::Flag,
     default: None,
-    beside: Beside::Serving(Some(RESP_ID), &[TEXT_ID, SECRET_ID]),
+    beside: Beside::Serving(Some(RESP_ID), &[TEXT_ID, SECRET_ID, FORGET_ID, EPOCHS_ID]),
     help: "Takes keys for numbers though the file is marked as one of texts, which is refused without it, `othertext`",
 };
 
@@ -336,6 +319,15 @@ pub(crate) const UNTIL_EOF: Word = Word {
     help: "Stops, as `lazyset stop` asks, when standard input ends",
 };
 
+pub(crate) const STANDBY: Word = Word {
+    id: STANDBY_ID,
+    value_name: None,
+    form: Form::Flag,
+    default: None,
+    beside: Beside::Needs(CONTROL_ID),
+    help: "Waits where another process has the file, in place of `nofile`: once that has ended it opens the file and serves it. What stops a service ends the wait",
+};
+
 pub(crate) const NO_LOCK: Word = Word {
     id: "no-lock",
     value_name: None,
@@ -343,6 +335,11 @@ pub(crate) const NO_LOCK: Word = Word {
     default: None,
     beside: Beside::Anything,
     help: "Goes on where the file can't be locked, though its file system has locks: then see that nothing else opens it",
+};
+
+pub(crate) const SERVED_NO_LOCK: Word = Word {
+    beside: Beside::Excludes(STANDBY_ID),
+    ..NO_LOCK
 };
 
 pub(crate) const CONTROLLED: Word = Word {
