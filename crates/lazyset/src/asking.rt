@@ -105,8 +105,7 @@ where
         }
         Err(error) => return Err(no_file(rt, path, error)),
     };
-    match wanted.ask(&stream) {
-        Ok(()) => Ok(stream),
-        Err(error) => Err(no_file(rt, path, error)),
-    }
+    // One that has ended the connection is told of as one that ends it later: by what comes.
+    wanted.ask(&stream);
+    Ok(stream)
 }

@@ -6,7 +6,7 @@ ghost use Rattle.lazyset_arguments.specs.Requests.{IsWithin};
 use crate::asking::{ask_to_clear, ask_to_stop};
 use crate::copying::copy;
 use crate::fault::Fault;
-use crate::files::{StandIns, open_for, open_source, read_front, say_cause};
+use crate::files::{StandIns, open_alone, open_source, read_front, ready_for, say_cause};
 use crate::growing::grow;
 use crate::heard::Heard;
 use crate::held::is_held;
@@ -122,7 +122,8 @@ where
     W: Write + Drop,
     requires { (1 ≤ buckets) × (buckets ≤ most_buckets) }
 {
-    let (disk, header) = open_for(rt, file, buckets, no_lock)?;
+    let mut disk = open_alone(rt, file, no_lock)?;
+    let header = ready_for(rt, file, &mut disk, buckets)?;
     let told = Told {
         rt,
         file,

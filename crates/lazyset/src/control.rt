@@ -2,11 +2,13 @@
 use crate::at_path::listen_at;
 use crate::log::Stoppable;
 use crate::wanted::{Answer, Wanted};
+use lazyset_arguments::Service;
+use lazyset_set_commands::Status;
 use lz_resp::Cleared;
 use std::fs::File;
 use std::io::ErrorKind;
 use std::net::{Net, Shutdown};
-use std::os::fd::OwnedFd;
+use std::os::fd::{AsRawFd, OwnedFd, RawFd};
 use std::os::unix::net::{UnixListener, UnixStream};
 use std::rt::Files;
 use std::sync::Wait;
@@ -66,6 +68,27 @@ impl Control {
         }
         guests.tell_ended(log);
         guests.waiting
+    }
+
+    /// The number of its descriptor, by which somebody is waited for.
+    pub fn number(&self) -> RawFd {
+        self.listener.as_raw_fd()
+    }
+
+    /// Hears who is there before there is a service: where that asks for its end, who waits for that. No room is cleared then.
+    pub fn hear_one(&self) -> io::Result<Option<UnixStream>> {
+        self.listener.set_nonblocking(true)?;
+        let (stream, _) = self.listener.accept()?;
+        Ok(
+            match Wanted::on(&stream, Duration::from_millis(PATIENCE_MS)) {
+                Some(Wanted::Stop) => Some(stream),
+                Some(Wanted::Clear(_)) => {
+                    Answer::Cleared(Cleared::Stopped(0)).tell(&stream);
+                    None
+                }
+                None => None,
+            },
+        )
     }
 
     /// Hears no more.
@@ -137,4 +160,36 @@ impl Guests {
             Answer::Cleared(Cleared::Stopped(0)).tell(&stream);
         }
     }
+}
+
+/// The socket on which the service is asked to stop, where it has one. It doesn't serve without.
+pub fn control_of<R>(rt: &R, service: Service<'_>) -> Result<Option<Control>, Status>
+where
+    R: Files<File = File> + Net + Eprint,
+{
+    let Some(path) = service.control else {
+        return Ok(None);
+    };
+    match Control::listen(rt, path, service.mode) {
+        Ok(control) => Ok(Some(control)),
+        Err(error) => {
+            say_no_control(rt, service.file, path, service.chosen.control, &error);
+            Err(Status::Failed)
+        }
+    }
+}
+
+// Says why that socket can't be had, and where its path was chosen the word that mends it.
+fn say_no_control<R: Eprint>(rt: &R, file: &str, path: &str, is_chosen: bool, error: &io::Error) {
+    let _ = if !is_chosen {
+        eprintln!(rt; "lazyset: serve {file}: --control {path}: {error}")
+    } else if error.kind() == ErrorKind::InvalidInput {
+        eprintln!(rt;
+            "lazyset: serve {file}: {path} is too long for a socket: name a shorter path by --control"
+        )
+    } else {
+        eprintln!(rt;
+            "lazyset: serve {file}: no socket at {path}: {error}: name another path by --control"
+        )
+    };
 }

@@ -101,20 +101,19 @@ where
     Ok(disk)
 }
 
-/// The file as a disk, and its format and slots, where its head tells them. More buckets than its format allows are refused as the command
-/// line refuses a number that is out of range. In format 4 no write waits for a sync of another, so those of slots side by side are
-/// gathered: a kill of the process loses what no sync has covered, as a crash does.
-pub fn open_for<R>(
+/// Readies the disk of a file that a command has to itself. The file's format and slots, where its head tells them. More buckets than its
+/// format allows are refused as the command line refuses a number that is out of range. In format 4 no write waits for a sync of another, so
+/// those of slots side by side are gathered: a kill of the process loses what no sync has covered, as a crash does.
+pub fn ready_for<R>(
     rt: &R,
     file: &str,
+    disk: &mut FileDisk,
     buckets: usize,
-    no_lock: bool,
-) -> Result<(FileDisk, Option<Header>), Fault>
+) -> Result<Option<Header>, Fault>
 where
     R: Files<File = File> + Eprint + Clock + AllocGlobal,
 {
-    let mut disk = open_alone(rt, file, no_lock)?;
-    let header = header_on(&mut disk);
+    let header = header_on(disk);
     if let Some(Header { format, .. }) = header {
         if buckets > format.most_buckets() {
             let _ = eprintln!(rt;
@@ -128,7 +127,7 @@ where
         }
     }
     disk.watch();
-    Ok((disk, header))
+    Ok(header)
 }
 
 /// Takes a lock on this file. Where the file system has no locks that is said, and it goes on without. The file has to stand at its path
@@ -141,9 +140,13 @@ where
     see_in_place(rt, path, disk)
 }
 
-// Whether a command may go on after this outcome of a lock. One that failed may be another's: a network file system that is ill says so
-// of a file that another machine has.
-fn see_locked<R: Eprint>(rt: &R, path: &str, given: Result<(), LockFault>) -> Result<(), Fault> {
+/// Whether a command may go on after this outcome of a lock. One that failed may be another's: a network file system that is ill says so
+/// of a file that another machine has.
+pub fn see_locked<R: Eprint>(
+    rt: &R,
+    path: &str,
+    given: Result<(), LockFault>,
+) -> Result<(), Fault> {
     match given {
         Ok(()) => Ok(()),
         Err(LockFault::Taken) => Err(no_file(rt, path, "another process has it open")),
@@ -174,6 +177,14 @@ where
         return Err(no_file(rt, path, "another file was put in its place"));
     }
     Ok(())
+}
+
+/// Whether this disk is of the file that stands at the path now. It isn't where the system doesn't tell.
+pub fn stands_at<R: Files<File = File>>(rt: &R, path: &str, disk: &FileDisk) -> bool {
+    match (rt.metadata(path), disk.identity()) {
+        (Ok(facts), Some(identity)) => identity == (facts.dev(), facts.ino()),
+        _ => false,
+    }
 }
 
 /// The file at this path, as a disk; it is created where it isn't there, and it has to be a regular one: whatever is written into a
@@ -269,7 +280,8 @@ pub fn is_absent<R: Files<File = File>>(rt: &R, path: &str) -> bool {
     }
 }
 
-fn open_or_create<R: Files<File = File> + Eprint>(
+/// The file at this path, as a disk without a lock.
+pub fn open_or_create<R: Files<File = File> + Eprint>(
     rt: &R,
     path: &str,
     create: bool,

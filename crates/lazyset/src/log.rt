@@ -7,9 +7,9 @@ use crate::gauge::Gauge;
 use crate::identity::run_of;
 use crate::latencies::Latencies;
 use crate::level::Level;
+use crate::lines::Lines;
 use crate::long_lists::LongLists;
 use crate::many::Many;
-use crate::moment::Moment;
 use crate::rate::Rate;
 use crate::ready::Ready;
 use crate::seldom::Seldom;
@@ -39,10 +39,8 @@ pub trait Stoppable: Observer + Heed {
 /// What the system around a service wants and tells.
 #[derive(Drop)]
 pub struct Surroundings {
-    /// Each line has its level before it.
-    pub has_levels: bool,
-    /// Each line that names the file has its time before it.
-    pub has_times: bool,
+    /// What stands before each line.
+    pub lines: Lines,
     /// What is said where it can't listen.
     pub way_out: WayOut,
     /// Who wants to know that the service is ready.
@@ -81,6 +79,9 @@ pub struct Log<'a, R: Eprint> {
     lacks_loop: AtomicBool,
     stops: AtomicBool,
     clearings: Clearings,
+    /// How many marks its file has, where keys are forgotten. (What the loops share can't stand here: the kit's borrow checker takes no type of several
+    /// lifetimes in a call whose signature names `'static`, and a secret has one.)
+    marks: Option<&'a AtomicUsize>,
 }
 
 impl<'a, R> Log<'a, R>
@@ -93,6 +94,7 @@ where
         file: &'a str,
         watched: Option<Watched>,
         around: Surroundings,
+        marks: Option<&'a AtomicUsize>,
     ) -> Log<'a, R> {
         let format = watched
             .as_ref()
@@ -121,28 +123,18 @@ where
             lacks_loop: AtomicBool::new(false),
             stops: AtomicBool::new(false),
             clearings: Clearings::new(),
+            marks,
         };
         log.say(Level::Info, "opening");
         log
     }
 
     fn say<W: fmt::Display + Drop>(&self, level: Level, words: W) {
-        let file = self.file;
-        if self.around.has_times {
-            let now = Moment::now(self.rt);
-            self.write(level, format_args!("{now} {file}: {words}"));
-        } else {
-            self.write(level, format_args!("{file}: {words}"));
-        }
+        self.around.lines.say(self.rt, self.file, level, words);
     }
 
     fn write<W: fmt::Display + Drop>(&self, level: Level, line: W) {
-        let before = if self.around.has_levels {
-            level.prefix()
-        } else {
-            ""
-        };
-        let _ = eprintln!(self.rt; "{before}{line}");
+        self.around.lines.write(self.rt, level, line);
     }
 
     /// Says why the file failed, where that is known.
@@ -272,7 +264,15 @@ where
 
     // How many members it has, without its marks.
     fn members(&self) -> usize {
-        self.gauge.members().saturating_sub(self.shape().marks)
+        self.gauge.members().saturating_sub(self.marks())
+    }
+
+    // How many marks it has.
+    fn marks(&self) -> usize {
+        match self.marks {
+            Some(count) => count.load(Ordering::SeqCst),
+            None => self.shape().marks,
+        }
     }
 
     // Says that lists are long, where they are.

@@ -6,12 +6,12 @@ ghost use Rattle.lazyset_set_commands.specs.Services.{IsServable};
 
 use crate::at_path::{SocketFile, listen_at};
 use crate::backlog::Backlog;
-use crate::control::Control;
+use crate::control::{Control, control_of};
 use crate::ending::has_ended;
 use crate::fault::Fault;
 use crate::files::shown;
 use crate::handed::{handed, is_of_six};
-use crate::level::is_journal;
+use crate::lines::Lines;
 use crate::log::{Log, Stoppable, Surroundings};
 use crate::ready::Ready;
 use crate::texts::wanted_by;
@@ -21,8 +21,9 @@ use crate::way_out::WayOut;
 use lazyset_arguments::Service;
 use lazyset_set_commands::{Listener, Place, ServeOptions, Status, Wanted, serve_kept_on};
 use lz_disk::{Disk, FileDisk};
+use lz_serve::Loops;
 use std::fs::File;
-use std::io::{ErrorKind, Write};
+use std::io::Write;
 use std::net::{Net, TcpListener, TcpStream};
 use std::os::unix::net::UnixStream;
 use std::rt::{Env, Files};
@@ -101,13 +102,15 @@ fn socket_of<'a, R: Files<File = File>>(rt: &R, place: &Place<'a>) -> Option<Soc
     }
 }
 
-/// Serves the set on this disk there. Who asked for its end hears of it once the file is closed.
+/// Serves the set on this disk there. Who asked for its end hears of it once the file is closed. It is asked on this socket, where it had one
+/// before it had the file.
 pub fn serve<'a, R, W>(
     rt: &'a R,
     writer: W,
     disk: FileDisk,
     service: Service<'a>,
     at: At<'a>,
+    bound: Option<Control>,
 ) -> Result<Status, Fault>
 where
     R: Env + Files<File = File> + Eprint + AllocGlobal,
@@ -115,7 +118,7 @@ where
     W: Write + Drop,
     requires { IsServable service.options }
 {
-    let control = match control_of(rt, service) {
+    let control = match control_or(rt, service, bound) {
         Ok(control) => control,
         Err(status) => return Ok(status),
     };
@@ -126,7 +129,16 @@ where
     let place = at.place(rt);
     let disk = shown(rt, file, disk, bytes_read(rt, file, &wanted));
     let socket = socket_of(rt, &place);
-    let log = Log::new(rt, file, watched, around);
+    let marks = match options.loops {
+        Some(
+            Loops {
+                forgetting: Some(shared),
+                ..
+            },
+        ) => Some(shared.marks()),
+        _ => None,
+    };
+    let log = Log::new(rt, file, watched, around, marks);
     let Ended {
         status,
         disk,
@@ -154,36 +166,19 @@ where
     Ok(log.status(status))
 }
 
-// The socket on which the service is asked to stop, where it has one. It doesn't serve without.
-fn control_of<R>(rt: &R, service: Service<'_>) -> Result<Option<Control>, Status>
+// That socket, or else the one that it makes now, where it has one.
+fn control_or<R>(
+    rt: &R,
+    service: Service<'_>,
+    bound: Option<Control>,
+) -> Result<Option<Control>, Status>
 where
     R: Files<File = File> + Net + Eprint,
 {
-    let Some(path) = service.control else {
-        return Ok(None);
-    };
-    match Control::listen(rt, path, service.mode) {
-        Ok(control) => Ok(Some(control)),
-        Err(error) => {
-            say_no_control(rt, service.file, path, service.chosen.control, &error);
-            Err(Status::Failed)
-        }
+    match bound {
+        Some(control) => Ok(Some(control)),
+        None => control_of(rt, service),
     }
-}
-
-// Says why that socket can't be had, and where its path was chosen the word that mends it.
-fn say_no_control<R: Eprint>(rt: &R, file: &str, path: &str, is_chosen: bool, error: &io::Error) {
-    let _ = if !is_chosen {
-        eprintln!(rt; "lazyset: serve {file}: --control {path}: {error}")
-    } else if error.kind() == ErrorKind::InvalidInput {
-        eprintln!(rt;
-            "lazyset: serve {file}: {path} is too long for a socket: name a shorter path by --control"
-        )
-    } else {
-        eprintln!(rt;
-            "lazyset: serve {file}: no socket at {path}: {error}: name another path by --control"
-        )
-    };
 }
 
 // How many bytes of the file are read before it is served: all, and where it matters what the keys are all once more.
@@ -205,11 +200,9 @@ where
         chosen,
         ..
     } = service;
-    let has_levels = is_journal(rt);
     Surroundings {
         way_out: at.way_out(options.port, chosen.passes),
-        has_levels,
-        has_times: options.loops.is_some() && !has_levels,
+        lines: Lines::of(rt, options.loops.is_some()),
         ready: Ready::new(rt),
         backlog: Backlog::new(rt, at.is_of_six()),
     }

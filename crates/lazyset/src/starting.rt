@@ -1,15 +1,19 @@
 //! The start of a service: its file is opened, and what its command line doesn't name is chosen.
-ghost use Rattle.std.specs.Prelude.{◌≤◌};
+ghost use Rattle.std.specs.Prelude.{◌≤◌, IfOk};
 ghost use Rattle.lz_slot.specs.Limits.{most_buckets};
 ghost use Rattle.lazyset_set_commands.specs.Services.{IsServable};
 
+use crate::control::Control;
 use crate::descriptors::connections_allowed;
 use crate::fault::Fault;
-use crate::files::open_for;
+use crate::files::{open_alone, ready_for};
+use crate::forgetting::forgetting_of;
 use crate::secrets::secret_of;
 use crate::service::{At, serve};
+use crate::standby::{stand_by, take_away_control};
 use lazyset_arguments::{Request, Service};
 use lazyset_set_commands::{ServeOptions, Status};
+use lz_disk::FileDisk;
 use lz_resp::{Naming, Secret};
 use lz_serve::{Language, Loops};
 use lz_slot::Header;
@@ -21,6 +25,10 @@ use std::sync::Wait;
 use std::thread::Threads;
 use std::time::Clock;
 
+// What is said of a service that forgets and is to end after so many sessions.
+const NO_SESSIONS: &str =
+    "error: the argument '--sessions <N>' cannot be used with '--forget <SECONDS>'\n\nFor more information, try '--help'.\n";
+
 /// Opens the file that is to be served, and serves its set.
 pub fn serve_file<R, W>(rt: &R, writer: &mut W, service: Service<'_>) -> Result<Status, Fault>
 where
@@ -29,15 +37,93 @@ where
     W: Write + Drop,
     requires { IsServable service.options }
 {
+    see_sessions(rt, service)?;
     let at = At::of(rt, service);
     let secret = secret_of(rt, Request::Serve(service), service.secret)?;
+    let file = service.file;
+    let beside = format!(in rt.alloc(); "{file}.control")?;
+    let control = if service.chosen.control {
+        Some(beside.as_str())
+    } else {
+        service.control
+    };
+    let service = Service { control, ..service };
+    let (mut disk, bound) = match taken(rt, service) {
+        Ok(taken) => taken,
+        Err(ended) => return ended,
+    };
+    match options_for(rt, writer, &mut disk, service, secret) {
+        Ok(options) => {
+            let service = Service { options, ..service };
+            serve(rt, &mut *writer, disk, service, at, bound)
+        }
+        Err(ended) => {
+            if bound.is_some() {
+                take_away_control(rt, service);
+            }
+            ended
+        }
+    }
+}
+
+// The keeper of the epochs is a session that has no end.
+fn see_sessions<R: AllocGlobal>(rt: &R, service: Service<'_>) -> Result<(), Fault> {
+    if service.forgets.is_some() && service.options.sessions > 0 {
+        let text = format!(in rt.alloc(); "{NO_SESSIONS}")?;
+        return Err(Fault::NotUnderstood(text));
+    }
+    Ok(())
+}
+
+// The disk of the file, which this process has to itself, and the socket on which the service is asked to stop, where it has waited for the
+// file; or how the service ends without.
+fn taken<R>(
+    rt: &R,
+    service: Service<'_>,
+) -> Result<(FileDisk, Option<Control>), Result<Status, Fault>>
+where
+    R: Env + Files<File = File> + Net + Eprint + Wait + Clock + AllocGlobal,
+{
+    if service.stands_by {
+        return stand_by(rt, service);
+    }
+    match open_alone(rt, service.file, service.no_lock) {
+        Ok(disk) => Ok((disk, None)),
+        Err(fault) => Err(Err(fault)),
+    }
+}
+
+// How the set on this disk is served, with what its command line doesn't name; or how the service ends without.
+fn options_for<R, W>(
+    rt: &R,
+    writer: &mut W,
+    disk: &mut FileDisk,
+    service: Service<'_>,
+    secret: Option<&'static Secret>,
+) -> Result<ServeOptions, Result<Status, Fault>>
+where
+    R: Files<File = File> + Eprint + Clock + AllocGlobal,
+    W: Write + Drop,
+    requires { IsServable service.options }
+    ensures { IfOk result IsServable }
+{
     let Service {
         file,
         options,
         chosen,
         ..
     } = service;
-    let (disk, header) = open_for(rt, file, options.buckets, service.no_lock)?;
+    let header = match ready_for(rt, file, disk, options.buckets) {
+        Ok(header) => header,
+        Err(fault) => return Err(Err(fault)),
+    };
+    let forgetting = match service.forgets {
+        Some(period) => match forgetting_of(rt.alloc(), writer, disk, header, period, secret) {
+            Ok(shared) => Some(shared),
+            Err(status) => return Err(Ok(status)),
+        },
+        None => None,
+    };
     let buckets = if chosen.buckets {
         buckets_for(header)
     } else {
@@ -48,27 +134,14 @@ where
     } else {
         options.loops
     };
-    let options = ServeOptions {
+    Ok(ServeOptions {
         buckets,
-        loops: match secret {
-            Some(secret) => loops.map(|loops| with_secret(loops, secret)),
-            None => loops,
-        },
+        loops: loops.map(|loops| Loops {
+            forgetting,
+            ..with_secret(loops, secret)
+        }),
         ..options
-    };
-    let alloc = rt.alloc();
-    let beside = format!(in alloc; "{file}.control")?;
-    let control = if chosen.control {
-        Some(beside.as_str())
-    } else {
-        service.control
-    };
-    let service = Service {
-        options,
-        control,
-        ..service
-    };
-    serve(rt, &mut *writer, disk, service, at)
+    })
 }
 
 // As many buckets as the file has slots, or as its format allows. One where its head can't be read: its open refuses it.
@@ -84,8 +157,11 @@ fn buckets_for(header: Option<Header>) -> usize
     slots.clamp(1, most)
 }
 
-// The same loops, whose clients' texts are hashed after this secret.
-fn with_secret(loops: Loops, secret: &'static Secret) -> Loops {
+// The same loops, whose clients' texts are hashed after this secret, if there is one.
+fn with_secret(loops: Loops, secret: Option<&'static Secret>) -> Loops {
+    let Some(secret) = secret else {
+        return loops;
+    };
     Loops {
         language: Language::Frames(Naming::Texts(Some(secret))),
         ..loops

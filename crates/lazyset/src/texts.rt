@@ -6,6 +6,10 @@ use lz_serve::{Language, Loops};
 
 /// What a service takes the keys of its file for. One of lines alone serves whatever they are.
 pub fn wanted_by(loops: Option<Loops>, as_numbers: bool, adopts: bool) -> Wanted {
+    // A service that forgets has seen them at its start.
+    if loops.is_some_and(|loops| loops.forgetting.is_some()) {
+        return Wanted::Anything;
+    }
     let naming = match loops.map(|loops| loops.language) {
         Some(Language::Frames(naming) | Language::Either(naming)) => naming,
         Some(Language::Lines) | None => return Wanted::Anything,

@@ -31,13 +31,13 @@ impl Wanted {
         Some(Wanted::Clear(u8::try_from(room).ok()?))
     }
 
-    /// Asks for it on this connection.
-    pub fn ask(self, stream: &UnixStream) -> io::Result<()> {
+    /// Asks for it on this connection, as far as somebody takes it.
+    pub fn ask(self, stream: &UnixStream) {
         let mut writer = stream;
-        match self {
+        let _ = match self {
             Wanted::Stop => writer.write_all(b"stop\n"),
             Wanted::Clear(room) => write!(writer, "clear {room}\n"),
-        }
+        };
     }
 }
 

@@ -178,6 +178,11 @@ fn words_of_end(request: Request<'_>, line: &str) -> Option<&'static str> {
         ),
         "othernumbers" => Some(words_of_numbers(request)),
         "othersecret" => Some(words_of_secret(request)),
+        "otherperiod" => {
+            Some(
+                "it forgets after another time: serve it with the --forget and --epochs that it had before",
+            )
+        }
         "oldfile" => Some(
             "a file of format 1 has no room for the mark of texts: renew it, then serve it with --text=adopt",
         ),

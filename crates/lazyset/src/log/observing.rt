@@ -167,7 +167,7 @@ where
             used_bytes: self.gauge.members().saturating_mul(SLOT_BYTES),
             most_bytes: slots.saturating_mul(SLOT_BYTES),
             members: self.members(),
-            marks: shape.marks,
+            marks: self.marks(),
             buckets: shape.buckets,
             passes: shape.passes,
             loops: shape.loops,
