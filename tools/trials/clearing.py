@@ -31,6 +31,9 @@ SERVED = ((2, 16, "1", COUNT), (4, 16, "1", COUNT), (4, 1, "1", FEW), (3, 64, "2
 # How many keys a room has, from none on, up to more than a page has or goes over, and how many are added in their place at most.
 SIZES, MOST_AGAIN = (0, 1, 2, 9, 10, 11, 255, 256, 257, 600, 4_095, 4_096, 4_097, 9_000), 600
 
+# How often requests follow a clearing with which they were sent.
+BEHIND = 64
+
 # How soon an empty room is told, in seconds, and how often it is tried.
 SOON, TRIES = 1.0, 8
 
@@ -227,8 +230,8 @@ def try_only_place(program: Program, folder: str) -> None:
 
 
 def try_in_order(program: Program, folder: str) -> None:
-    """Frames that are sent together: what comes before a clearing was told before, replies to what comes after it come later, and all are in order. So they
-    are byte by byte, as words on a line, and up to QUIT. Where a request for keys has come after it, or in a transaction, no room is cleared."""
+    """Frames that are sent together: what comes before a clearing was told before, replies to what comes after it come later, also to requests for keys, and
+    all are in order. So they are byte by byte, as words on a line, and up to QUIT. In a transaction no room is cleared."""
     for passes in (1, 16):
         file = os.path.join(folder, f"f{passes}")
         room, others = filled(program, file, 4)
@@ -238,9 +241,11 @@ def try_in_order(program: Program, folder: str) -> None:
             expect(asked(service.port, refused), 2 * NO_TRANSACTIONS + ENDS["exec"], "the replies to a clearing in a transaction")
             after = array(b"PING") + array(b"SISMEMBER", b"0", b"%d" % some) + array(b"ECHO", b"hi")
             told = PONG + integer(1) + bulk(b"hi")
-            uncleared = b"-ERR the room isn't cleared: 0 of its keys were removed\r\n"
-            expect(asked(service.port, array(b"PING"), new, clear(ROOM), after), PONG + integer(2) + uncleared + told, "replies of one piece")
-            expect(asked(service.port, array(b"PING"), clear(ROOM), array(b"PING")), PONG + integer(len(room) + 2) + PONG, "replies of one piece, and no keys")
+            replies = PONG + integer(2) + integer(len(room) + 2) + BEHIND * told
+            expect(asked(service.port, array(b"PING"), new, clear(ROOM), BEHIND * after), replies, "replies of one piece")
+            replies = integer(2) + integer(2) + integer(0) + told
+            expect(asked(service.port, new, clear(ROOM), clear(ROOM), after), replies, "replies of one piece to two clearings")
+            expect(asked(service.port, array(b"PING"), clear(ROOM), array(b"PING")), PONG + integer(0) + PONG, "replies of one piece, and no keys")
             expect(asked(service.port, new, b"lz.clear 3\r\n", array(b"PING")), integer(2) + integer(2) + PONG, "replies where it is a line of words")
             text, told = new + array(b"Lz.Clear", b"3") + array(b"PING"), PONG
             client = connect(service.port)
