@@ -16,8 +16,11 @@ from typing import Callable, Iterator, List, Sequence
 from trials.program import PATIENCE, Program, Service
 from trials.report import Skip, Wrong
 
-# Debian's packages that the trials beside Redis need.
-PACKAGES = ("redis-server", "redis-tools", "libhiredis-dev", "python3-redis", "ruby-redis", "prometheus-redis-exporter", "nutcracker", "stunnel4", "gcc", "openssl")
+# Debian's packages that the trials beside Redis, proxies and a volume of several machines need.
+PACKAGES = (
+    *("redis-server", "redis-tools", "libhiredis-dev", "python3-redis", "ruby-redis", "prometheus-redis-exporter", "gcc", "openssl"),
+    *("nutcracker", "stunnel4", "haproxy", "glusterfs-server"),
+)
 
 HERE = os.path.join(os.path.dirname(os.path.abspath(__file__)), "redis_clients")
 

@@ -31,6 +31,7 @@ ROOT = "root alone may"
 SYSTEMD = "systemd as process 1"
 DOCKER = "docker"
 REDIS = "a redis-server with members"
+VOLUME = "trials of two machines do"
 NOT_RUN: Dict[str, Dict[str, str]] = {
     "README.md": {
         "./first-run": "it has trials of its own",
@@ -64,6 +65,16 @@ NOT_RUN: Dict[str, Dict[str, str]] = {
     "SCALE.md": {
         "lazyset serve f - 64 --connections 1000 --resp --socket /run/lazyset/socket": ROOT,
         "redis-cli -h keys.example --tls --cacert ca.pem -p 7443 SADD 0 17": "another machine",
+        "gluster peer probe two": VOLUME,
+        "gluster peer probe three": VOLUME,
+        "gluster volume create keys replica 3 one:/bricks/keys two:/bricks/keys three:/bricks/keys": VOLUME,
+        "gluster volume set keys client.strict-locks on cluster.post-op-delay-secs 0 performance.quick-read off cluster.heal-timeout 10": VOLUME,
+        "gluster volume set keys network.ping-timeout 3 server.tcp-user-timeout 5": VOLUME,
+        "gluster volume set keys server.keepalive-time 2 server.keepalive-interval 1 server.keepalive-count 3": VOLUME,
+        "gluster volume start keys": VOLUME,
+        "mount -t glusterfs -o direct-io-mode=enable,backup-volfile-servers=two:three one:/keys /var/lib/private/lazyset/keys": VOLUME,
+        "lazyset make /var/lib/private/lazyset/keys/set 1100000 --format 4": ROOT,
+        "lazyset serve /var/lib/private/lazyset/keys/set 7000 64 --connections 1000 --resp --standby --control /run/lazyset/control": ROOT,
     },
 }
 

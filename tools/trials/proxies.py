@@ -1,4 +1,5 @@
-"""What stands in front of services: a proxy that spreads keys over several (nutcracker), and one that encrypts (stunnel)."""
+"""What stands in front of services: a proxy that spreads keys over several (nutcracker), one that encrypts (stunnel), and one that asks which
+of two serves (haproxy)."""
 
 from __future__ import annotations
 
@@ -6,18 +7,22 @@ import contextlib
 import errno
 import os
 import re
+import shutil
 import socket
 import ssl
 import subprocess
+import time
 import zlib
 from typing import Dict, Iterator, List, Sequence, Tuple
 
 from trials.beside_redis import free_port, needs_package, started
 from trials.frames import replies, sent
 from trials.guests import PATIENCE, received
+from trials.handed import hand
 from trials.plain_frames import array
 from trials.program import Ended, Key, Program, Service
 from trials.report import Wrong, expect
+from trials.standby import until
 
 NAMES = ("one", "two", "three")
 KEYS = [b"%d" % number for number in range(300)]
@@ -28,7 +33,10 @@ PAGE = os.path.join(os.path.dirname(os.path.abspath(__file__)), "..", "..", "doc
 # The ports and paths that the page has in its configurations.
 PROXY_PORT, PORTS = "7000", ("7001", "7002", "7003")
 TLS_PORT, SOCKET, CERTIFICATES = "7443", "/run/lazyset/socket", "/etc/stunnel"
+FRONT, BEHIND = "127.0.0.1:7000", ("10.0.0.1:7000", "10.0.0.2:7000")
 
+# How many keys are added before a service is killed, and how long the proxy is given to see whose port is there again.
+ADDED, SEEN = 500, 3.0
 
 # How a connection ends that the other side has closed.
 CLOSED = (errno.ECONNRESET, errno.ENOTCONN, errno.EPIPE)
@@ -164,7 +172,70 @@ def try_encrypted(program: Program, folder: str) -> None:
     expect(program.members(file), [Key(0, 17), Key(0, 18)], "the keys of the file")
 
 
+@contextlib.contextmanager
+def standing_by(program: Program, file: str, listener: socket.socket, name: str) -> Iterator["subprocess.Popen[bytes]"]:
+    """A service that waits for the file where another one has it, and is handed a listener before, as by systemd."""
+    options = ("--connections", "64", "--resp", "--standby", "--control", f"{file}.{name}")
+    words = [*hand(listener.fileno()), program.path, "serve", file, "0", "4", *options]
+    void = subprocess.DEVNULL
+    process = subprocess.Popen(words, stdin=void, stdout=void, stderr=void, pass_fds=[listener.fileno()], start_new_session=True)
+    try:
+        yield process
+    finally:
+        process.kill()
+        process.wait(PATIENCE)
+
+
+def added_until_kill(port: int, service: "subprocess.Popen[bytes]") -> List[bytes]:
+    """Adds keys over one connection while the service is killed, until that is lost; gives the keys that were answered."""
+    answered: List[bytes] = []
+    with socket.create_connection(("127.0.0.1", port), PATIENCE) as client, client.makefile("rb") as replies:
+        for number in range(2 * ADDED):
+            with contextlib.suppress(OSError):
+                client.sendall(array(b"SADD", b"0", b"%d" % number))
+                if replies.readline() == b":1\r\n":
+                    answered.append(b"%d" % number)
+            if len(answered) <= number:
+                break
+            if number == ADDED:
+                service.kill()
+    return answered
+
+
+def is_served(port: int) -> bool:
+    with contextlib.suppress(OSError):
+        return each(port, [array(b"PING")]) == [b"+PONG\r\n"]
+    return False
+
+
+def try_asked(program: Program, folder: str) -> None:
+    """A proxy asks two services by PING, and sends clients to the one that serves. The other one stands by, and has a port that accepts them."""
+    needs_package("haproxy", "haproxy")
+    file, port, config = os.path.join(folder, "set"), free_port(), os.path.join(folder, "haproxy.cfg")
+    program.make(file, 2 * ADDED)
+    with contextlib.ExitStack() as ends:
+        ports = [ends.enter_context(socket.create_server(("127.0.0.1", 0))) for _ in BEHIND]
+        numbers = [int(it.getsockname()[1]) for it in ports]
+        first = ends.enter_context(standing_by(program, file, ports[0], "first"))
+        until(lambda: is_served(numbers[0]), "a reply of the first service")
+        ends.enter_context(standing_by(program, file, ports[1], "second"))
+        with open(config, "w", encoding="ascii") as text:
+            places = (f"127.0.0.1:{number}" for number in numbers)
+            text.write(configuration("defaults", {FRONT: f"127.0.0.1:{port}", **dict(zip(BEHIND, places))}))
+        proxy = shutil.which("haproxy", path=os.environ.get("PATH", "") + ":/usr/sbin") or "haproxy"
+        ends.enter_context(started([proxy, "-db", "-f", config], port, folder))
+        answered = added_until_kill(port, first)
+        began = time.monotonic()
+        until(lambda: is_served(numbers[1]), "a reply of the second service")
+        ends.enter_context(standing_by(program, file, ports[0], "third"))
+        until(lambda: is_served(port), "a reply through the proxy")
+        print(f"         {len(answered)} keys answered; then none through the proxy for {time.monotonic() - began:.1f} s", flush=True)
+        time.sleep(SEEN)
+        expect(each(port, [array(b"SISMEMBER", b"0", key) for key in answered]), [b":1\r\n"] * len(answered), "each answered key")
+
+
 TRIALS = (
     ("three services and a proxy (nutcracker)", try_shards),
     ("a proxy that encrypts (stunnel)", try_encrypted),
+    ("a proxy before two services (haproxy)", try_asked),
 )
