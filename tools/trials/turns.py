@@ -127,6 +127,8 @@ def try_frames_at_halt(program: Program, folder: str) -> None:
         before = slow(file, 1.0, "error=EIO", "when=3")
         with Service(program, file, passes, *by_frames(HALTS), before=before) as service:
             with Crowd(service.port, HALTS) as crowd:
+                # One that waits in the queue of the system is told nothing.
+                expect(crowd.exchange([array(b"PING")] * HALTS, 1), [b"+PONG\r\n"] * HALTS, "the first replies")
                 frames = [array(b"SADD", b"0", *(b"%d" % (10 * client + key) for key in range(2 + client % 7))) for client in range(HALTS)]
                 crowd.send([2 * frame for frame in frames])
                 # A service that ends leaves what came after it unread, so the system may end a connection by a reset, after the reply.
