@@ -1,9 +1,10 @@
 -- Worked commands of a set that forgets after 60 seconds, while rooms 1 and 0 are remembered.
 use Rattle.std.{proofs.Common.{◌≡◌, ◌≢◌, [], ◌∷◌, Some, None, refl, codes, true}, specs.Fmt.{digits}}
+use Rattle.lz_slot.specs.Rooms.{rank}
 use Rattle.lz_proto.specs.declared.reply.Reply.TheVariants.{Yes, No, Full}
 use Rattle.lz_proto.specs.declared.request.Request.TheVariants.{Add as Adding, Has as Finding}
 use Rattle.lz_resp.specs.declared.{form.Form.TheVariants.{Added, Found, Stored}, naming.Naming.TheVariants.{Rooms}}
-use Rattle.lz_forget.specs.{Answers.{answer_on, filled, found_in, groups, joined, text_for, texts_for}, Askings.{ask_of, is_ask, requests_text}, Lives.{room_at}, Sessions.{Dialogue, Work.{holds}, begun, gathered, holding, open_of, refusing, time_in}, Wants.{extra_in}}
+use Rattle.lz_forget.specs.{Answers.{answer_on, filled, found_in, groups, joined, text_for, texts_for}, Askings.{all_rooms_of, ask_of, is_ask, lookups_text, requests_text}, Lives.{room_at}, Sessions.{Dialogue, Work.{holds}, begun, gathered, holding, open_of, refusing, time_in}, Wants.{extra_in}}
 use Rattle.lz_forget.specs.declared.{asking.Ask.TheVariants.{Has, Add}, commands.Extra.TheVariants.{Claim, Left, Nothing, OtherTime}, live.Live.{Live}, session.Next.TheVariants.{Begins, GoesOn}, wanted.Wanted.TheVariants.{Asks}}
 
 abbrev two : Live
@@ -13,10 +14,13 @@ two = record { newest = 1; count = 2; takes = true }
 before : room_at (record { newest = 0; count = 2; takes = true }) 1 ≡ 13
 before = refl
 
--- a claim asks the older room first
-glance : requests_text Has two 1 1 (7 ∷ []) ≡ codes "*3\r\n$9\r\nSISMEMBER\r\n$1\r\n0\r\n$1\r\n7\r\n"
-unfolding digits
+-- a claim is sought in the older room first, and asked for where it can't be seen
+glance : all_rooms_of two 1 1 (7 ∷ []) ≡ 7 ∷ []
 glance = refl
+
+looks_up : lookups_text (rank 1 7 ∷ []) ≡ codes "*3\r\n$9\r\nSISMEMBER\r\n$1\r\n1\r\n$1\r\n7\r\n"
+unfolding digits
+looks_up = refl
 
 adds : requests_text Add two 0 1 (7 ∷ []) ≡ codes "*3\r\n$4\r\nSADD\r\n$1\r\n1\r\n$1\r\n7\r\n"
 unfolding digits

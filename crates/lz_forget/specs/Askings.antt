@@ -1,6 +1,6 @@
 -- What a session asks of the service.
-use Rattle.std.specs.{Prelude.{ℕ, Bool, true, false, zero, suc, List, [], ◌++◌, codes}, List.{flat_map}}
-use Rattle.lz_slot.specs.Rooms.{number_of}
+use Rattle.std.specs.{Prelude.{ℕ, Bool, true, false, zero, suc, List, [], ◌∷◌, ◌++◌, codes}, List.{flat_map}}
+use Rattle.lz_slot.specs.Rooms.{number_of, rank, room_of}
 use Rattle.lz_resp.specs.{Pages.{number_text}, declared.form.Form.{Form, TheVariants.{Added, Removed, Found, Each, Stored}}}
 use Rattle.lz_forget.specs.{Lives.{room_at}, declared.{asking.Ask.{Ask, TheVariants.{Has, Add, Remove}}, live.Live.{Live}}}
 
@@ -35,3 +35,19 @@ key_texts ask live from (suc n) key = request_text ask (room_at live from) (numb
 -- the same of these keys, one after the other
 abbrev pub requests_text : Ask → Live → ℕ → ℕ → List ℕ → List ℕ
 requests_text ask live from n keys = flat_map (key_texts ask live from n) keys
+
+-- a key's number in so many rooms, from that of the epoch of this age on
+abbrev pub rooms_of : Live → ℕ → ℕ → ℕ → List ℕ
+rooms_of live from zero key = []
+rooms_of live from (suc n) key = rank (room_at live from) (number_of key) ∷ rooms_of live (suc from) n key
+
+-- the same of these keys, one after the other
+abbrev pub all_rooms_of : Live → ℕ → ℕ → List ℕ → List ℕ
+all_rooms_of live from n keys = flat_map (rooms_of live from n) keys
+
+-- lookups of keys, each in its room
+abbrev pub lookup_text : ℕ → List ℕ
+lookup_text key = request_text Has (room_of key) (number_of key)
+
+abbrev pub lookups_text : List ℕ → List ℕ
+lookups_text keys = flat_map lookup_text keys

@@ -8,12 +8,12 @@ use Rattle.lz_proto.specs.declared.{request.Request.{Request, TheVariants.{Add a
 use Rattle.lz_slot.specs.Numerals.{number_in}
 use Rattle.lz_resp.specs.{Frames.{line_end}, Keys.{at_first}, Reading.{Front, and_then, line_at}, Pages.{page_at}, declared.{form.Form.{Form, TheVariants.{Found}}, naming.Naming.{Naming}}}
 use Rattle.lz_resp.specs.declared.fault.Fault.TheVariants.{Count, Length}
-use Rattle.lz_forget.specs.{Lives.{IsLive}, Answers.{Answer, answer_on, filled, found_in, groups, joined, text_for, texts_for}, Askings.{ask_of, is_ask, requests_text}, Commands.{Reader, taken}}
+use Rattle.lz_forget.specs.{Lives.{IsLive}, Answers.{Answer, answer_on, filled, found_in, groups, joined, text_for, texts_for}, Askings.{all_rooms_of, ask_of, is_ask, lookups_text, requests_text}, Commands.{Reader, taken}}
 use Rattle.lz_forget.specs.declared.{asking.Ask.{Ask, TheVariants.{Has, Add, Remove}}, live.Live.{Live}, session.{Next.{Next}, Stage.{Stage}}, wanted.{Wanted.{Wanted}, Reading.{Reading, TheVariants.{Line, Bulk, Page}}}}
 
 -- What is under way: nothing, before a frame or after the last; commands of one kind that haven't begun, each with the form of its replies and how
--- many keys it has; the same of a question for time; a reply that is passed on; claims of which each older
--- room is asked; claims of which the newest room is asked to add what no older one has; lookups of so many keys; how much time is left; or
+-- many keys it has; the same of a question for time; a reply that is passed on; claims whose keys are sought in
+-- each older room; claims of which the newest room is asked to add what no older one has; lookups of so many keys; how much time is left; or
 -- removals from the room of the epoch of an age.
 pub data Work : Type 0 where
   rests : Work
@@ -28,13 +28,15 @@ pub data Work : Type 0 where
   removes : List (Form × ℕ) → List ℕ → Live → ℕ → List Answer → Work
 
 -- What of the client's text wasn't taken; what is under way; the client's next command, where it can't be carried out with those that are held; what
--- was answered of what was asked together, and how many requests that were; what the service is to be sent; what it has told that wasn't taken; and what the client is to be sent.
+-- was answered of what was asked together, and how many requests that were; the keys that are sought; what the service is to be sent; what it has told that
+-- wasn't taken; and what the client is to be sent.
 pub record Dialogue : Type 0 where
   pub reader : Reader
   pub work : Work
   pub held : Option Wanted
   pub answers : List Answer
   pub awaits : ℕ
+  pub seeks : List ℕ
   pub asks : List ℕ
   pub heard : List ℕ
   pub says : List ℕ
@@ -48,6 +50,7 @@ begun seconds naming =
       held = None;
       answers = [];
       awaits = 0;
+      seeks = [];
       asks = [];
       heard = [];
       says = [];
@@ -138,12 +141,16 @@ answers_of answer n = replicate n answer
 
 -- what came of commands was told
 abbrev pub telling : List (Form × ℕ) → List Answer → Dialogue → Dialogue
-telling told answers s = record s { work = rests; says = s.says ++ texts_for told answers }
+telling told answers s = record s { work = rests; seeks = []; says = s.says ++ texts_for told answers }
 
 -- of these keys it was asked so in so many rooms, from that of the epoch of this age on
 abbrev pub asking : Ask → Live → ℕ → ℕ → List ℕ → Work → Dialogue → Dialogue
 asking ask live from n keys work s =
     record s { work = work; answers = []; awaits = length keys * n; asks = s.asks ++ requests_text ask live from n keys }
+
+-- these keys are sought in so many rooms, from that of the epoch of this age on
+abbrev pub seeking : Live → ℕ → ℕ → List ℕ → Work → Dialogue → Dialogue
+seeking live from n keys work s = record s { work = work; answers = []; awaits = length keys * n; seeks = all_rooms_of live from n keys }
 
 -- the newest room is asked to add these keys, if there are any and it takes keys
 abbrev pub adding_to : List ℕ → List (Form × ℕ) → Live → List Answer → Dialogue → Dialogue
@@ -155,11 +162,11 @@ adding_to keys told live found s =
 unfoldable pub adding : List (Form × ℕ) → List ℕ → Live → List Answer → Dialogue → Dialogue
 adding told keys live found s = adding_to (open_of keys found) told live found s
 
--- the older rooms are asked for these keys, where there are older ones
+-- these keys are sought in the older rooms, where there are older ones
 abbrev pub glancing : List (Form × ℕ) → List ℕ → Live → Dialogue → Dialogue
 glancing told keys live s =
     if live.count == 1 then adding told keys live (answers_of (Some No) (length keys)) s
-    else asking Has live 1 (live.count - 1) keys (glances told keys live) s
+    else seeking live 1 (live.count - 1) keys (glances told keys live) s
 
 -- the room of the epoch of this age is asked to remove them, if one is of this age
 abbrev pub removing : List (Form × ℕ) → List ℕ → Live → ℕ → List Answer → Dialogue → Dialogue
@@ -168,7 +175,7 @@ removing told keys live age found s =
     else asking Remove live age 1 keys (removes told keys live age found) s
 
 abbrev pub finding : List (Form × ℕ) → List ℕ → Live → Dialogue → Dialogue
-finding told keys live s = asking Has live 0 live.count keys (finds told (length keys) live) s
+finding told keys live s = seeking live 0 live.count keys (finds told (length keys) live) s
 
 -- what is asked of these keys by commands that are told so
 abbrev pub beginning_of : Ask → List (Form × ℕ) → List ℕ → Live → Dialogue → Dialogue
@@ -191,7 +198,7 @@ refusing s = refusing_by s.work s
 -- the command that was taken begins, while these rooms are remembered, those of each epoch for so many milliseconds
 abbrev pub beginning_by : Work → Live → List ℕ → Dialogue → Dialogue
 beginning_by (holds ask told keys) live left s = beginning_of ask told keys live s
-beginning_by (holds_time unit requests) live left s = asking Has live 0 live.count (keys_of requests) (times unit left) s
+beginning_by (holds_time unit requests) live left s = seeking live 0 live.count (keys_of requests) (times unit left) s
 beginning_by work live left s = record s { work = work }
 
 abbrev pub beginning : Live → List ℕ → Dialogue → Dialogue
@@ -227,6 +234,22 @@ abbrev pub noting : Answer → Dialogue → Dialogue
 noting answer s =
     if nat_lt (length s.answers + 1) s.awaits then record s { answers = s.answers ++ answer ∷ [] }
     else completed s.work (s.answers ++ answer ∷ []) (record s { answers = []; work = rests })
+
+-- it was seen whether the service has the key that is sought first
+abbrev pub seen_as : Bool → Answer
+seen_as true = Some Yes
+seen_as false = Some No
+
+abbrev pub seeing_by : List ℕ → ℕ → Bool → Dialogue → Dialogue
+seeing_by [] key member s = s
+seeing_by (first ∷ keys) key member s = if first == key then noting (seen_as member) (record s { seeks = keys }) else s
+
+abbrev pub seeing : ℕ → Bool → Dialogue → Dialogue
+seeing key member s = seeing_by s.seeks key member s
+
+-- the service is asked for those that are still sought
+abbrev pub asking_sought : Dialogue → Dialogue
+asking_sought s = record s { asks = s.asks ++ lookups_text s.seeks; seeks = [] }
 
 -- the work as the program has it
 abbrev pub work_of : Stage → Work

@@ -6,6 +6,7 @@ ghost use Rattle.lz_forget.specs.Sessions.{Hears, HearsAll, HearsOne, Notes, Pas
 
 mod gathering;
 mod rounds;
+mod seeking;
 mod telling;
 
 use crate::answers::{Answer, Told, answer_on};
@@ -17,6 +18,7 @@ use crate::wanted::{Reading, Wanted};
 use lz_resp::{Fault, Naming, Requests, Stop, read_line};
 use lz_slot::Key;
 use std::alloc::{AllocError, Global};
+use std::collections::VecDeque;
 use std::marker::Model;
 use std::mem;
 
@@ -44,7 +46,7 @@ enum Stage {
     HoldsTime(u64, Requests),
     /// A reply that is passed on.
     Passes(Reading),
-    /// Claims, of which each older room is asked.
+    /// Claims, whose keys are sought in each older room.
     Glances(Vec<Told>, Vec<Key>, Live),
     /// Claims, of which the newest room is asked to add what no older one has.
     Adds(Vec<Told>, Vec<Answer>),
@@ -56,8 +58,8 @@ enum Stage {
     Removes(Vec<Told>, Vec<Key>, Live, u8, Vec<Answer>),
 }
 
-/// A client's session with a set that forgets. What the client sends is fed to it, and `next` takes one command after the other; what it asks of
-/// the service is sent there, and what that replies is heard.
+/// A client's session with a set that forgets. What the client sends is fed to it, and `next` takes one command after the other. Whether the service has
+/// a key that it seeks is seen (`see`), or asked (`ask_sought`). What it asks of the service is sent there, and what that replies is heard.
 #[derive(Drop)]
 pub struct Session {
     alloc: Global,
@@ -68,6 +70,8 @@ pub struct Session {
     // what was answered to the requests that were asked together, and how many these are
     answers: Vec<Answer>,
     awaits: usize,
+    // the keys of which it is to be seen whether the service has them
+    seeks: VecDeque<Key>,
     // what the service is to be sent
     asks: Vec<u8>,
     // what the service has told, and how much of it was taken
@@ -83,7 +87,7 @@ impl Model for Session {
 
     ghost Value = { Dialogue };
 
-    ghost view = { λ s. record { reader = s.commands; work = work_of s.stage; held = s.held; answers = s.answers.items; awaits = s.awaits; asks = s.asks.items; heard = drop s.taken s.heard.items; says = s.says.items } };
+    ghost view = { λ s. record { reader = s.commands; work = work_of s.stage; held = s.held; answers = s.answers.items; awaits = s.awaits; seeks = s.seeks.items; asks = s.asks.items; heard = drop s.taken s.heard.items; says = s.says.items } };
 
     ghost invariant = { λ s. HasLive (work_of s.stage) × (s.taken ≤ length s.heard.items) };
 }
@@ -101,6 +105,7 @@ impl Session {
             held: None,
             answers: Vec::new(alloc),
             awaits: 0,
+            seeks: VecDeque::new(alloc),
             asks: Vec::new(alloc),
             heard: Vec::new(alloc),
             taken: 0,

@@ -42,3 +42,4 @@ pub mod QueryRows
 pub mod Listings
 pub mod PageRows
 pub mod OptionRows
+pub mod Sights

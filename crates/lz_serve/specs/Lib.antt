@@ -9,6 +9,7 @@ pub mod OwnLines
 pub mod Askings
 pub mod Lines
 pub mod Listings
+pub mod Sights
 pub mod Exchanges
 pub mod Refusals
 pub mod Conversations

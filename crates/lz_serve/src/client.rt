@@ -11,6 +11,7 @@ ghost use Rattle.lz_serve.specs.Streams.{IsFresh};
 mod page;
 mod query;
 mod question;
+mod sight;
 mod stop;
 
 use crate::asking::Granted;

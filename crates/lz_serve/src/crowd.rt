@@ -7,6 +7,7 @@ ghost use Rattle.lz_serve.specs.Grants.{Promises};
 ghost use Rattle.lz_serve.specs.Queues.{queued};
 ghost use Rattle.lz_serve.specs.Streams.{IsFresh};
 
+mod back;
 mod page;
 mod parting;
 mod stop;
@@ -225,19 +226,6 @@ impl<S: Stream> Crowd<S> {
         }
     }
 
-    /// Does what needs no pass for those that were answered, had no line or are to be tended to in each turn.
-    pub fn tend_back<O: Observer>(&mut self, observer: &O, buffer: &mut [u8])
-        ensures kept { Keeps self.old self.new }
-        ensures begun { self.new.begun ≡ self.old.begun }
-    {
-        for _ in 0..self.back.len() {
-            let Some(token) = self.back.pop_front() else {
-                return;
-            };
-            self.tend(token, observer, buffer);
-        }
-    }
-
     /// The question to this pass whose turn it is, if there is one, with the token of its client. Where there is none, none that waited has a
     /// line.
     pub fn take_turn(&mut self, pass: &Pass) -> Option<(usize, Question)>
@@ -359,18 +347,6 @@ impl<S: Stream> Crowd<S> {
             return;
         }
         if !self.queue.put(token) {
-            self.close(token);
-        }
-    }
-
-    // A client is to be tended to, if it wasn't. There is room for it.
-    fn put_back(&mut self, token: usize, is_back: bool)
-        ensures leave { OnlyLeave self.old self.new }
-        ensures others { ChangesAt token self.old self.new }
-        ensures queue { self.new.queue ≡ self.old.queue }
-        ensures scans { self.new.scans ≡ self.old.scans }
-    {
-        if is_back && self.back.push_back(token).is_err() {
             self.close(token);
         }
     }

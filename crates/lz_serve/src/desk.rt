@@ -7,6 +7,7 @@ ghost use Rattle.lz_serve.specs.Desks.{AnswersOneOf, BeginsWithin};
 ghost use Rattle.lz_serve.specs.Grants.{Promises};
 
 mod pages;
+mod sights;
 mod turning;
 
 use crate::answering::{Next, answer_one, begin_next, meet, play_call};

@@ -13,9 +13,11 @@ use crate::given::Given;
 use crate::listed::{Listed, has_halted, list_page};
 use crate::replies::says_halted;
 use crate::server::Served;
+use crate::sight::{Sight, look_at};
 use lz_disk::Disk;
 use lz_resp::Scan;
 use lz_set::{Named, Pass, Set, StepGate};
+use lz_slot::Key;
 use std::alloc::Global;
 use std::marker::PhantomData;
 use std::sync::Wait;
@@ -109,6 +111,15 @@ impl<N: Named, B: Given> FreePass<N, B> {
             self.halted = true;
         }
         listed
+    }
+
+    /// Looks whether a key is a member. It waits for nobody. There is no sight where that isn't settled, or the pass can't look.
+    pub fn look<D: Disk, G: StepGate>(&mut self, set: &Set<D, G, N>, key: Key) -> Option<Sight>
+        ensures sight { IfSome result (λ sight. (sight.key ≡ key) × (sight.before ≡ self.old.pass) × (sight.after ≡ self.new.pass)) }
+        ensures grows { Begins (part self.old.pass).known (part self.new.pass).known }
+        ensures halted { self.new.halted ≡ self.old.halted }
+    {
+        look_at(set, &mut self.pass, key)
     }
 
     /// The pass, and whether a reply of it told that the service halted.

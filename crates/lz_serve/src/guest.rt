@@ -3,8 +3,10 @@ ghost use Rattle.std.specs.Prelude.{◌≡◌};
 
 use crate::language::Language;
 use crate::observer::Observer;
+use crate::sight::Sight;
 use crate::stream::{Received, Stream, Taken};
 use lz_resp::Cleared;
+use lz_slot::Key;
 use std::io::{Read, Write};
 use std::net::{Shutdown, TcpStream};
 use std::time::Duration;
@@ -92,6 +94,14 @@ impl<O: Observer> Stream for Guest<'_, O> {
     // A line asks for no such thing.
     fn clear(&mut self, _room: u8) -> Option<Cleared> {
         Some(Cleared::Stopped(0))
+    }
+
+    fn sought(&self) -> Option<Key> {
+        None
+    }
+
+    fn see(&mut self, _sight: Option<Sight>) -> bool {
+        true
     }
 
     fn has_come(&self) -> bool {

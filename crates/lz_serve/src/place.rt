@@ -5,6 +5,8 @@ ghost use Rattle.lz_board.specs.Seats.{part};
 ghost use Rattle.lz_serve.specs.Clients.{AwaitsBefore, AwaitsNoPage, AwaitsPage, ComesAfter, HasNone, HasRepliedBefore, HasSeenIn, HasTold, IsAskedBy, IsHeardOf, IsOwnOf, KeepsHeard, KeepsLines, KeepsLinesOf, KeepsOwn, KeepsSeen, Remains, TellsOf, TellsPageOf};
 ghost use Rattle.lz_serve.specs.Grants.{Promises};
 
+mod back;
+mod sight;
 mod stop;
 mod wish;
 
@@ -121,9 +123,7 @@ impl<S: Stream> Place<S> {
         };
         client.reply(granted, pass, observer);
         self.moved = clock.now();
-        if let (Some(heard), Some(now)) = (self.heard, clock.seen()) {
-            observer.took(now.saturating_sub(heard));
-        }
+        self.tell_time(observer, clock);
         self.may_ask()
     }
 
@@ -175,15 +175,6 @@ impl<S: Stream> Place<S> {
         if !self.leaves {
             self.moved = clock.now();
         }
-    }
-
-    /// Notes that it is to be tended to, and says whether it wasn't.
-    pub(crate) fn give_back(&mut self) -> bool
-        ensures { self.new.client ≡ self.old.client }
-    {
-        let was_back = self.back;
-        self.back = true;
-        !was_back
     }
 
     /// Its client's turn: its question to this pass, if it has one. The pass has seen what those had that answered the client.
@@ -263,8 +254,7 @@ impl<S: Stream> Place<S> {
     {
         self.tell_cleared(observer);
         let wish = self.send_and_read(observer, buffer, crowded, now);
-        self.back = wish == Wish::Again;
-        wish
+        self.note(wish)
     }
 
     // Tells what came of a room, where its client waits for that to be cleared, and what waited behind that.

@@ -6,8 +6,10 @@ use crate::clearing::Clearings;
 use crate::forgetting::{Kept, Spoken};
 use crate::language::Language;
 use crate::loads::Loads;
+use crate::sight::Sight;
 use crate::stream::{Received, Stream, Taken};
 use lz_resp::{Cleared, Clearing};
+use lz_slot::Key;
 use mio::net::TcpStream;
 use std::io::{Read, Write};
 use std::net::Shutdown;
@@ -135,6 +137,20 @@ impl<'a> Stream for Socket<'a> {
         let cleared = self.clearings.outcome()?;
         self.awaits = false;
         Some(cleared)
+    }
+
+    fn sought(&self) -> Option<Key> {
+        match &self.carrier {
+            Carrier::Spoken(spoken) => spoken.sought(),
+            _ => None,
+        }
+    }
+
+    fn see(&mut self, sight: Option<Sight>) -> bool {
+        match &mut self.carrier {
+            Carrier::Spoken(spoken) => spoken.see(sight),
+            _ => true,
+        }
     }
 
     // What the client in memory asks next comes of what it was told.

@@ -3,7 +3,9 @@ ghost use Rattle.std.specs.Prelude.{◌≡◌, ◌≢◌, ◌≤◌, IfOk, IfSom
 ghost use Rattle.lz_serve.specs.Streams.{MayTake, Receives, Takes, counted, sent};
 
 use crate::language::Language;
+use crate::sight::Sight;
 use lz_resp::Cleared;
+use lz_slot::Key;
 use std::io;
 use std::io::ErrorKind;
 
@@ -108,6 +110,13 @@ pub trait Stream: Drop {
 
     /// Has this room cleared, and tells what came of it, once that is known. None until then: its client asks again.
     fn clear(&mut self, room: u8) -> Option<Cleared>
+        ensures { traffic self.new ≡ traffic self.old };
+
+    /// The key of which it seeks to know whether that is a member, if there is one. It stalls until `see`.
+    fn sought(&self) -> Option<Key>;
+
+    /// Takes what a pass saw of that key, or none where none could be had, and says whether the connection stands.
+    fn see(&mut self, sight: Option<Sight>) -> bool
         ensures { traffic self.new ≡ traffic self.old };
 
     /// Whether something can be received of which no poller tells.

@@ -3,7 +3,8 @@ ghost use Rattle.std.specs.Prelude.{◌≡◌, ◌≢◌, ◌≤◌, ◌<◌, le
 ghost use Rattle.lz_serve.specs.Streams.{counted, sent};
 
 use lz_resp::Cleared;
-use lz_serve::{Language, Poller, Ready, Received, Stream, Taken};
+use lz_serve::{Language, Poller, Ready, Received, Sight, Stream, Taken};
+use lz_slot::Key;
 use std::alloc::Global;
 use std::cell::RefCell;
 use std::io;
@@ -122,6 +123,14 @@ impl<'a> Stream for Wire<'a> {
 
     fn clear(&mut self, _room: u8) -> Option<Cleared> {
         Some(Cleared::Busy)
+    }
+
+    fn sought(&self) -> Option<Key> {
+        None
+    }
+
+    fn see(&mut self, _sight: Option<Sight>) -> bool {
+        true
     }
 
     fn has_come(&self) -> bool {

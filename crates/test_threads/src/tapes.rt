@@ -13,7 +13,7 @@ use lz_proto::Reply;
 use lz_resp::{Cleared, Figures};
 use lz_serve::{
     Clearings, Client, FreePass, Given, Lack, Language, Listener, Observer, Received, Serving,
-    Stream, Taken, Verb, serve_client,
+    Sight, Stream, Taken, Verb, serve_client,
 };
 use lz_set::{Blank, Fault, Named, NoGate, Pass, Set};
 use lz_slot::Key;
@@ -133,6 +133,14 @@ impl<'a, N: Named> Stream for Tape<'a, N> {
 
     fn clear(&mut self, _room: u8) -> Option<Cleared> {
         Some(Cleared::Busy)
+    }
+
+    fn sought(&self) -> Option<Key> {
+        None
+    }
+
+    fn see(&mut self, _sight: Option<Sight>) -> bool {
+        true
     }
 
     fn has_come(&self) -> bool {

@@ -1,11 +1,11 @@
-//! What is asked together, one round after the other.
+//! What is sought or asked together, one round after the other.
 ghost use Rattle.std.specs.Prelude.{◌≡◌, ◌≤◌, ◌-◌, [], IfOk, OnOk, length};
 ghost use Rattle.lz_forget.specs.Lives.{IsLive};
-ghost use Rattle.lz_forget.specs.Sessions.{adding, asking, beginning_by, beginning_of, completed, HasLive, work_of, glancing, answers_of, keys_of, open_of, removing, Work};
+ghost use Rattle.lz_forget.specs.Sessions.{adding, asking, beginning_by, beginning_of, completed, HasLive, work_of, glancing, answers_of, keys_of, open_of, removing, seeking, Work};
 
 use super::{Session, Stage};
 use crate::answers::{Answer, Told, filled, groups, joined};
-use crate::asking::{Ask, push_requests};
+use crate::asking::{Ask, push_requests, push_rooms};
 use crate::live::{Live, MOST_EPOCHS};
 use lz_proto::{Reply, Request};
 use lz_resp::Requests;
@@ -53,18 +53,18 @@ impl Session {
         self.find(keys.as_slice(), live, Stage::Times(unit, *left))
     }
 
-    // Asks each room for these keys.
+    // Seeks these keys in each room.
     fn find(&mut self, keys: &[Key], live: Live, finds: Stage) -> Result<(), AllocError>
         requires live { IsLive live }
         requires work { HasLive (work_of finds) }
-        ensures { OnOk result (self.new ≡ asking Ask.Has live 0 live.count keys.now (work_of finds) self.old) }
+        ensures { OnOk result (self.new ≡ seeking live 0 live.count keys.now (work_of finds) self.old) }
     {
-        self.ask_rooms(Ask::Has, live, 0, live.count, keys)?;
+        self.seek(live, 0, live.count, keys)?;
         self.stage = finds;
         Ok(())
     }
 
-    // Asks the older rooms for these keys, before they are added to the newest.
+    // Seeks these keys in the older rooms, before they are added to the newest.
     fn glance(&mut self, told: Vec<Told>, keys: Vec<Key>, live: Live) -> Result<(), AllocError>
         requires { IsLive live }
         ensures its { OnOk result (self.new ≡ glancing told.items keys.items live self.old) }
@@ -74,7 +74,7 @@ impl Session {
             let found = answers_of(self.alloc, Some(Reply::No), keys.len())?;
             return self.add(told, keys, live, found);
         }
-        self.ask_rooms(Ask::Has, live, 1, live.count, keys.as_slice())?;
+        self.seek(live, 1, live.count, keys.as_slice())?;
         self.stage = Stage::Glances(told, keys, live);
         Ok(())
     }
@@ -121,6 +121,23 @@ impl Session {
         }
         self.ask_rooms(Ask::Remove, live, age, age + 1, keys.as_slice())?;
         self.stage = Stage::Removes(told, keys, live, age, found);
+        Ok(())
+    }
+
+    // Seeks these keys in each room whose epoch is of an age from this one on, up to that one.
+    fn seek(&mut self, live: Live, from: u8, to: u8, keys: &[Key]) -> Result<(), AllocError>
+        requires live { IsLive live }
+        requires ages { (from ≤ to) × (to ≤ live.count) }
+        ensures its { OnOk result (self.new ≡ seeking live from (to - from) keys.now self.old.work self.old) }
+        ensures heard { self.new.heard ≡ self.old.heard }
+    {
+        let Some(awaits) = keys.len().checked_mul(usize::from(to - from)) else {
+            return Err(AllocError);
+        };
+        self.seeks.clear();
+        push_rooms(&mut self.seeks, live, from, to, keys)?;
+        self.awaits = awaits;
+        self.answers.clear();
         Ok(())
     }
 

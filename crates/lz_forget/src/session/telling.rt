@@ -18,6 +18,7 @@ impl Session {
         ensures heard { self.new.heard ≡ self.old.heard }
     {
         self.stage = Stage::Rests;
+        self.seeks.clear();
         push_texts(self.alloc, &mut self.says, told, answers)
     }
 

@@ -46,6 +46,7 @@ impl<S: Stream, N: Named, B: Given> Desk<S, N, B> {
         ensures bound { self.new.begun ≤ self.old.begun + most_begun self.old.most self.old.waiting }
     {
         self.left = self.share();
+        self.look_up(set, observer, buffer);
         self.list_in_turn(rt, set, observer, buffer);
         self.begin_all(rt, set);
         self.play_all(rt, set, observer, buffer);
@@ -107,7 +108,7 @@ impl<S: Stream, N: Named, B: Given> Desk<S, N, B> {
 
     // Whether there is something to do, with nothing heard of the connections.
     fn is_busy(&self) -> bool {
-        self.crowd.scans() > 0 || self.has_commands()
+        self.crowd.scans() > 0 || self.crowd.seeks() || self.has_commands()
     }
 
     /// Whether no command is under way or waits, and no page. A client may send on.

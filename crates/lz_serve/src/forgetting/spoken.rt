@@ -3,9 +3,11 @@ ghost use Rattle.std.specs.Prelude.{◌≡◌, ◌≢◌, ◌≤◌, IfSome, len
 ghost use Rattle.lz_serve.specs.Streams.{counted, sent};
 
 use crate::forgetting::Forgetting;
+use crate::sight::Sight;
 use crate::socket::{receive_at, take_at};
 use crate::stream::{Received, Taken};
 use lz_forget::{Next, Session};
+use lz_slot::Key;
 use mio::net::TcpStream;
 use std::alloc::Global;
 use std::net::Shutdown;
@@ -92,14 +94,29 @@ impl<'a> Spoken<'a> {
         }
         let was_under_way = self.session.is_under_way();
         let heard = self.session.hear(text);
-        if was_under_way && !self.session.is_under_way() {
-            self.shared.turns().leave();
-        }
+        self.leave_turn(was_under_way);
         self.rests = false;
         if heard.is_err() || !self.send() {
             return Taken::Failed;
         }
         Taken::Count(text.len())
+    }
+
+    /// The key that the session seeks, if it does.
+    pub(crate) fn sought(&self) -> Option<Key> {
+        self.session.sought()
+    }
+
+    /// Takes what was seen of that key, and says whether the connection stands. Where it couldn't be seen the service is asked.
+    pub(crate) fn see(&mut self, sight: Option<Sight>) -> bool {
+        let was_under_way = self.session.is_under_way();
+        let seen = match sight {
+            Some(sight) => self.session.see(sight.key(), sight.is_member()),
+            None => self.session.ask_sought(),
+        };
+        self.leave_turn(was_under_way);
+        self.rests = false;
+        seen.is_ok()
     }
 
     /// Whether the session may have more to ask.
@@ -115,9 +132,9 @@ impl<'a> Spoken<'a> {
         !self.leaves && !self.session.waits() && !waits && !self.is_unread()
     }
 
-    /// Whether its command waits for the next epoch.
+    /// Whether its command waits for the next epoch, or for a key to be seen.
     pub(crate) fn stalls(&self) -> bool {
-        self.stalls
+        self.stalls || self.session.sought().is_some()
     }
 
     /// Nothing more will be sent but what is unsent, and that the service stops, to each command that has changed nothing.
@@ -263,6 +280,11 @@ impl<'a> Spoken<'a> {
                 _ => break,
             }
         }
+        self.leave_turn(was_under_way);
+    }
+
+    // The command that was under way in an epoch may be so no more.
+    fn leave_turn(&self, was_under_way: bool) {
         if was_under_way && !self.session.is_under_way() {
             self.shared.turns().leave();
         }

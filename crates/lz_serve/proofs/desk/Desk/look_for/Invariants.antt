@@ -1,0 +1,6 @@
+use Rattle.lz_serve.proofs.desk.Desk.look_for.Given as goal
+use Rattle.std.specs.Prelude.{◌≡◌}
+use Rattle.lz_serve.specs.Desks.{BeginsWithin}
+
+abbrev pub invariant-loop : goal.invariant-loop
+invariant-loop g l = record { given : l.self.given ≡ l.fn.self.given; within : BeginsWithin l.fn.self l.self }
