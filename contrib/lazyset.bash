@@ -16,7 +16,7 @@ _lazyset_words() {
     renew | grow) options="--format --help" formats="2 3 4" ;;
     copy) options="--format --replace --help" formats="2 3 4" ;;
     run) options="--buckets --no-lock --help" ;;
-    serve) options="--connections --loops --resp --lines --text --secret --forget --epochs --numbers --sessions --idle --buckets --socket --control --socket-mode --until-eof --standby --no-lock --help" ;;
+    serve) options="--connections --loops --resp --lines --text --secret --forget --epochs --numbers --sessions --idle --buckets --socket --control --socket-mode --until-eof --standby --rewrite --no-lock --help" ;;
     stop) options="--within --help" ;;
     check) options="--of --keys --help" ;;
     rehearse) options="--buckets --format --help" ;;

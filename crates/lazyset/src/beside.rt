@@ -105,14 +105,33 @@ impl Replaced {
     where
         R: Files<File = File> + Eprint + AllocGlobal,
     {
-        let path = match rt.canonicalize(rt.alloc(), file) {
-            Ok(path) => path,
-            Err(error) => return Err(no_file(rt, file, error)),
-        };
-        let facts = facts_of(rt, path.as_str())?;
+        let (path, facts) = found(rt, file)?;
         let disk = open(rt, path.as_str(), Lock::Exclusive)?;
         Ok(Replaced { path, facts, disk })
     }
+
+    /// The same of a file whose lock this disk has. It has to stand at its path still.
+    pub fn of<R>(rt: &R, file: &str, disk: FileDisk) -> Result<Replaced, Fault>
+    where
+        R: Files<File = File> + Eprint + AllocGlobal,
+    {
+        let (path, facts) = found(rt, file)?;
+        take_lock(rt, path.as_str(), &disk, Lock::Exclusive)?;
+        Ok(Replaced { path, facts, disk })
+    }
+}
+
+// The path of the file itself, and what the system says of it.
+fn found<R>(rt: &R, file: &str) -> Result<(PathBuf, Metadata), Fault>
+where
+    R: Files<File = File> + Eprint + AllocGlobal,
+{
+    let path = match rt.canonicalize(rt.alloc(), file) {
+        Ok(path) => path,
+        Err(error) => return Err(no_file(rt, file, error)),
+    };
+    let facts = facts_of(rt, path.as_str())?;
+    Ok((path, facts))
 }
 
 // What the system says of the file, where it is a regular one.

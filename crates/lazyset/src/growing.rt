@@ -11,7 +11,7 @@ use crate::formats::{format_for, kept_format};
 use crate::over_disk::grow_over;
 use lazyset_arguments::New;
 use lazyset_set_commands::{Status, format_number};
-use lz_disk::Disk;
+use lz_disk::{Disk, FileDisk};
 use lz_slot::Format;
 use std::fs::File;
 use std::io::Write;
@@ -32,13 +32,40 @@ where
     W: Write + Drop,
     requires { IfSome format (λ f. last_room_of f ≡ last_room) }
 {
-    let Replaced { path, facts, disk } = Replaced::open(rt, file)?;
-    let path = path.as_str();
-    let mut old = disk;
+    let mut replaced = Replaced::open(rt, file)?;
     let format = match format {
         Some(format) => format,
-        None => roomy_format(rt, file, &mut old, slots),
+        None => roomy_format(rt, file, &mut replaced.disk, slots),
     };
+    Ok(put_anew(rt, writer, file, replaced, slots, format)?.status)
+}
+
+/// How a file was put in the place of another one.
+#[derive(Drop)]
+pub struct Put {
+    pub status: Status,
+    /// Both with their locks. The new one is nobody's where it wasn't put.
+    pub old: FileDisk,
+    pub new: FileDisk,
+}
+
+/// Moves the keys of this file into a new one of this format beside it, which is locked and then takes its name, and says so as `grow_on`
+/// does.
+pub fn put_anew<R, W>(
+    rt: &R,
+    writer: &mut W,
+    file: &str,
+    replaced: Replaced,
+    slots: u64,
+    format: Format,
+) -> Result<Put, Fault>
+where
+    R: Files<File = File> + Eprint + Clock + AllocGlobal,
+    W: Write + Drop,
+    requires { last_room_of format ≡ last_room }
+{
+    let Replaced { path, facts, disk } = replaced;
+    let path = path.as_str();
     let beside = format!(in rt.alloc(); "{path}.grow")?;
     let mut new = create_beside(rt, beside.as_str(), &facts)?;
     new.gather(rt.alloc());
@@ -48,15 +75,15 @@ where
         slots,
         format,
     };
-    let (status, old, new) = grow_over(rt, writer, file, old, made, new, &mut name);
+    let (status, old, new) = grow_over(rt, writer, file, disk, made, new, &mut name);
     say_cause(rt, file, old.cause());
     say_cause(rt, beside.as_str(), new.cause());
     name.end();
-    Ok(status)
+    Ok(Put { status, old, new })
 }
 
-// The format of a file, where it has all rooms and so many slots; else one that has, of which it is said that it is another.
-fn roomy_format<R: Eprint, D: Disk>(rt: &R, path: &str, disk: &mut D, slots: u64) -> Format
+/// The format of a file, where it has all rooms and so many slots; else one that has, of which it is said that it is another.
+pub fn roomy_format<R: Eprint, D: Disk>(rt: &R, path: &str, disk: &mut D, slots: u64) -> Format
     ensures rooms { last_room_of result ≡ last_room }
     ensures nothing { IsTrue (D.device disk.old).honest → WritesNothing (D.device disk.old) (D.device disk.new) }
 {

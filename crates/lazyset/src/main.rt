@@ -35,6 +35,7 @@ mod new_files;
 mod over_disk;
 mod rate;
 mod ready;
+mod rewriting;
 mod secrets;
 mod seldom;
 mod service;

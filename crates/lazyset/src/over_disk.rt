@@ -1,24 +1,26 @@
 //! What the program does to a disk that it has opened, whichever disk that is: so of an honest one it is promised what a crash leaves.
 //! Its own (`FileDisk`) is honest where the file beneath it is.
-ghost use Rattle.std.specs.Prelude.{◌≡◌, ◌⊎◌, ◌≤◌, ℕ, List, [], IsTrue};
+ghost use Rattle.std.specs.Prelude.{◌≡◌, ◌⊎◌, ◌+◌, ◌≤◌, ℕ, List, [], true, IfOk, IsTrue, OnOk};
 ghost use Rattle.lz_slot.specs.Bytes.{Holds, format_of};
 ghost use Rattle.lz_slot.specs.Limits.{last_room, most_buckets};
 ghost use Rattle.lz_slot.specs.Rooms.{last_room_of};
 ghost use Rattle.lz_slot.specs.Sets.{Keys, members};
-ghost use Rattle.lz_disk.specs.Images.{IsImage};
+ghost use Rattle.lz_disk.specs.Images.{IsImage, synced};
 ghost use Rattle.lz_disk.specs.Devices.{LeavesOnly};
-ghost use Rattle.lz_vault.specs.Makes.{IsUnmadeOrHolds};
+ghost use Rattle.lz_vault.specs.Makes.{IsUnmadeOrHolds, WritesNothing};
 ghost use Rattle.lz_vault.specs.Opens.{MayOpen};
 ghost use Rattle.lazyset_file_commands.specs.Copies.{LeavesCopy};
 ghost use Rattle.lazyset_file_commands.specs.Growths.{IsLeftOrHolds, MayBeLeft};
 ghost use Rattle.lazyset_file_commands.specs.Listings.{LeavesListed};
 ghost use Rattle.lazyset_file_commands.specs.Lists.{HasPlaceFor, named_by};
 ghost use Rattle.lazyset_file_commands.specs.Refusals.{FailedOpen};
+ghost use Rattle.lazyset_file_commands.specs.Rewritings.{IsWholeFour, calls_of_rewriting};
 ghost use Rattle.lazyset_set_commands.specs.PlainReplies.{PassMayAnswer};
 ghost use Rattle.lazyset_set_commands.specs.Runs.{SessionOfSet};
 
 use crate::files::{bytes_of, shown};
 use lazyset_arguments::New;
+use lazyset_file_commands::{RewriteFault, rewrite};
 use lazyset_set_commands::{
     Heed, Lines, Shelf, Standing, Status, copy_on, grow_on, make_keys_on, make_on, renew_on, run_on,
 };
@@ -114,6 +116,27 @@ where
     let (slots, format) = (made.slots, made.format);
     let status = renew_on(rt.alloc(), writer, &mut old, &mut new, format, slots);
     (status, old.end(), new.end())
+}
+
+/// Writes the file on the disk of this path anew in its own place, and hands the disk back.
+pub fn rewrite_over<R, D>(rt: &R, path: &str, disk: D) -> (Result<u64, RewriteFault>, D)
+where
+    R: Files<File = File> + Eprint + Clock,
+    D: Disk,
+    ensures same { IsTrue (D.device disk).honest → OnOk result.0 ((D.device result.1).medium ≡ synced (D.device disk).medium) }
+    ensures any_moment { IsTrue (D.device disk).honest → (D.device disk).medium.bytewise ≡ true → LeavesOnly (D.device disk) (D.device result.1) (IsImage (D.device disk).medium) }
+    ensures safe { IsTrue (D.device disk).honest → ((n : ℕ) → ¬ IsWholeFour (D.device disk).medium.seen n) → WritesNothing (D.device disk) (D.device result.1) }
+    ensures calls { IfOk result.0 (λ n. (D.device result.1).calls ≡ (D.device disk).calls + calls_of_rewriting n) }
+{
+    let mut disk = shown(rt, path, disk, bytes_rewritten(rt, path));
+    let answer = rewrite(&mut disk);
+    (answer, disk.end())
+}
+
+// All bytes of the file are read, and written.
+fn bytes_rewritten<R: Files<File = File>>(rt: &R, path: &str) -> Option<u64> {
+    let length = rt.metadata(path).ok()?.len();
+    Some(length.saturating_mul(2))
 }
 
 /// Grows the file on the disk of this path into another one on its disk, which takes the name that the shelf has, and hands both disks back.

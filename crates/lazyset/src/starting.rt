@@ -8,6 +8,8 @@ use crate::descriptors::connections_allowed;
 use crate::fault::Fault;
 use crate::files::{open_alone, ready_for};
 use crate::forgetting::forgetting_of;
+use crate::lines::Lines;
+use crate::rewriting::{Held, write_anew};
 use crate::secrets::secret_of;
 use crate::service::{At, serve};
 use crate::standby::{stand_by, take_away_control};
@@ -48,10 +50,12 @@ where
         service.control
     };
     let service = Service { control, ..service };
-    let (mut disk, bound) = match taken(rt, service) {
+    let (held, bound) = match taken(rt, writer, service) {
         Ok(taken) => taken,
         Err(ended) => return ended,
     };
+    let Held { disk, old: _old } = held;
+    let mut disk = disk;
     match options_for(rt, writer, &mut disk, service, secret) {
         Ok(options) => {
             let service = Service { options, ..service };
@@ -75,22 +79,46 @@ fn see_sessions<R: AllocGlobal>(rt: &R, service: Service<'_>) -> Result<(), Faul
     Ok(())
 }
 
-// The disk of the file, which this process has to itself, and the socket on which the service is asked to stop, where it has waited for the
-// file; or how the service ends without.
-fn taken<R>(
+// The file, and the socket on which the service is asked to stop, where it has waited for the file; or how the service ends without.
+fn taken<R, W>(
     rt: &R,
+    writer: &mut W,
     service: Service<'_>,
-) -> Result<(FileDisk, Option<Control>), Result<Status, Fault>>
+) -> Result<(Held, Option<Control>), Result<Status, Fault>>
 where
     R: Env + Files<File = File> + Net + Eprint + Wait + Clock + AllocGlobal,
+    W: Write + Drop,
 {
     if service.stands_by {
-        return stand_by(rt, service);
+        let (disk, control) = stand_by(rt, service)?;
+        let held = anew(rt, writer, disk, service);
+        if held.is_err() {
+            take_away_control(rt, service);
+        }
+        return Ok((held?, control));
     }
     match open_alone(rt, service.file, service.no_lock) {
-        Ok(disk) => Ok((disk, None)),
+        Ok(disk) => Ok((Held { disk, old: None }, None)),
         Err(fault) => Err(Err(fault)),
     }
+}
+
+// The file for which a service has waited, written anew where that is wanted.
+fn anew<R, W>(
+    rt: &R,
+    writer: &mut W,
+    disk: FileDisk,
+    service: Service<'_>,
+) -> Result<Held, Result<Status, Fault>>
+where
+    R: Env + Files<File = File> + Eprint + Clock + AllocGlobal,
+    W: Write + Drop,
+{
+    if !service.rewrites {
+        return Ok(Held { disk, old: None });
+    }
+    let lines = Lines::of(rt, service.options.loops.is_some());
+    write_anew(rt, writer, service.file, disk, lines)
 }
 
 // How the set on this disk is served, with what its command line doesn't name; or how the service ends without.

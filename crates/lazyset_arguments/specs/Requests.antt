@@ -71,7 +71,7 @@ IsWithin (Serve service) =
     let options = service.options in
     ArePasses options.passes options.loops × ((1 ≤ options.buckets) × (options.buckets ≤ most_buckets)) × IfSome options.loops (AreWithin options.passes)
     × IfSome service.mode (λ m. m ≤ last_mode) × IfSome service.forgets (λ period. IsPeriod period × SpeakTexts options.loops)
-    × (service.stands_by ≡ true → is_some service.control ≡ true)
+    × (service.stands_by ≡ true → is_some service.control ≡ true) × (service.rewrites ≡ true → service.stands_by ≡ true)
 IsWithin (Rehearse slots buckets format) =
     ((1 ≤ slots) × (slots ≤ most_rehearsed)) × (1 ≤ buckets) × (buckets ≤ most_buckets_of format)
 IsWithin request = Unit {0}

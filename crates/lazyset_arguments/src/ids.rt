@@ -41,3 +41,6 @@ pub const EPOCHS_ID: &str = "epochs";
 
 /// The option by which it waits for a file that another process has.
 pub const STANDBY_ID: &str = "standby";
+
+/// The option by which a file for which it has waited is written anew.
+pub const REWRITE_ID: &str = "rewrite";

@@ -7,7 +7,7 @@ ghost use Rattle.lazyset_arguments.specs.Requests.{ArePasses, AreWithin, IsToldP
 
 use crate::ids::{
     ADOPT, CONNECTIONS_ID, CONTROL_ID, FORGET_ID, LINES_ID, NUMBERS_ID, PASSES_ID, RESP_ID,
-    SECRET_ID, SOCKET_ID, SOCKET_MODE_ID, STANDBY_ID, TEXT_ID,
+    REWRITE_ID, SECRET_ID, SOCKET_ID, SOCKET_MODE_ID, STANDBY_ID, TEXT_ID,
 };
 use crate::period::{Period, named_period};
 use crate::request::Request;
@@ -66,6 +66,8 @@ pub struct Service<'a> {
     pub until_eof: bool,
     /// It waits where another process has the file. Its control socket is named then.
     pub stands_by: bool,
+    /// It writes the file anew before it opens it. It has waited for the file then.
+    pub rewrites: bool,
     /// It goes on where the file can't be locked.
     pub no_lock: bool,
     /// Its keys are taken for numbers, whatever the file says.
@@ -109,7 +111,8 @@ pub(crate) fn serve<'a>(words: &ArgMatches<'a>) -> Option<Request<'a>>
     }
     let control = text(words, CONTROL_ID);
     let stands_by = words.get_flag(STANDBY_ID);
-    if stands_by && control.is_none() {
+    let rewrites = words.get_flag(REWRITE_ID);
+    if stands_by && control.is_none() || rewrites && !stands_by {
         return None;
     }
     Some(Request::Serve(Service {
@@ -121,6 +124,7 @@ pub(crate) fn serve<'a>(words: &ArgMatches<'a>) -> Option<Request<'a>>
         mode,
         until_eof: words.get_flag("until-eof"),
         stands_by,
+        rewrites,
         no_lock: words.get_flag("no-lock"),
         as_numbers: words.get_flag(NUMBERS_ID),
         adopts: words.get_str(TEXT_ID) == Some(ADOPT),

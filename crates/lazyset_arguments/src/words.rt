@@ -1,7 +1,7 @@
 //! The words of the commands, as a table.
 use crate::ids::{
     ADOPT, CONNECTIONS_ID, CONTROL_ID, EPOCHS_ID, FORGET_ID, LINES_ID, NUMBERS_ID, PASSES_ID,
-    RESP_ID, SECRET_ID, SOCKET_ID, SOCKET_MODE_ID, STANDBY_ID, TEXT_ID,
+    RESP_ID, REWRITE_ID, SECRET_ID, SOCKET_ID, SOCKET_MODE_ID, STANDBY_ID, TEXT_ID,
 };
 use crate::period::{FEWEST_EPOCHS, MOST_EPOCHS, MOST_SECONDS};
 use crate::word::{Beside, Form, Word};
@@ -326,6 +326,15 @@ pub(crate) const STANDBY: Word = Word {
     default: None,
     beside: Beside::Needs(CONTROL_ID),
     help: "Waits where another process has the file, in place of `nofile`: once that has ended it opens the file and serves it. What stops a service ends the wait",
+};
+
+pub(crate) const REWRITE: Word = Word {
+    id: REWRITE_ID,
+    value_name: None,
+    form: Form::Flag,
+    default: None,
+    beside: Beside::Needs(STANDBY_ID),
+    help: "Writes the file anew before it opens it, so that the copies of a replicated volume agree. In format 4 it does so in place, and else by a new file that takes its name",
 };
 
 pub(crate) const NO_LOCK: Word = Word {

@@ -4,6 +4,9 @@ pub mod TwoNumbers
 pub mod LineTexts
 pub mod Grown
 pub mod GrowthRows
+pub mod Rewritten
+pub mod WholeFours
+pub mod RewriteRows
 pub mod RehearsalEnds
 pub mod Verdicts
 pub mod CompareRows

@@ -9,6 +9,7 @@ pub mod Judgements
 pub mod Rehearsals
 pub mod Renewals
 pub mod Growths
+pub mod Rewritings
 pub mod Marks
 pub mod Lists
 pub mod ListParts
