@@ -165,6 +165,8 @@ def try_halt(program: Program, folder: str) -> None:
     program.make(file, 2 * count)
     before = slow(file, 1.0, "error=EIO", "when=2")
     with Service(program, file, 1, *at_once(count + 1), before=before) as service, Crowd(service.port, count + 1) as crowd:
+        # One that waits in the queue of the system is told nothing.
+        expect(crowd.exchange([b"has 1\n"] * len(crowd)), [b"no\n"] * len(crowd), "the first replies")
         crowd.connections[0].sendall(b"add 0\n")
         time.sleep(0.2)
         crowd.send([b"", *(f"dig\nadd {key}\nhas 1\n".encode() for key in range(1, count)), b"add 1"])
