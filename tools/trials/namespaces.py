@@ -5,8 +5,7 @@ from __future__ import annotations
 import contextlib
 import os
 import subprocess
-import time
-from typing import Callable, Iterator, List, Sequence
+from typing import Iterator, List, Sequence
 
 from trials.beside_redis import needs_package
 from trials.program import PATIENCE
@@ -122,11 +121,3 @@ def machines(folder: str, names: Sequence[str]) -> Iterator[List[Machine]]:
             connected.append(started(name, number))
             connected[-1].connect(switch, f"to-{name}")
         yield connected
-
-
-def until(holds: Callable[[], bool], what: str, seconds: float = PATIENCE) -> None:
-    ends = time.monotonic() + seconds
-    while not holds():
-        if time.monotonic() > ends:
-            raise Wrong(f"{what}: not within {seconds} s")
-        time.sleep(0.05)

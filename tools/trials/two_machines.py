@@ -19,11 +19,11 @@ import time
 from typing import Dict, Iterator, List, NamedTuple, Sequence
 
 from trials.beside_redis import needs_package
-from trials.namespaces import Machine, machines, needs_namespaces, until
+from trials.namespaces import Machine, machines, needs_namespaces
 from trials.program import PATIENCE, Ended, Program
 from trials.proxies import PAGE
 from trials.report import Skip, Wrong, expect
-from trials.standby import WAITING
+from trials.standby import WAITING, until
 from trials.stops import lines_of
 
 HOLDERS, SERVERS = ("one", "two", "three"), ("a", "b")
@@ -152,7 +152,7 @@ class Volume:
         for holder in holders:
             os.mkdir(os.path.join(holder.folder, "brick"))
             holder.run("glusterd")
-        until(lambda: all(holder.tries("gluster", "pool", "list") for holder in holders), "the volume's services")
+        until(lambda: all(holder.tries("gluster", "pool", "list") for holder in holders), "the volume's services", PATIENCE)
         names = "|".join(rf"(?<![\w./-]){re.escape(name)}(?![\w./-])" for name in changes)
         for command in commands_of_page():
             words = re.sub(names, lambda found: changes[found[0]], command)
@@ -236,7 +236,7 @@ class Pair:
     def stand_by(self) -> Service:
         """The other machine's service, which waits for the file. It is started until it does, as by systemd: a volume that was cut off may be ill yet."""
         machine = next(it for it in self.servers if it is not self.serving.machine)
-        until(lambda: machine.tries("stat", file_of(machine)), "the file on a machine that is back")
+        until(lambda: machine.tries("stat", file_of(machine)), "the file on a machine that is back", PATIENCE)
         services = [self._start(machine)]
 
         def waits() -> bool:
@@ -244,12 +244,12 @@ class Pair:
                 services.append(self._start(machine))
             return services[-1].waits()
 
-        until(waits, "a service that stands by")
+        until(waits, "a service that stands by", PATIENCE)
         return services[-1]
 
     def renew(self) -> None:
         """The other one takes over once this one is stopped. It opens each copy, which one doesn't that was started while a machine was away."""
-        until(self.volume.is_healed, "copies that are the same")
+        until(self.volume.is_healed, "copies that are the same", PATIENCE)
         old, new = self.serving, self.stand_by()
         expect(self.program.run("stop", old.control), Ended("", 0), "a stop")
         new.await_serving()
