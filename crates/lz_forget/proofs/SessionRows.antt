@@ -4,7 +4,7 @@ use Rattle.lz_slot.specs.Rooms.{rank}
 use Rattle.lz_proto.specs.declared.reply.Reply.TheVariants.{Yes, No, Full}
 use Rattle.lz_proto.specs.declared.request.Request.TheVariants.{Add as Adding, Has as Finding}
 use Rattle.lz_resp.specs.declared.{form.Form.TheVariants.{Added, Found, Stored}, naming.Naming.TheVariants.{Rooms}}
-use Rattle.lz_forget.specs.{Answers.{answer_on, filled, found_in, groups, joined, text_for, texts_for}, Askings.{all_rooms_of, ask_of, is_ask, lookups_text, requests_text}, Lives.{room_at}, Sessions.{Dialogue, Work.{holds}, begun, gathered, holding, open_of, refusing, time_in}, Wants.{extra_in}}
+use Rattle.lz_forget.specs.{Answers.{answer_on, filled, found_in, groups, joined, text_for, texts_for}, Askings.{all_rooms_of, ask_of, is_ask, request_of}, Lives.{room_at}, Sessions.{Dialogue, Work.{holds, rests}, asking, asking_sought, begun, gathered, holding, open_of, refusing, time_in}, Wants.{extra_in}}
 use Rattle.lz_forget.specs.declared.{asking.Ask.TheVariants.{Has, Add}, commands.Extra.TheVariants.{Claim, Left, Nothing, OtherTime}, live.Live.{Live}, session.Next.TheVariants.{Begins, GoesOn}, wanted.Wanted.TheVariants.{Asks}}
 
 abbrev two : Live
@@ -14,16 +14,14 @@ two = record { newest = 1; count = 2; takes = true }
 before : room_at (record { newest = 0; count = 2; takes = true }) 1 ≡ 13
 before = refl
 
--- a claim is sought in the older room first, and asked for where it can't be seen
+-- a claim is sought in the older room first, and asked for there where it can't be seen
 glance : all_rooms_of two 1 1 (7 ∷ []) ≡ 7 ∷ []
 glance = refl
 
-looks_up : lookups_text (rank 1 7 ∷ []) ≡ codes "*3\r\n$9\r\nSISMEMBER\r\n$1\r\n1\r\n$1\r\n7\r\n"
-unfolding digits
+looks_up : (asking_sought (record (begun 60 Rooms) { seeks = rank 1 7 ∷ [] })).requests ≡ Finding (rank 1 7) ∷ []
 looks_up = refl
 
-adds : requests_text Add two 0 1 (7 ∷ []) ≡ codes "*3\r\n$4\r\nSADD\r\n$1\r\n1\r\n$1\r\n7\r\n"
-unfolding digits
+adds : (asking Add two 0 1 (7 ∷ []) rests (begun 60 Rooms)).requests ≡ Adding (rank 1 7) ∷ []
 adds = refl
 
 -- of two keys, each in two rooms, the first was found
@@ -97,6 +95,10 @@ refused : (refusing claimed_first).says ≡ codes "-ERR stopping; nothing was do
 refused = refl
 
 -- What must not hold.
+
+-- a claim isn't asked as a lookup
+looked_up : request_of Add 7 ≢ Finding 7
+looked_up e = cc
 
 -- a lookup isn't carried out with claims
 mixed : is_ask (ask_of Found) (ask_of Stored) ≢ true

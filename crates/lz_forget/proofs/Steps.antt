@@ -2,8 +2,8 @@
 use Rattle.std.proofs.Common.{◌≡◌, ℕ, zero, suc, ◌+◌, ◌-◌, ◌<◌, List, [], ◌∷◌, ◌++◌, take, drop, false, arith, append_assoc, refl}
 use Rattle.std.specs.List.{list_any}
 use Rattle.lz_slot.specs.Rooms.{number_of, rank}
-use Rattle.lz_forget.specs.{Answers.{Answer, found_in, groups, is_none, replies_in, text_for}, Askings.{key_texts, request_text, rooms_of}, Lives.{room_at}, Sessions.{answers_of}}
-use Rattle.lz_forget.specs.declared.{asking.Ask.{Ask}, live.Live.{Live}}
+use Rattle.lz_forget.specs.{Answers.{Answer, found_in, groups, is_none, replies_in, text_for}, Askings.{rooms_of}, Lives.{room_at}, Sessions.{answers_of}}
+use Rattle.lz_forget.specs.declared.live.Live.{Live}
 use Rattle.lz_resp.specs.{Replies.{text_of}, declared.form.Form.{Form}}
 
 less : (n : ℕ) → suc n - 1 ≡ n
@@ -16,11 +16,6 @@ pub more_keys : (left each : ℕ) (found rest : List Answer) → 0 < left
     → (found ++ found_in (take each rest) ∷ []) ++ groups (left - 1) each (drop each rest) ≡ found ++ groups left each rest
 more_keys zero each found rest low = absurd (omega (arith, low))
 more_keys (suc n) each found rest low = rw (less n) (append_assoc found (found_in (take each rest) ∷ []) (groups n each (drop each rest)))
-
-pub more_ages : (ask : Ask) (live : Live) (age left key : ℕ) (text : List ℕ) → 0 < left
-    → (text ++ request_text ask (room_at live age) (number_of key)) ++ key_texts ask live (age + 1) (left - 1) key ≡ text ++ key_texts ask live age left key
-more_ages ask live age zero key text low = absurd (omega (arith, low))
-more_ages ask live age (suc n) key text low = rw (less n, next age) (append_assoc text (request_text ask (room_at live age) (number_of key)) (key_texts ask live (suc age) n key))
 
 pub more_rooms : (live : Live) (age left key : ℕ) (all : List ℕ) → 0 < left
     → (all ++ rank (room_at live age) (number_of key) ∷ []) ++ rooms_of live (age + 1) (left - 1) key ≡ all ++ rooms_of live age left key

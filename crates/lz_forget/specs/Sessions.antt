@@ -2,13 +2,13 @@
 use Rattle.lz_forget.specs.declared.wanted.Wanted.TheVariants as wanted
 use Rattle.lz_forget.specs.declared.session.Next.TheVariants as next
 use Rattle.lz_forget.specs.declared.session.Stage.TheVariants as stage
-use Rattle.std.specs.Prelude.{◌≡◌, ◌&&◌, ℕ, suc, ◌+◌, ◌-◌, ◌*◌, ◌/◌, ◌==◌, ◌||◌, not, nat_le, nat_lt, if◌then◌else◌, Bool, true, false, List, [], ◌∷◌, ◌++◌, codes, decimal, drop, take, length, replicate}
+use Rattle.std.specs.Prelude.{◌≡◌, ◌&&◌, ℕ, suc, ◌+◌, ◌-◌, ◌*◌, ◌/◌, ◌==◌, ◌||◌, not, nat_le, nat_lt, if◌then◌else◌, Bool, true, false, List, [], ◌∷◌, ◌++◌, codes, decimal, drop, take, length, map, replicate}
 use Rattle.std.specs.{Prelude.{Option, None, Some, Ok, Err, nat_eq}, List.{starts_with}}
 use Rattle.lz_proto.specs.declared.{request.Request.{Request, TheVariants.{Add as Adding, Remove as Removing, Has as Finding, Quit}}, reply.Reply.{TheVariants.{Yes, No, Full}}}
 use Rattle.lz_slot.specs.Numerals.{number_in}
 use Rattle.lz_resp.specs.{Frames.{line_end}, Keys.{at_first}, Reading.{Front, and_then, line_at}, Pages.{page_at}, declared.{form.Form.{Form, TheVariants.{Found}}, naming.Naming.{Naming}}}
 use Rattle.lz_resp.specs.declared.fault.Fault.TheVariants.{Count, Length}
-use Rattle.lz_forget.specs.{Lives.{IsLive}, Answers.{Answer, answer_on, filled, found_in, groups, joined, text_for, texts_for}, Askings.{all_rooms_of, ask_of, is_ask, lookups_text, requests_text}, Commands.{Reader, taken}}
+use Rattle.lz_forget.specs.{Lives.{IsLive}, Answers.{Answer, answer_on, filled, found_in, groups, joined, text_for, texts_for}, Askings.{all_rooms_of, ask_of, is_ask, request_of}, Commands.{Reader, taken}}
 use Rattle.lz_forget.specs.declared.{asking.Ask.{Ask, TheVariants.{Has, Add, Remove}}, live.Live.{Live}, session.{Next.{Next}, Stage.{Stage}}, wanted.{Wanted.{Wanted}, Reading.{Reading, TheVariants.{Line, Bulk, Page}}}}
 
 -- What is under way: nothing, before a frame or after the last; commands of one kind that haven't begun, each with the form of its replies and how
@@ -28,8 +28,8 @@ pub data Work : Type 0 where
   removes : List (Form × ℕ) → List ℕ → Live → ℕ → List Answer → Work
 
 -- What of the client's text wasn't taken; what is under way; the client's next command, where it can't be carried out with those that are held; what
--- was answered of what was asked together, and how many requests that were; the keys that are sought; what the service is to be sent; what it has told that
--- wasn't taken; and what the client is to be sent.
+-- was answered of what was asked together, and how many requests that were; the keys that are sought; what the service is asked without a text; what
+-- it is to be sent; what it has told that wasn't taken; and what the client is to be sent.
 pub record Dialogue : Type 0 where
   pub reader : Reader
   pub work : Work
@@ -37,6 +37,7 @@ pub record Dialogue : Type 0 where
   pub answers : List Answer
   pub awaits : ℕ
   pub seeks : List ℕ
+  pub requests : List Request
   pub asks : List ℕ
   pub heard : List ℕ
   pub says : List ℕ
@@ -51,6 +52,7 @@ begun seconds naming =
       answers = [];
       awaits = 0;
       seeks = [];
+      requests = [];
       asks = [];
       heard = [];
       says = [];
@@ -143,10 +145,10 @@ answers_of answer n = replicate n answer
 abbrev pub telling : List (Form × ℕ) → List Answer → Dialogue → Dialogue
 telling told answers s = record s { work = rests; seeks = []; says = s.says ++ texts_for told answers }
 
--- of these keys it was asked so in so many rooms, from that of the epoch of this age on
+-- of these keys it was asked so in so many rooms, from that of the epoch of this age on, and none is sought
 abbrev pub asking : Ask → Live → ℕ → ℕ → List ℕ → Work → Dialogue → Dialogue
 asking ask live from n keys work s =
-    record s { work = work; answers = []; awaits = length keys * n; asks = s.asks ++ requests_text ask live from n keys }
+    record s { work = work; answers = []; awaits = length keys * n; seeks = []; requests = s.requests ++ map (request_of ask) (all_rooms_of live from n keys) }
 
 -- these keys are sought in so many rooms, from that of the epoch of this age on
 abbrev pub seeking : Live → ℕ → ℕ → List ℕ → Work → Dialogue → Dialogue
@@ -247,9 +249,12 @@ seeing_by (first ∷ keys) key member s = if first == key then noting (seen_as m
 abbrev pub seeing : ℕ → Bool → Dialogue → Dialogue
 seeing key member s = seeing_by s.seeks key member s
 
--- the service is asked for those that are still sought
+-- the service is asked so of the keys that are still sought
+abbrev pub asking_all : Ask → Dialogue → Dialogue
+asking_all ask s = record s { seeks = []; requests = s.requests ++ map (request_of ask) s.seeks }
+
 abbrev pub asking_sought : Dialogue → Dialogue
-asking_sought s = record s { asks = s.asks ++ lookups_text s.seeks; seeks = [] }
+asking_sought s = asking_all Has s
 
 -- the work as the program has it
 abbrev pub work_of : Stage → Work

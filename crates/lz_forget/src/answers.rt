@@ -169,6 +169,9 @@ pub(crate) fn push_text(
 ) -> Result<(), AllocError>
     ensures { OnOk result (text.new.items ≡ text.old.items ++ text_for form answers.now) }
 {
+    if let [Some(reply)] = answers {
+        return push_reply(text, form, &[*reply]);
+    }
     match replies_in(alloc, answers)? {
         Some(replies) => push_reply(text, form, replies.as_slice()),
         None => push_stopping(text, form, answers),

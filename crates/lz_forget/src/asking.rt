@@ -1,11 +1,11 @@
 //! What a session seeks and asks of the service: which keys, each in each room.
-ghost use Rattle.std.specs.Prelude.{◌≡◌, ◌++◌, ◌-◌, ◌≤◌, OnOk};
-ghost use Rattle.lz_forget.specs.Askings.{all_rooms_of, ask_of, is_ask, key_texts, lookup_text, request_text, requests_text, rooms_of, words};
+ghost use Rattle.std.specs.Prelude.{◌≡◌, ◌≢◌, ◌++◌, ◌-◌, ◌≤◌, [], All, OnOk, map};
+ghost use Rattle.lz_forget.specs.Askings.{all_rooms_of, ask_of, is_ask, request_of, rooms_of};
 ghost use Rattle.lz_forget.specs.Lives.{IsLive};
-ghost use Rattle.lz_slot.specs.Rooms.{number_of};
 
 use crate::live::Live;
-use lz_resp::{Form, push_decimal};
+use lz_proto::Request;
+use lz_resp::Form;
 use lz_slot::Key;
 use std::alloc::AllocError;
 use std::collections::VecDeque;
@@ -40,14 +40,15 @@ impl Ask {
         )
     }
 
-    // What a frame begins with that asks so.
-    fn words(self) -> &'static str
-        ensures { result.now ≡ words self }
+    // What asks so of a key in its room.
+    fn request(self, key: Key) -> Request
+        ensures same { result ≡ request_of self key }
+        ensures asks { result ≢ Request.Quit }
     {
         match self {
-            Ask::Has => "*3\r\n$9\r\nSISMEMBER\r\n",
-            Ask::Add => "*3\r\n$4\r\nSADD\r\n",
-            Ask::Remove => "*3\r\n$4\r\nSREM\r\n",
+            Ask::Has => Request::Has(key),
+            Ask::Add => Request::Add(key),
+            Ask::Remove => Request::Remove(key),
         }
     }
 }
@@ -99,61 +100,18 @@ fn push_rooms_of(
     Ok(())
 }
 
-/// Asks of each key in each room whose epoch is of an age from this one on, up to that one.
+/// Takes each key off its queue, and asks so of it after other requests.
 pub(crate) fn push_requests(
-    text: &mut Vec<u8>,
+    requests: &mut VecDeque<Request>,
     ask: Ask,
-    live: Live,
-    from: u8,
-    to: u8,
-    keys: &[Key],
+    keys: &mut VecDeque<Key>,
 ) -> Result<(), AllocError>
-    requires live { IsLive live }
-    requires ages { (from ≤ to) × (to ≤ live.count) }
-    ensures { OnOk result (text.new.items ≡ text.old.items ++ requests_text ask live from (to - from) keys.now) }
+    ensures requests { OnOk result (requests.new.items ≡ requests.old.items ++ map (request_of ask) keys.old.items) }
+    ensures keys { OnOk result (keys.new.items ≡ []) }
+    ensures asks { All (λ request. request ≢ Request.Quit) requests.old.items → All (λ request. request ≢ Request.Quit) requests.new.items }
 {
-    for key in keys {
-        push_key(text, ask, live, from, to, *key)?;
+    'keys: while let Some(key) = keys.pop_front() {
+        requests.push_back(ask.request(key))?;
     }
     Ok(())
-}
-
-// The same of one key.
-#[tactic(auto, using(crate::proofs::Steps::more_ages))]
-fn push_key(
-    text: &mut Vec<u8>,
-    ask: Ask,
-    live: Live,
-    from: u8,
-    to: u8,
-    key: Key,
-) -> Result<(), AllocError>
-    requires live { IsLive live }
-    requires ages { (from ≤ to) × (to ≤ live.count) }
-    ensures { OnOk result (text.new.items ≡ text.old.items ++ key_texts ask live from (to - from) key) }
-{
-    let mut age = from;
-    let mut left = to - from;
-    'ages: while left > 0 {
-        push_request(text, ask, live.room(age), key)?;
-        age += 1;
-        left -= 1;
-    }
-    Ok(())
-}
-
-/// Asks whether a key is there, in its room.
-pub(crate) fn push_lookup(text: &mut Vec<u8>, key: Key) -> Result<(), AllocError>
-    ensures { OnOk result (text.new.items ≡ text.old.items ++ lookup_text key) }
-{
-    push_request(text, Ask::Has, key.room(), key)
-}
-
-// One frame.
-fn push_request(text: &mut Vec<u8>, ask: Ask, room: u8, key: Key) -> Result<(), AllocError>
-    ensures { OnOk result (text.new.items ≡ text.old.items ++ request_text ask room (number_of key)) }
-{
-    text.extend_from_slice(ask.words().as_bytes())?;
-    push_decimal(text, u64::from(room))?;
-    push_decimal(text, key.get())
 }

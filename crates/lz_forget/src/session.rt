@@ -15,6 +15,7 @@ use crate::commands::Commands;
 use crate::live::{Live, MOST_EPOCHS};
 use crate::reading::rest_after;
 use crate::wanted::{Reading, Wanted};
+use lz_proto::Request;
 use lz_resp::{Fault, Naming, Requests, Stop, read_line};
 use lz_slot::Key;
 use std::alloc::{AllocError, Global};
@@ -59,7 +60,8 @@ enum Stage {
 }
 
 /// A client's session with a set that forgets. What the client sends is fed to it, and `next` takes one command after the other. Whether the service has
-/// a key that it seeks is seen (`see`), or asked (`ask_sought`). What it asks of the service is sent there, and what that replies is heard.
+/// a key that it seeks is seen (`see`), or asked (`ask_sought`). The service is given its requests (`next_request`), in their order, each as one frame
+/// with this key alone. A command that is passed on is sent there as a text (`asks`). What the service replies to either is heard as a text.
 #[derive(Drop)]
 pub struct Session {
     alloc: Global,
@@ -72,6 +74,8 @@ pub struct Session {
     awaits: usize,
     // the keys of which it is to be seen whether the service has them
     seeks: VecDeque<Key>,
+    // what the service is asked without a text
+    requests: VecDeque<Request>,
     // what the service is to be sent
     asks: Vec<u8>,
     // what the service has told, and how much of it was taken
@@ -82,14 +86,15 @@ pub struct Session {
 }
 
 impl Model for Session {
-    ghost use Rattle.std.specs.Prelude.{◌≤◌, drop, length};
+    ghost use Rattle.std.specs.Prelude.{◌≢◌, ◌≤◌, All, drop, length};
+    ghost use Rattle.lz_proto.specs.declared.request.Request.TheVariants.{Quit};
     ghost use Rattle.lz_forget.specs.Sessions.{Dialogue, HasLive, work_of};
 
     ghost Value = { Dialogue };
 
-    ghost view = { λ s. record { reader = s.commands; work = work_of s.stage; held = s.held; answers = s.answers.items; awaits = s.awaits; seeks = s.seeks.items; asks = s.asks.items; heard = drop s.taken s.heard.items; says = s.says.items } };
+    ghost view = { λ s. record { reader = s.commands; work = work_of s.stage; held = s.held; answers = s.answers.items; awaits = s.awaits; seeks = s.seeks.items; requests = s.requests.items; asks = s.asks.items; heard = drop s.taken s.heard.items; says = s.says.items } };
 
-    ghost invariant = { λ s. HasLive (work_of s.stage) × (s.taken ≤ length s.heard.items) };
+    ghost invariant = { λ s. HasLive (work_of s.stage) × (s.taken ≤ length s.heard.items) × All (λ request. request ≢ Quit) s.requests.items };
 }
 
 impl Session {
@@ -106,6 +111,7 @@ impl Session {
             answers: Vec::new(alloc),
             awaits: 0,
             seeks: VecDeque::new(alloc),
+            requests: VecDeque::new(alloc),
             asks: Vec::new(alloc),
             heard: Vec::new(alloc),
             taken: 0,

@@ -46,6 +46,11 @@ module _ (P : List Grant → Type 0) (L : Listing → Type 0) (connection : ℕ)
         ap (λ (t : Talk). is_none t.reader) step.5 ∙ sym is.0,
       )
 
+  -- where a request came beside the text
+  pub asked_beside : (before after : Option Traffic) (request : Request) (new : Talk) → IfSome before (λ t. Some request ≡ None) → after ≡ before → IsTalkOf P L connection after new
+  asked_beside None after request new none same = subst (λ (s : Option Traffic). IsTalkOf P L connection s new) (sym same) tt
+  asked_beside (Some s) after request new none same = absurd (cc)
+
   -- where the text has ended
   pub finished : (before after : Option Traffic) (buffer : List ℕ) (old new : Talk) → Receives before after received.Over buffer → Finished old new → IsTalkOf P L connection before old → IsTalkOf P L connection after new
   finished None after buffer old new is step was = subst (λ (s : Option Traffic). IsTalkOf P L connection s new) (sym is) tt

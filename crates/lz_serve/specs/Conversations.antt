@@ -7,7 +7,7 @@ use Rattle.lz_board.specs.Seats.{part}
 use Rattle.lz_proto.specs.declared.{request.Request.{Request}, reply.Reply.{Reply}, end.End.{End, TheVariants.{Done, Quit}}}
 use Rattle.lz_resp.specs.{declared.{figures.Figures.{Figures}, query.Query.{Query}, scan.Scan.{Scan}}, Queries.{ends_service, query_text}}
 use Rattle.lz_serve.specs.{declared.{language.Language.{Language}, line.Line.{Line}, reader.Reader.{Reader}, turn.Turn.{Turn}}, Exchanges.{EndsWith}}
-use Rattle.lz_serve.specs.Exchanges.{Exchange, Pending, ReadsMore, adding, asks, says, lists, tells, ends, end_by, requests_in, turn_of, unread, worded}
+use Rattle.lz_serve.specs.Exchanges.{Exchange, Pending, ReadsMore, adding, asked_alone, asks, says, lists, tells, ends, end_by, requests_in, turn_of, unread, worded}
 use Rattle.lz_serve.specs.{Grants.{Grant, IsOfLine, key_asked}, Listings.{Listing, listing_end, listing_text}, Refusals.{TakenFrom, cut_turns, kept_waiting}}
 use Rattle.lz_serve.specs.Lines.{IsFree, StandsAt, asked_by, replied, replies_of}
 
@@ -122,6 +122,11 @@ abbrev pub Finished : Talk → Talk → Type 0
 Finished old new =
     (before : Reader) × (exchanges : List Exchange) × (old.reader ≡ Some before) × EndsWith before exchanges
     × (new ≡ record old { reader = None; turns = (adding exchanges (pending old)).turns; waiting = (adding exchanges (pending old)).waiting })
+
+-- a request has come by itself
+abbrev pub AskedAlone : Request → Talk → Talk → Type 0
+AskedAlone request old new =
+    new ≡ record old { turns = (adding (asked_alone request ∷ []) (pending old)).turns; waiting = (adding (asked_alone request ∷ []) (pending old)).waiting }
 
 -- its service stops: each exchange of which nothing was begun is refused, and its requests wait no more
 abbrev pub stopped : Talk → Talk

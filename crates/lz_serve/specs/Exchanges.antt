@@ -5,10 +5,10 @@ use Rattle.lz_serve.specs.declared.language.Language.TheVariants as language
 use Rattle.lz_serve.specs.declared.turn.Turn.TheVariants as turn
 use Rattle.lz_serve.specs.declared.reader.Reader.TheVariants as reader
 use Rattle.std.specs.{Prelude.{◌≡◌, ℕ, Bool, true, false, List, [], ◌∷◌, ◌++◌, codes, length, map, ◌==◌, Option, Some, None, if◌then◌else◌}, List.{flat_map, list_any}}
-use Rattle.lz_proto.specs.declared.{request.Request.{Request, TheVariants.{Quit}}, reply.Reply.{Reply}, item.Item.{Item as LineItem}, end.End.{End}}
+use Rattle.lz_proto.specs.declared.{request.Request.{Request, TheVariants.{Add, Remove, Has, Quit}}, reply.Reply.{Reply}, item.Item.{Item as LineItem}, end.End.{End}}
 use Rattle.lz_proto.specs.{declared.{end.End.TheVariants.{Done, Halted}, fault.Bad.{Bad}}, Lines.{Items as LineItems}}
 use Rattle.lz_proto.specs.{Pieces.{Ends, Feeds as FeedsLines, Reads as ReadsLines, faults_of}, Sessions.{bad_text, reply_text}}
-use Rattle.lz_resp.specs.{declared.{item.Item.{Item as FrameItem}, naming.Naming.{Naming}, query.Query.{Query}, scan.Scan.{Scan}}, Keys.{at_first}}
+use Rattle.lz_resp.specs.{declared.{form.Form.{Form, TheVariants.{Added, Removed, Found}}, item.Item.{Item as FrameItem}, naming.Naming.{Naming}, query.Query.{Query}, scan.Scan.{Scan}}, Keys.{at_first}}
 use Rattle.lz_resp.specs.{Pieces.{Feeds as FeedsFrames, Items as FrameItems, Reads as ReadsFrames, start}, Replies.{is_halted, text_of}}
 use Rattle.lz_serve.specs.declared.{language.Language.{Language}, turn.{Wording.{Wording, TheVariants.{Line, Frame}}, Turn.{Turn}}, reader.Reader.{Reader}}
 
@@ -33,6 +33,17 @@ of_frame (frame.Says text) = says text
 of_frame (frame.Lists scan) = lists scan
 of_frame (frame.Tells query) = tells query
 of_frame (frame.Ends text) = ends text
+
+-- the form of the reply to a request alone
+abbrev pub form_of : Request → Form
+form_of (Add key) = Added
+form_of (Remove key) = Removed
+form_of (Has key) = Found
+form_of Quit = Found
+
+-- what a request comes to that comes by itself
+abbrev pub asked_alone : Request → Exchange
+asked_alone request = asks (Frame (form_of request)) (request ∷ [])
 
 -- an exchange without its requests
 abbrev pub turn_of : Exchange → Turn

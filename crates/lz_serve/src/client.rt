@@ -11,6 +11,7 @@ ghost use Rattle.lz_serve.specs.Streams.{IsFresh};
 mod page;
 mod query;
 mod question;
+mod requests;
 mod sight;
 mod stop;
 
@@ -89,8 +90,18 @@ impl<S: Stream> Client<S> {
     }
 
     /// Reads a piece, if there is one, and says whether there may be more that nothing will tell of: no more, where it was less than the buffer
-    /// has room for, unless it is to be read until nothing comes (`drains`). The buffer has room for a piece.
+    /// has room for, unless it is to be read until nothing comes (`drains`). The buffer has room for a piece. What the connection asks by itself comes
+    /// after that.
     pub(crate) fn read(&mut self, buffer: &mut [u8], drains: bool) -> bool
+        ensures { KeepsLines self.old self.new }
+    {
+        let more = self.receive(buffer, drains);
+        self.take_requests();
+        more
+    }
+
+    // Reads a piece, and says the same.
+    fn receive(&mut self, buffer: &mut [u8], drains: bool) -> bool
         ensures { KeepsLines self.old self.new }
     {
         if self.lost || self.ended {

@@ -7,6 +7,7 @@ ghost use Rattle.lz_serve.specs.Conversations.{Fed, Finished, IsOver, IsReady, I
 ghost use Rattle.lz_serve.specs.Grants.{key_asked};
 ghost use Rattle.lz_serve.specs.Lines.{AreReplied, IsFree, StandsAt, awaited, replied};
 
+mod alone;
 mod page;
 mod stop;
 

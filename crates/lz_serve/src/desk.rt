@@ -187,9 +187,7 @@ impl<S: Stream, N: Named, B: Given> Desk<S, N, B> {
         ensures ends { self.old.ends ≡ true → (self.new.ends ≡ true) × All (AnswersOneOf self.old.calls) self.new.calls }
         ensures within { BeginsWithin self.old self.new }
     {
-        let tries = self.see_time(rt);
-        self.backward = self.waited && !self.backward;
-        self.waited = false;
+        let tries = self.turn_round(rt);
         let mut kept = set.keep();
         let mut done = 0;
         'calls: for _ in rt.forever() {
@@ -232,10 +230,13 @@ impl<S: Stream, N: Named, B: Given> Desk<S, N, B> {
         self.crowd.tend_back(observer, buffer);
     }
 
-    // Sees the time by which replies are timed, and says whether a moment has passed in which calls that wait for slots weren't made again.
-    fn see_time<R: Clock>(&mut self, rt: &R) -> bool
+    // Calls are played again, from the other end where one waited for slots: sees the time by which replies are timed, and says whether a moment has
+    // passed in which such calls weren't made again.
+    fn turn_round<R: Clock>(&mut self, rt: &R) -> bool
         ensures { self.new ≡ self.old }
     {
+        self.backward = self.waited && !self.backward;
+        self.waited = false;
         let now = rt.monotonic().ok();
         if let Some(now) = now {
             self.crowd.see_time(now);

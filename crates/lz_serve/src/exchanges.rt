@@ -1,12 +1,12 @@
 //! What has come of a client's text and wasn't told.
 ghost use Rattle.std.specs.Prelude.{◌≡◌, ◌≢◌, ◌++◌, ◌∷◌, [], All, IfSome, IsTrue, None, OnOk, drop, false, take, true, ◌↔◌};
-ghost use Rattle.lz_serve.specs.Exchanges.{adding, asks, of_frame, of_line};
+ghost use Rattle.lz_serve.specs.Exchanges.{adding, asked_alone, asks, form_of, of_frame, of_line};
 ghost use Rattle.lz_serve.specs.Refusals.{cut_turns, kept_waiting, taken_turn};
 
 use crate::refusing::{keep_begun, refuse_all, taken};
 use crate::turn::{Turn, Wording};
 use lz_proto::{Item as LineItem, Request, bad_text};
-use lz_resp::{Item as FrameItem, Text};
+use lz_resp::{Form, Item as FrameItem, Text};
 use std::alloc::{AllocError, Global};
 use std::collections::VecDeque;
 use std::marker::Model;
@@ -56,7 +56,7 @@ impl Exchanges {
     {
         match item {
             LineItem::Asks(Request::Quit) => self.put_turn(Turn::Ends(Text::of(self.alloc, b"")?)),
-            LineItem::Asks(request) => self.put_request(request),
+            LineItem::Asks(request) => self.put_request(Wording::Line, request),
             LineItem::Faulty(bad) => {
                 let text = Text::of(self.alloc, bad_text(bad).as_bytes())?;
                 self.put_turn(Turn::Says(text))
@@ -78,6 +78,15 @@ impl Exchanges {
             FrameItem::Tells(query) => self.put_turn(Turn::Tells(query)),
             FrameItem::Ends(text) => self.put_turn(Turn::Ends(text)),
         }
+    }
+
+    /// A request has come by itself.
+    pub(crate) fn put_alone(&mut self, request: Request) -> Result<(), AllocError>
+        requires { request ≢ Request.Quit }
+        ensures ok { OnOk result (self.new ≡ adding (asked_alone request ∷ []) self.old) }
+        ensures stops { self.new.stops ≡ self.old.stops }
+    {
+        self.put_request(Wording::Frame(form_of(&request)), request)
     }
 
     /// The first turn.
@@ -165,17 +174,17 @@ impl Exchanges {
         Ok(())
     }
 
-    // A line's request.
-    fn put_request(&mut self, request: Request) -> Result<(), AllocError>
+    // A request alone, and the turn of its reply.
+    fn put_request(&mut self, wording: Wording, request: Request) -> Result<(), AllocError>
         requires { request ≢ Request.Quit }
-        ensures ok { OnOk result (self.new ≡ adding (asks Wording.Line (request ∷ []) ∷ []) self.old) }
+        ensures ok { OnOk result (self.new ≡ adding (asks wording (request ∷ []) ∷ []) self.old) }
         ensures stops { self.new.stops ≡ self.old.stops }
     {
         if self.stops {
-            return self.put_turn(Turn::Asks(Wording::Line, 1));
+            return self.put_turn(Turn::Asks(wording, 1));
         }
         self.requests.reserve(1)?;
-        self.turns.push_back(Turn::Asks(Wording::Line, 1))?;
+        self.turns.push_back(Turn::Asks(wording, 1))?;
         self.requests.push_back_reserved(request);
         Ok(())
     }
@@ -194,5 +203,16 @@ impl Exchanges {
             self.requests.push_back(*request)?;
         }
         Ok(())
+    }
+}
+
+// The form of the reply to a request alone.
+fn form_of(request: &Request) -> Form
+    ensures { result ≡ form_of request.now }
+{
+    match request {
+        Request::Add(_) => Form::Added,
+        Request::Remove(_) => Form::Removed,
+        Request::Has(_) | Request::Quit => Form::Found,
     }
 }

@@ -73,19 +73,23 @@ impl Forgetting {
         Session::new(alloc, self.seconds.min(MOST_SECONDS), self.naming)
     }
 
-    /// The keeper of the epochs, for the first that asks.
+    /// The keeper of the epochs, for the first that asks; for the next one where there was no memory.
     pub(crate) fn keeper(&self, alloc: Global) -> Option<Result<Keeper<'_>, AllocError>> {
         if self.is_kept.swap(true, Ordering::SeqCst) {
             return None;
         }
-        Some(Keeper::new(
+        let made = Keeper::new(
             alloc,
             &self.turns,
             self.seconds,
             self.epochs,
             self.found.as_slice(),
             self.marks.as_slice(),
-        ))
+        );
+        if made.is_err() {
+            self.is_kept.store(false, Ordering::SeqCst);
+        }
+        Some(made)
     }
 
     /// Sees what time it is, and says in how long the keeper has something to do.

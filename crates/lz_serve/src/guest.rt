@@ -5,6 +5,7 @@ use crate::language::Language;
 use crate::observer::Observer;
 use crate::sight::Sight;
 use crate::stream::{Received, Stream, Taken};
+use lz_proto::Request;
 use lz_resp::Cleared;
 use lz_slot::Key;
 use std::io::{Read, Write};
@@ -76,6 +77,10 @@ impl<O: Observer> Stream for Guest<'_, O> {
             }
         }
         Received::Failed
+    }
+
+    fn next_request(&mut self) -> Option<Request> {
+        None
     }
 
     fn take(&mut self, text: &[u8]) -> Taken {

@@ -87,4 +87,8 @@ impl<P: Poller, L: Limit> Poller for Limited<P, L> {
         }
         Ok(given)
     }
+
+    fn is_full(&self) -> bool {
+        self.poller.is_full()
+    }
 }

@@ -1,4 +1,4 @@
-//! How many connections each of several loops has.
+//! How many clients each of several loops has connections with.
 use std::alloc::{AllocError, Global};
 use std::sync::atomic::{AtomicUsize, Ordering};
 
@@ -54,6 +54,18 @@ impl Loads {
             }
         }
         false
+    }
+
+    /// Whether the loops have so many together.
+    pub(crate) fn have(&self, connections: usize) -> bool {
+        let mut all: usize = 0;
+        for count in &self.counts {
+            let own = count.load(Ordering::SeqCst);
+            if own != usize::MAX {
+                all = all.saturating_add(own);
+            }
+        }
+        all >= connections
     }
 
     fn note(&self, index: usize, connections: usize) {

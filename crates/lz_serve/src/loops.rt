@@ -9,7 +9,7 @@ use crate::free_pass::FreePass;
 use crate::given::Given;
 use crate::listener::Listener;
 use crate::loads::Loads;
-use crate::observer::{Lack, Loops, Observer};
+use crate::observer::{Lack, Leased, Loops};
 use crate::server::{Bounds, Served, none_served};
 use crate::serving::{serve_in, serve_loop, take_in_all};
 use crate::socket::Socket;
@@ -43,7 +43,8 @@ where
     G: StepGate + Send + Sync,
     N: Named + Send + Sync,
     R: Net + Threads + Wait + Clock + AllocGlobal + Sync,
-    O: Observer + Sync,
+    O: Leased + Sync,
+    O::Tether: Send + Sync,
     requires may_call { All (MayCall N.board) passes.items }
     ensures { Serves N.board (parts_of passes.items) passes result }
 {
@@ -94,10 +95,10 @@ fn sockets_of<'a, R, O>(
     loads: &'a Loads,
     observer: &'a O,
     count: usize,
-) -> Result<Vec<Sockets<'a, R>>, Lack>
+) -> Result<Vec<Sockets<'a, R, O::Tether>>, Lack>
 where
     R: Net + Clock + AllocGlobal,
-    O: Observer,
+    O: Leased,
 {
     let mut all = Vec::new(rt.alloc());
     for index in 0..count {
@@ -105,7 +106,8 @@ where
             Some(shared) => shared.sweeps(),
             None => observer.clearings(),
         };
-        let sockets = Sockets::new(rt, listener, loops, loads, clearings, index).map_err(
+        let lease = observer.lease();
+        let sockets = Sockets::new(rt, listener, loops, loads, clearings, lease, index).map_err(
             Lack::System,
         )?;
         if all.push(sockets).is_err() {
@@ -118,8 +120,8 @@ where
 // Serves by several loops. B names the passes.
 fn serve_several<D, G, N, B, R, O>(
     rt: &R,
-    own: Sockets<'_, R>,
-    sockets: Vec<Sockets<'_, R>>,
+    own: Sockets<'_, R, O::Tether>,
+    sockets: Vec<Sockets<'_, R, O::Tether>>,
     set: &Set<D, G, N>,
     passes: Vec<Pass>,
     connections: usize,
@@ -133,7 +135,8 @@ where
     N: Named + Send + Sync,
     B: Given + Send + Sync,
     R: Threads + Wait + Clock + AllocGlobal + Sync,
-    O: Observer + Sync,
+    O: Leased + Sync,
+    O::Tether: Send + Sync,
     requires may_call { All (MayCall N.board) passes.items }
     requires calm { All (IsCalmAfter B.parts) passes.items }
     ensures { Serves N.board B.parts passes result }
@@ -167,7 +170,7 @@ where
         observer,
         told,
     };
-    match Desk::<Socket<'_>, N, B>::new(rt.alloc(), passes.len(), connections) {
+    match Desk::<Socket<'_, R, O::Tether>, N, B>::new(rt.alloc(), passes.len(), connections) {
         Ok(desk) => { serve_by(rt, Worker::Loop(own), Some(desk), others, passes, observer) }
         Err(AllocError) => none_served(passes, observer, Lack::Memory),
     }
@@ -175,17 +178,17 @@ where
 
 /// A loop, which makes its desk once it begins.
 #[derive(Drop)]
-pub(crate) struct Loop<'a, D: Disk, G: StepGate, N: Named, R: Clock, O: Observer> {
+pub(crate) struct Loop<'a, D: Disk, G: StepGate, N: Named, R: Clock, O: Leased> {
     rt: &'a R,
     set: &'a Set<D, G, N>,
-    sockets: Sockets<'a, R>,
+    sockets: Sockets<'a, R, O::Tether>,
     connections: usize,
     bounds: Bounds,
     observer: &'a O,
     told: &'a AtomicBool,
 }
 
-impl<'a, D: Disk, G: StepGate, N: Named, R: Wait + Clock + AllocGlobal, O: Observer> Loop<
+impl<'a, D: Disk, G: StepGate, N: Named, R: Wait + Clock + AllocGlobal, O: Leased> Loop<
     'a,
     D,
     G,
@@ -209,7 +212,7 @@ impl<'a, D: Disk, G: StepGate, N: Named, R: Wait + Clock + AllocGlobal, O: Obser
     /// Serves by these passes at this desk.
     pub(crate) fn serve_at<B: Given>(
         self,
-        desk: Desk<Socket<'a>, N, B>,
+        desk: Desk<Socket<'a, R, O::Tether>, N, B>,
         share: Vec<FreePass<N, B>>,
     ) -> Vec<FreePass<N, B>>
         requires { (desk.given ≡ 0) × (desk.free ≡ 0) × (vec_len share ≤ desk.most) }
@@ -225,7 +228,7 @@ impl<'a, D: Disk, G: StepGate, N: Named, R: Wait + Clock + AllocGlobal, O: Obser
             told,
         } = self;
         let desk = take_in_all(desk, share);
-        let (free, _sockets) = serve_in::<D, G, N, B, Brand, R, O, Sockets<'a, R>>(
+        let (free, _sockets) = serve_in::<D, G, N, B, Brand, R, O, Sockets<'a, R, O::Tether>>(
             rt, sockets, set, desk, bounds, observer, told,
         );
         free

@@ -5,6 +5,7 @@ ghost use Rattle.lz_serve.specs.Verbs.{verb_of};
 use crate::clearing::Clearings;
 use crate::forgetting::Forgetting;
 use crate::language::Language;
+use crate::lease::{Lease, Tether};
 use crate::listener::Listener;
 use lz_proto::{Reply, Request};
 use lz_resp::{Figures, Naming};
@@ -46,9 +47,14 @@ impl Loops {
         passes.min(most).max(1)
     }
 
-    /// How many places of their own clients in memory have: the keeper of epochs, and what sweeps a room.
+    /// How many places are left for clients in memory: the keeper of epochs, and what sweeps a room. (Loops that accept at the same time may have a client
+    /// too many, each but one.)
     pub(crate) fn places_inside(&self) -> usize {
-        if self.forgetting.is_some() { 2 } else { 0 }
+        if self.forgetting.is_some() {
+            self.count.saturating_add(1)
+        } else {
+            0
+        }
     }
 
     /// What the service speaks with their clients' sessions: numbers in rooms, where keys are forgotten.
@@ -184,4 +190,13 @@ pub trait Observer: Drop {
     /// Whether the service is to end: then no further line or frame is begun, and those that were are answered.
     fn stops(&self) -> bool
         ensures { result ≡ true → asked };
+}
+
+/// An observer that has the lease of its service. Where that is lost it says that the service is to end.
+pub trait Leased: Observer {
+    /// What the lease holds on to.
+    type Tether: Tether;
+
+    /// The lease, by which the service's loops send.
+    fn lease(&self) -> &Lease<Self::Tether>;
 }

@@ -35,4 +35,7 @@ pub trait Poller {
     fn accept(&mut self, token: usize) -> io::Result<Option<Self::Stream>>
         ensures fresh { IfOk result (λ given. IfSome given (λ stream. IsFresh (Self.Stream.traffic stream))) }
         ensures came { came self.new ≤ came self.old + handed_out result };
+
+    /// Whether as many clients are connected as may be: then `accept` gives none but the service itself, for which places are left.
+    fn is_full(&self) -> bool;
 }

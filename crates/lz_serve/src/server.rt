@@ -6,7 +6,7 @@ ghost use Rattle.lz_serve.specs.Services.{Serves, parts_of};
 
 use crate::given::Given;
 use crate::listener::Listener;
-use crate::observer::{Lack, Observer};
+use crate::observer::{Lack, Leased, Observer};
 use crate::pass_thread::Host;
 use crate::workers::{Worker, serve_by};
 use lz_disk::Disk;
@@ -70,7 +70,8 @@ where
     G: StepGate + Send + Sync,
     N: Named + Send + Sync,
     R: Threads + Wait + Clock + AllocGlobal + Sync,
-    O: Observer + Sync,
+    O: Leased + Sync,
+    O::Tether: Send + Sync,
     requires may_call { All (MayCall N.board) passes.items }
     ensures { Serves N.board (parts_of passes.items) passes result }
 {
@@ -99,7 +100,8 @@ where
     N: Named + Send + Sync,
     B: Given + Send + Sync,
     R: Threads + Wait + Clock + AllocGlobal + Sync,
-    O: Observer + Sync,
+    O: Leased + Sync,
+    O::Tether: Send + Sync,
     requires may_call { All (MayCall N.board) passes.items }
     requires calm { All (IsCalmAfter B.parts) passes.items }
     ensures { Serves N.board B.parts passes result }
@@ -128,7 +130,7 @@ where
     G: StepGate,
     N: Named,
     R: Wait + Clock + AllocGlobal,
-    O: Observer,
+    O: Leased,
 {
     let mut hosts = Vec::new(alloc);
     for _ in 0..count {

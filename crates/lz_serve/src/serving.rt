@@ -233,23 +233,41 @@ where
         told,
         &mut buffer,
     );
-    desk.finish(rt, set, observer, &mut buffer);
+    answer_rest(rt, set, desk, observer, told, &mut buffer);
+    let crowd = &mut desk.crowd;
+    take_leave(rt, poller, crowd, &mut ready, observer, &mut buffer);
+    desk.tell_parted(observer);
+}
+
+// Answers all calls under way. Where the service halted each request that waits is answered too, and the first loop that knows tells the observer.
+fn answer_rest<D, G, N, B, S, R, O>(
+    rt: &R,
+    set: &Set<D, G, N>,
+    desk: &mut Desk<S, N, B>,
+    observer: &O,
+    told: &AtomicBool,
+    buffer: &mut [u8],
+)
+where
+    D: Disk,
+    G: StepGate,
+    N: Named,
+    B: Given,
+    S: Stream,
+    R: Wait + Clock + AllocGlobal,
+    O: Observer,
+    requires { Promises N.board N.format S.promised S.listed }
+    ensures given { desk.new.given ≡ desk.old.given }
+    ensures rests { desk.new.free ≡ desk.new.given }
+{
+    desk.finish(rt, set, observer, buffer);
     if desk.halted() && !told.swap(true, Ordering::SeqCst) {
         observer.halted();
     }
     if told.load(Ordering::SeqCst) {
-        desk.list_pages(rt.alloc(), set, observer, &mut buffer);
-        desk.answer_last(rt, set, observer, &mut buffer);
+        desk.list_pages(rt.alloc(), set, observer, buffer);
+        desk.answer_last(rt, set, observer, buffer);
     }
-    take_leave(
-        rt,
-        poller,
-        &mut desk.crowd,
-        &mut ready,
-        observer,
-        &mut buffer,
-    );
-    desk.tell_parted(observer);
 }
 
 // Whether a client of some loop was told that the service halted, or the service is to end.
@@ -285,7 +303,12 @@ where
                 observer.accepted();
                 crowd.admit(rt.alloc(), stream, observer, buffer);
             }
-            Ok(None) => return,
+            Ok(None) => {
+                if poller.is_full() {
+                    observer.crowded();
+                }
+                return;
+            }
             Err(error) => return observer.unaccepted(error),
         }
     }

@@ -5,32 +5,40 @@ ghost use Rattle.lz_serve.specs.Streams.{counted, sent};
 use crate::clearing::Clearings;
 use crate::forgetting::{Kept, Spoken};
 use crate::language::Language;
+use crate::lease::Tether;
 use crate::loads::Loads;
+use crate::outlet::Outlet;
 use crate::sight::Sight;
 use crate::stream::{Received, Stream, Taken};
+use lz_proto::Request;
 use lz_resp::{Cleared, Clearing};
 use lz_slot::Key;
-use mio::net::TcpStream;
-use std::io::{Read, Write};
-use std::net::Shutdown;
+use std::sync::Wait;
 
 /// What a connection goes over.
 #[derive(Drop)]
-pub(crate) enum Carrier<'a> {
-    Socket(TcpStream),
+pub(crate) enum Carrier<'a, R, T: Tether> {
+    Socket(Outlet<'a, R, T>),
     /// Memory: its client is the service itself, which clears a room.
     Memory(Clearing),
     /// The same, once it was told what it can't go on with, after so many keys were removed.
     Broken(usize),
     /// A socket whose client speaks to a set that forgets.
-    Spoken(Spoken<'a>),
+    Spoken(Spoken<'a, R, T>),
     /// Memory: its client is the service itself, which keeps epochs.
     Kept(Kept<'a>),
 }
 
+impl<R, T: Tether> Carrier<'_, R, T> {
+    // Whether its client isn't the service itself.
+    fn is_of_client(&self) -> bool {
+        matches!(self, Carrier::Socket(_) | Carrier::Spoken(_))
+    }
+}
+
 /// A connection whose calls don't wait.
-pub struct Socket<'a> {
-    carrier: Carrier<'a>,
+pub struct Socket<'a, R, T: Tether> {
+    carrier: Carrier<'a, R, T>,
     language: Language,
     loads: &'a Loads,
     index: usize,
@@ -39,16 +47,18 @@ pub struct Socket<'a> {
     awaits: bool,
 }
 
-impl<'a> Socket<'a> {
+impl<'a, R, T: Tether> Socket<'a, R, T> {
     /// One that goes over this, which this loop has, for all loops to see.
     pub(crate) fn new(
-        carrier: Carrier<'a>,
+        carrier: Carrier<'a, R, T>,
         language: Language,
         loads: &'a Loads,
         index: usize,
         clearings: &'a Clearings,
-    ) -> Socket<'a> {
-        loads.add(index);
+    ) -> Socket<'a, R, T> {
+        if carrier.is_of_client() {
+            loads.add(index);
+        }
         Socket {
             carrier,
             language,
@@ -60,9 +70,11 @@ impl<'a> Socket<'a> {
     }
 }
 
-impl<'a> Drop for Socket<'a> {
+impl<'a, R, T: Tether> Drop for Socket<'a, R, T> {
     fn drop(self) {
-        self.loads.take_off(self.index);
+        if self.carrier.is_of_client() {
+            self.loads.take_off(self.index);
+        }
         if self.awaits {
             self.clearings.forget();
         }
@@ -84,7 +96,7 @@ impl<'a> Drop for Socket<'a> {
     }
 }
 
-impl<'a> Stream for Socket<'a> {
+impl<'a, R: Wait, T: Tether> Stream for Socket<'a, R, T> {
     ghost use Rattle.std.specs.Prelude.{None, ⊤};
 
     ghost traffic = { λ _. None };
@@ -101,7 +113,7 @@ impl<'a> Stream for Socket<'a> {
 
     fn receive(&mut self, buffer: &mut [u8]) -> Received {
         match &mut self.carrier {
-            Carrier::Socket(stream) => receive_at(stream, buffer),
+            Carrier::Socket(outlet) => receive_at(outlet, buffer),
             Carrier::Memory(clearing) => read_from(clearing, buffer),
             Carrier::Broken(_) => Received::Failed,
             Carrier::Spoken(spoken) => spoken.receive(buffer),
@@ -109,9 +121,16 @@ impl<'a> Stream for Socket<'a> {
         }
     }
 
+    fn next_request(&mut self) -> Option<Request> {
+        match &mut self.carrier {
+            Carrier::Spoken(spoken) => spoken.next_request(),
+            _ => None,
+        }
+    }
+
     fn take(&mut self, text: &[u8]) -> Taken {
         match &mut self.carrier {
-            Carrier::Socket(stream) => take_at(stream, text),
+            Carrier::Socket(outlet) => take_at(outlet, text),
             Carrier::Memory(_) if text.is_empty() => Taken::Later,
             Carrier::Memory(clearing) => {
                 if clearing.hear(text).is_err() {
@@ -175,9 +194,7 @@ impl<'a> Stream for Socket<'a> {
 
     fn leave(&mut self) {
         match &mut self.carrier {
-            Carrier::Socket(stream) => {
-                let _ = stream.shutdown(Shutdown::Write);
-            }
+            Carrier::Socket(outlet) => outlet.shut(),
             Carrier::Spoken(spoken) => spoken.leave(),
             Carrier::Kept(kept) => kept.leave(),
             Carrier::Memory(_) | Carrier::Broken(_) => {}
@@ -186,13 +203,13 @@ impl<'a> Stream for Socket<'a> {
 }
 
 /// Receives what a socket has.
-pub(crate) fn receive_at(stream: &mut TcpStream, buffer: &mut [u8]) -> Received
+pub(crate) fn receive_at<R, T: Tether>(outlet: &mut Outlet<'_, R, T>, buffer: &mut [u8]) -> Received
     ensures length { length buffer.new ≡ length buffer.old }
     ensures bound { counted result ≤ length buffer.new }
     ensures some { result ≢ Received.Count 0 }
 {
     'tries: for _ in 0..u64::MAX {
-        let read = stream.read(buffer);
+        let read = outlet.read(buffer);
         if let Some(received) = Received::of(read, buffer.len()) {
             return received;
         }
@@ -200,13 +217,16 @@ pub(crate) fn receive_at(stream: &mut TcpStream, buffer: &mut [u8]) -> Received
     Received::Failed
 }
 
-/// Sends a beginning of a text on a socket.
-pub(crate) fn take_at(stream: &mut TcpStream, text: &[u8]) -> Taken
+/// Sends a beginning of a text on a socket. Where the lease is lost, the connection is too.
+pub(crate) fn take_at<R: Wait, T: Tether>(outlet: &mut Outlet<'_, R, T>, text: &[u8]) -> Taken
     ensures bound { sent result ≤ length text.now }
     ensures some { result ≢ Taken.Count 0 }
 {
     'tries: for _ in 0..u64::MAX {
-        if let Some(taken) = Taken::of(stream.write(text), text.len()) {
+        let Some(leave) = outlet.leave() else {
+            return Taken::Failed;
+        };
+        if let Some(taken) = Taken::of(outlet.send(text, leave), text.len()) {
             return taken;
         }
     }

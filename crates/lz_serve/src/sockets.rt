@@ -3,10 +3,12 @@
 use crate::clearing::Clearings;
 use crate::forgetting::{Forgetting, Kept, Spoken};
 use crate::language::Language;
+use crate::lease::{Lease, Tether};
 use crate::listener::Listener;
 use crate::loads::Loads;
 use crate::moments::MOMENT_MS;
 use crate::observer::Loops;
+use crate::outlet::Outlet;
 use crate::poller::{Poller, Ready};
 use crate::socket::{Carrier, Socket};
 use lz_resp::{Clearing, Naming};
@@ -16,6 +18,7 @@ use mio::{Events, Interest, Poll, Token};
 use std::alloc::AllocError;
 use std::io::ErrorKind;
 use std::net::Net;
+use std::sync::Wait;
 use std::time::{Clock, Duration};
 use std::{io, thread};
 
@@ -32,7 +35,7 @@ const PAUSE_MS: u64 = 20;
 const COURTESY_MS: u64 = 2;
 
 /// What a loop waits for: a listener, which it may share with others, and the connections that it took there.
-pub struct Sockets<'a, R: Clock> {
+pub struct Sockets<'a, R: Clock, T: Tether> {
     rt: &'a R,
     poll: Poll,
     events: Events,
@@ -47,11 +50,15 @@ pub struct Sockets<'a, R: Clock> {
     left: Option<Duration>,
     clearings: &'a Clearings,
     forgetting: Option<&'static Forgetting>,
+    /// How many clients all loops may have at once.
+    most: usize,
+    /// By what something is sent to a client.
+    lease: &'a Lease<T>,
     /// How many turns had no place for the connection in memory, though a room is to be cleared.
     missed: usize,
 }
 
-impl<'a, R: Clock> Drop for Sockets<'a, R> {
+impl<'a, R: Clock, T: Tether> Drop for Sockets<'a, R, T> {
     fn drop(self) {
         self.loads.end(self.index);
         let Sockets {
@@ -66,12 +73,14 @@ impl<'a, R: Clock> Drop for Sockets<'a, R> {
             left: _,
             clearings: _,
             forgetting: _,
+            most: _,
+            lease: _,
             missed: _,
         } = self;
     }
 }
 
-impl<'a, R: Net + Clock + AllocGlobal> Sockets<'a, R> {
+impl<'a, R: Net + Clock + AllocGlobal, T: Tether> Sockets<'a, R, T> {
     /// Waits for the connections of the listener, whose clients speak the language of these loops, as the loop of this number. Accepting at the listener doesn't wait
     /// any more from now on. Rooms can be cleared from now on too, where keys are numbers.
     pub fn new(
@@ -80,8 +89,9 @@ impl<'a, R: Net + Clock + AllocGlobal> Sockets<'a, R> {
         loops: &Loops,
         loads: &'a Loads,
         clearings: &'a Clearings,
+        lease: &'a Lease<T>,
         index: usize,
-    ) -> io::Result<Sockets<'a, R>> {
+    ) -> io::Result<Sockets<'a, R, T>> {
         listener.set_nonblocking(true)?;
         let listener = listener.try_clone()?;
         let poll = Poll::new(rt)?;
@@ -110,14 +120,16 @@ impl<'a, R: Net + Clock + AllocGlobal> Sockets<'a, R> {
             left: None,
             clearings,
             forgetting: loops.forgetting,
+            most: loops.connections,
+            lease,
             missed: 0,
         })
     }
 }
 
-impl<'a, R: Clock + AllocGlobal> Sockets<'a, R> {
+impl<'a, R: Clock + AllocGlobal, T: Tether> Sockets<'a, R, T> {
     // The client that clears this room.
-    fn clear(&self, room: u8) -> io::Result<Option<Socket<'a>>> {
+    fn clear(&self, room: u8) -> io::Result<Option<Socket<'a, R, T>>> {
         let Ok(clearing) = Clearing::new(self.rt.alloc(), room) else {
             self.clearings.end(false, 0);
             return Err(io::Error::from(ErrorKind::OutOfMemory));
@@ -126,7 +138,7 @@ impl<'a, R: Clock + AllocGlobal> Sockets<'a, R> {
     }
 
     // The client that keeps the epochs, where no loop has it yet.
-    fn keep(&self, shared: &'static Forgetting) -> io::Result<Option<Socket<'a>>> {
+    fn keep(&self, shared: &'static Forgetting) -> io::Result<Option<Socket<'a, R, T>>> {
         shared.see_time(self.rt);
         match shared.keeper(self.rt.alloc()) {
             Some(Ok(keeper)) => {
@@ -139,17 +151,18 @@ impl<'a, R: Clock + AllocGlobal> Sockets<'a, R> {
     }
 
     // What a connection goes over that came at the listener.
-    fn carrier_of(&self, stream: TcpStream) -> Carrier<'a> {
+    fn carrier_of(&self, stream: TcpStream) -> Carrier<'a, R, T> {
+        let outlet = Outlet::new(self.rt, stream, self.lease);
         match self.forgetting {
-            Some(shared) => Carrier::Spoken(Spoken::new(self.rt.alloc(), stream, shared)),
-            None => Carrier::Socket(stream),
+            Some(shared) => Carrier::Spoken(Spoken::new(self.rt.alloc(), outlet, shared)),
+            None => Carrier::Socket(outlet),
         }
     }
 }
 
-impl<'a, R: Clock> Sockets<'a, R> {
+impl<'a, R: Clock, T: Tether> Sockets<'a, R, T> {
     // A connection that goes over this.
-    fn carried(&self, carrier: Carrier<'a>, language: Language) -> Socket<'a> {
+    fn carried(&self, carrier: Carrier<'a, R, T>, language: Language) -> Socket<'a, R, T> {
         Socket::new(carrier, language, self.loads, self.index, self.clearings)
     }
 
@@ -196,10 +209,10 @@ impl<'a, R: Clock> Sockets<'a, R> {
     }
 }
 
-impl<'a, R: Clock + AllocGlobal> Poller for Sockets<'a, R> {
+impl<'a, R: Wait + Clock + AllocGlobal, T: Tether> Poller for Sockets<'a, R, T> {
     ghost came = { λ _. 0 };
 
-    type Stream = Socket<'a>;
+    type Stream = Socket<'a, R, T>;
 
     fn poll(&mut self, patience: Duration, ready: &mut Vec<Ready>) {
         self.refuse_missed();
@@ -224,7 +237,7 @@ impl<'a, R: Clock + AllocGlobal> Poller for Sockets<'a, R> {
     }
 
     #[tactic(auto, unfolding(crate::specs::Streams::IsFresh))]
-    fn accept(&mut self, token: usize) -> io::Result<Option<Socket<'a>>> {
+    fn accept(&mut self, token: usize) -> io::Result<Option<Socket<'a, R, T>>> {
         if let Some(room) = self.clearings.take() {
             return self.clear(room);
         }
@@ -233,7 +246,7 @@ impl<'a, R: Clock + AllocGlobal> Poller for Sockets<'a, R> {
         {
             return Ok(Some(kept));
         }
-        if !self.has_come || self.leaves_it() {
+        if !self.has_come || self.is_full() || self.leaves_it() {
             return Ok(None);
         }
         let stream = match self.listener.accept() {
@@ -254,5 +267,10 @@ impl<'a, R: Clock + AllocGlobal> Poller for Sockets<'a, R> {
             .registry()
             .register(&mut stream, Token(token), wanted)?;
         Ok(Some(self.carried(self.carrier_of(stream), self.language)))
+    }
+
+    // Where keys are forgotten a place is left for what sweeps a room, however many clients there are.
+    fn is_full(&self) -> bool {
+        self.forgetting.is_some() && self.loads.have(self.most)
     }
 }

@@ -1,9 +1,10 @@
 //! A connection as the loop sees it.
-ghost use Rattle.std.specs.Prelude.{◌≡◌, ◌≢◌, ◌≤◌, IfOk, IfSome, length};
+ghost use Rattle.std.specs.Prelude.{◌≡◌, ◌≢◌, ◌≤◌, IfOk, IfSome, None, length};
 ghost use Rattle.lz_serve.specs.Streams.{MayTake, Receives, Takes, counted, sent};
 
 use crate::language::Language;
 use crate::sight::Sight;
+use lz_proto::Request;
 use lz_resp::Cleared;
 use lz_slot::Key;
 use std::io;
@@ -100,6 +101,12 @@ pub trait Stream: Drop {
         ensures bound { counted result ≤ length buffer.new }
         ensures some { result ≢ Received.Count 0 }
         ensures received { Receives (traffic self.old) (traffic self.new) result buffer.new };
+
+    /// The next request that it hands over by itself, beside its text, if there is one. Its reply is worded as that of a frame with this key alone.
+    fn next_request(&mut self) -> Option<Request>
+        ensures known { IfSome (traffic self.old) (λ _. result ≡ None) }
+        ensures traffic { traffic self.new ≡ traffic self.old }
+        ensures asks { IfSome result (λ request. request ≢ Request.Quit) };
 
     /// Sends a beginning of the text.
     fn take(&mut self, text: &[u8]) -> Taken

@@ -8,7 +8,7 @@ use crate::desk::Desk;
 use crate::free_pass::{FreePass, hand_back};
 use crate::given::Given;
 use crate::loops::Loop;
-use crate::observer::{Lack, Observer};
+use crate::observer::{Lack, Leased, Observer};
 use crate::pass_thread::Host;
 use crate::server::{Served, none_served};
 use crate::shares::{HandsBack, Running, add_all, join_all, set_free, take_share};
@@ -29,7 +29,7 @@ pub(crate) enum Worker<
     G: StepGate,
     N: Named,
     R: Wait + Clock + AllocGlobal,
-    O: Observer,
+    O: Leased,
 > {
     /// One connection after the other.
     Host(Host<'a, D, G, N, R, O>),
@@ -37,7 +37,7 @@ pub(crate) enum Worker<
     Loop(Loop<'a, D, G, N, R, O>),
 }
 
-impl<'a, D: Disk, G: StepGate, N: Named, R: Wait + Clock + AllocGlobal, O: Observer> Worker<
+impl<'a, D: Disk, G: StepGate, N: Named, R: Wait + Clock + AllocGlobal, O: Leased> Worker<
     'a,
     D,
     G,
@@ -58,7 +58,7 @@ impl<'a, D: Disk, G: StepGate, N: Named, R: Wait + Clock + AllocGlobal, O: Obser
     // The same, a loop at this desk.
     fn serve_at<B: Given>(
         self,
-        desk: Option<Desk<Socket<'a>, N, B>>,
+        desk: Option<Desk<Socket<'a, R, O::Tether>, N, B>>,
         share: Vec<FreePass<N, B>>,
     ) -> Vec<FreePass<N, B>>
         requires { IfSome desk (λ d. (d.given ≡ 0) × (d.free ≡ 0) × (vec_len share ≤ d.most)) }
@@ -76,7 +76,7 @@ impl<'a, D: Disk, G: StepGate, N: Named, R: Wait + Clock + AllocGlobal, O: Obser
 pub(crate) fn serve_by<'a, D, G, N, B, R, O>(
     rt: &R,
     own: Worker<'a, D, G, N, R, O>,
-    desk: Option<Desk<Socket<'a>, N, B>>,
+    desk: Option<Desk<Socket<'a, R, O::Tether>, N, B>>,
     others: Vec<Worker<'a, D, G, N, R, O>>,
     passes: Vec<Pass>,
     observer: &O,
@@ -87,7 +87,8 @@ where
     N: Named + Send + Sync,
     B: Given + Send + Sync,
     R: Threads + Wait + Clock + AllocGlobal + Sync,
-    O: Observer + Sync,
+    O: Leased + Sync,
+    O::Tether: Send + Sync,
     requires may_call { All (MayCall N.board) passes.items }
     requires calm { All (IsCalmAfter B.parts) passes.items }
     requires desk { IfSome desk (λ d. (d.given ≡ 0) × (d.free ≡ 0) × (vec_len passes ≤ d.most)) }
@@ -111,7 +112,7 @@ where
 fn serve_shares<'a, D, G, N, B, R, O>(
     rt: &R,
     own: Worker<'a, D, G, N, R, O>,
-    desk: Option<Desk<Socket<'a>, N, B>>,
+    desk: Option<Desk<Socket<'a, R, O::Tether>, N, B>>,
     others: Vec<Worker<'a, D, G, N, R, O>>,
     threads: Vec<Running<N, B>>,
     free: Vec<FreePass<N, B>>,
@@ -124,7 +125,8 @@ where
     N: Named + Send + Sync,
     B: Given + Send + Sync,
     R: Threads + Wait + Clock + AllocGlobal + Sync,
-    O: Observer + Sync,
+    O: Leased + Sync,
+    O::Tether: Send + Sync,
     requires desk { IfSome desk (λ d. (d.given ≡ 0) × (d.free ≡ 0) × (vec_len free ≤ d.most)) }
     requires back { (vec_len back ≡ 0) × (vec_len free ≤ vec_capacity back) }
     requires threads { (threads.items ≡ []) × (vec_len others ≤ vec_capacity threads) }

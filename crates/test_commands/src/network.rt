@@ -2,6 +2,7 @@
 ghost use Rattle.std.specs.Prelude.{◌≡◌, ◌≢◌, ◌≤◌, ◌<◌, length};
 ghost use Rattle.lz_serve.specs.Streams.{counted, sent};
 
+use lz_proto::Request;
 use lz_resp::Cleared;
 use lz_serve::{Language, Poller, Ready, Received, Sight, Stream, Taken};
 use lz_slot::Key;
@@ -114,6 +115,10 @@ impl<'a> Stream for Wire<'a> {
         }
     }
 
+    fn next_request(&mut self) -> Option<Request> {
+        None
+    }
+
     fn take(&mut self, text: &[u8]) -> Taken {
         match self.network.try_borrow_mut() {
             Ok(mut network) => network.take(self.index, text),
@@ -186,6 +191,10 @@ impl<'a> Poller for Switch<'a> {
             network: self.network,
             index,
         }))
+    }
+
+    fn is_full(&self) -> bool {
+        false
     }
 }
 

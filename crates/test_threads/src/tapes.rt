@@ -9,7 +9,7 @@ ghost use Rattle.lz_set.specs.Blanks.{MayBeNamed};
 ghost use Rattle.lz_set.specs.Names.{MayCall};
 
 use lz_disk::MemoryDisk;
-use lz_proto::Reply;
+use lz_proto::{Reply, Request};
 use lz_resp::{Cleared, Figures};
 use lz_serve::{
     Clearings, Client, FreePass, Given, Lack, Language, Listener, Observer, Received, Serving,
@@ -118,6 +118,10 @@ impl<'a, N: Named> Stream for Tape<'a, N> {
         buffer[..count].copy_from_slice(&rest[..count]);
         self.read += count;
         Received::Count(count)
+    }
+
+    fn next_request(&mut self) -> Option<Request> {
+        None
     }
 
     fn take(&mut self, text: &[u8]) -> Taken {

@@ -2,7 +2,7 @@
 ghost use Rattle.std.specs.Prelude.{◌≡◌, IfOk, None, OnOk};
 ghost use Rattle.lz_forget.specs.Sessions.{answers_of, gathered, gathering, holding, refusing, telling, upcoming};
 
-use super::rounds::{answers_of, keys_of};
+use super::rounds::{answers_of, push_keys};
 use super::{Next, Session, Stage};
 use crate::answers::Told;
 use crate::asking::Ask;
@@ -30,8 +30,9 @@ impl Session {
     pub(super) fn hold(&mut self, form: Form, requests: &[Request]) -> Result<(), AllocError>
         ensures { OnOk result (self.new ≡ holding form requests.now self.old) }
     {
-        let keys = keys_of(self.alloc, requests)?;
-        let told = Vec::from_slice(self.alloc, &[(form, keys.len())])?;
+        let mut keys = Vec::new(self.alloc);
+        let count = push_keys(&mut keys, requests)?;
+        let told = Vec::from_slice(self.alloc, &[(form, count)])?;
         self.stage = Stage::Holds(Ask::of(form), told, keys);
         Ok(())
     }
@@ -58,9 +59,8 @@ impl Session {
     {
         if let Stage::Holds(ask, told, keys) = &mut self.stage {
             if ask.is(Ask::of(form)) && keys.len() < MOST_KEYS {
-                let its = keys_of(self.alloc, requests.as_slice())?;
-                told.push((form, its.len()))?;
-                keys.extend_from_slice(its.as_slice())?;
+                let count = push_keys(keys, requests.as_slice())?;
+                told.push((form, count))?;
                 return Ok(Next::GoesOn);
             }
         }

@@ -1,11 +1,11 @@
 //! What is sought or asked together, one round after the other.
-ghost use Rattle.std.specs.Prelude.{◌≡◌, ◌≤◌, ◌-◌, [], IfOk, OnOk, length};
+ghost use Rattle.std.specs.Prelude.{◌≡◌, ◌≤◌, ◌-◌, ◌++◌, [], IfOk, OnOk, length};
 ghost use Rattle.lz_forget.specs.Lives.{IsLive};
 ghost use Rattle.lz_forget.specs.Sessions.{adding, asking, beginning_by, beginning_of, completed, HasLive, work_of, glancing, answers_of, keys_of, open_of, removing, seeking, Work};
 
 use super::{Session, Stage};
 use crate::answers::{Answer, Told, filled, groups, joined};
-use crate::asking::{Ask, push_requests, push_rooms};
+use crate::asking::{Ask, push_rooms};
 use crate::live::{Live, MOST_EPOCHS};
 use lz_proto::{Reply, Request};
 use lz_resp::Requests;
@@ -49,7 +49,8 @@ impl Session {
         requires { IsLive live }
         ensures { OnOk result (self.new ≡ beginning_by (Work.holds_time unit requests) live left.now self.old) }
     {
-        let keys = keys_of(self.alloc, requests.as_slice())?;
+        let mut keys = Vec::new(self.alloc);
+        push_keys(&mut keys, requests.as_slice())?;
         self.find(keys.as_slice(), live, Stage::Times(unit, *left))
     }
 
@@ -138,7 +139,7 @@ impl Session {
         push_rooms(&mut self.seeks, live, from, to, keys)?;
         self.awaits = awaits;
         self.answers.clear();
-        Ok(())
+        self.answers.reserve(awaits)
     }
 
     // Asks of these keys in each room whose epoch is of an age from this one on, up to that one.
@@ -155,13 +156,8 @@ impl Session {
         ensures its { OnOk result (self.new ≡ asking ask live from (to - from) keys.now self.old.work self.old) }
         ensures heard { self.new.heard ≡ self.old.heard }
     {
-        let Some(awaits) = keys.len().checked_mul(usize::from(to - from)) else {
-            return Err(AllocError);
-        };
-        push_requests(&mut self.asks, ask, live, from, to, keys)?;
-        self.awaits = awaits;
-        self.answers.clear();
-        Ok(())
+        self.seek(live, from, to, keys)?;
+        self.ask_all(ask)
     }
 
     // What all the answers to what was asked together come to.
@@ -199,11 +195,12 @@ impl Session {
     }
 }
 
-// The keys of these requests.
-pub(super) fn keys_of(alloc: Global, requests: &[Request]) -> Result<Vec<Key>, AllocError>
-    ensures { IfOk result (λ keys. keys.items ≡ keys_of requests.now) }
+// Puts the keys of these requests after others, and says how many they are.
+pub(super) fn push_keys(keys: &mut Vec<Key>, requests: &[Request]) -> Result<usize, AllocError>
+    ensures keys { OnOk result (keys.new.items ≡ keys.old.items ++ keys_of requests.now) }
+    ensures count { IfOk result (λ count. count ≡ length (keys_of requests.now)) }
 {
-    let mut keys = Vec::with_capacity(alloc, requests.len())?;
+    let before = keys.len();
     let mut rest = requests;
     'requests: while let [request, others @ ..] = rest {
         match request {
@@ -212,7 +209,7 @@ pub(super) fn keys_of(alloc: Global, requests: &[Request]) -> Result<Vec<Key>, A
         }
         rest = others;
     }
-    Ok(keys)
+    Ok(keys.len() - before)
 }
 
 // This answer to each of so many requests.
@@ -237,7 +234,7 @@ pub(super) fn answers_of(
 fn open_of(alloc: Global, keys: &[Key], found: &[Answer]) -> Result<Vec<Key>, AllocError>
     ensures { IfOk result (λ its. its.items ≡ open_of keys.now found.now) }
 {
-    let mut its = Vec::new(alloc);
+    let mut its = Vec::with_capacity(alloc, keys.len())?;
     let mut left = keys;
     let mut rest = found;
     'keys: while let [key, others @ ..] = left {

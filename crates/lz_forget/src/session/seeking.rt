@@ -1,11 +1,11 @@
-//! Keys of which it is to be seen whether the service has them.
-ghost use Rattle.std.specs.Prelude.{◌≡◌, ◌∷◌, [], IfSome, None, OnOk, drop};
-ghost use Rattle.lz_forget.specs.Sessions.{asking_sought, seeing, seen_as};
+//! Keys of which it is to be seen whether the service has them, and what the service is asked without a text.
+ghost use Rattle.std.specs.Prelude.{◌≡◌, ◌≢◌, ◌∷◌, ◌↔◌, [], IfSome, IsTrue, None, OnOk, drop};
+ghost use Rattle.lz_forget.specs.Sessions.{asking_all, asking_sought, seeing, seen_as};
 
 use super::Session;
 use crate::answers::Answer;
-use crate::asking::push_lookup;
-use lz_proto::Reply;
+use crate::asking::{Ask, push_requests};
+use lz_proto::{Reply, Request};
 use lz_slot::Key;
 use std::alloc::AllocError;
 
@@ -36,10 +36,31 @@ impl Session {
     pub fn ask_sought(&mut self) -> Result<(), AllocError>
         ensures { OnOk result (self.new ≡ asking_sought self.old) }
     {
-        'keys: while let Some(key) = self.seeks.pop_front() {
-            push_lookup(&mut self.asks, key)?;
-        }
-        Ok(())
+        self.ask_all(Ask::Has)
+    }
+
+    // Asks the service so of each key that is sought.
+    pub(super) fn ask_all(&mut self, ask: Ask) -> Result<(), AllocError>
+        ensures its { OnOk result (self.new ≡ asking_all ask self.old) }
+        ensures heard { self.new.heard ≡ self.old.heard }
+    {
+        push_requests(&mut self.requests, ask, &mut self.seeks)
+    }
+
+    /// The next request to the service, which is to be given it then.
+    pub fn next_request(&mut self) -> Option<Request>
+        ensures some { IfSome result (λ request. (self.old.requests ≡ request ∷ drop 1 self.old.requests) × (self.new ≡ record self.old { requests = drop 1 self.old.requests })) }
+        ensures asks { IfSome result (λ request. request ≢ Request.Quit) }
+        ensures none { result ≡ None → (self.old.requests ≡ []) × (self.new ≡ self.old) }
+    {
+        self.requests.pop_front()
+    }
+
+    /// Whether there is one.
+    pub fn has_requests(&self) -> bool
+        ensures { IsTrue result ↔ (self.now.requests ≢ []) }
+    {
+        !self.requests.is_empty()
     }
 }
 

@@ -49,7 +49,7 @@ impl<S: Stream> Crowd<S> {
     }
 
     /// Whether the connection of one that is to be tended to seeks a key.
-    pub fn seeks(&self) -> bool {
+    pub(crate) fn seeks(&self) -> bool {
         for after in 0..self.back.len() {
             if self.sought(after).is_some() {
                 return true;

@@ -3,14 +3,16 @@ ghost use Rattle.std.specs.Prelude.{◌≡◌, ◌≢◌, ◌≤◌, IfSome, len
 ghost use Rattle.lz_serve.specs.Streams.{counted, sent};
 
 use crate::forgetting::Forgetting;
+use crate::lease::Tether;
+use crate::outlet::Outlet;
 use crate::sight::Sight;
 use crate::socket::{receive_at, take_at};
 use crate::stream::{Received, Taken};
 use lz_forget::{Next, Session};
+use lz_proto::Request;
 use lz_slot::Key;
-use mio::net::TcpStream;
 use std::alloc::Global;
-use std::net::Shutdown;
+use std::sync::Wait;
 
 /// How many commands are taken before the loop sees to others.
 const MOST_STEPS: usize = 512;
@@ -23,9 +25,9 @@ const LAST_PIECE: usize = 4_096;
 
 const LAST_PIECES: usize = 64;
 
-/// A connection whose client speaks to a set that forgets. The loop sees what its session asks of the service.
-pub(crate) struct Spoken<'a> {
-    stream: TcpStream,
+/// A connection whose client speaks to a set that forgets. The loop takes the requests of its session, and what that passes on as a text.
+pub(crate) struct Spoken<'a, R, T: Tether> {
+    stream: Outlet<'a, R, T>,
     session: Session,
     shared: &'a Forgetting,
     /// Its client has sent nothing more.
@@ -37,7 +39,7 @@ pub(crate) struct Spoken<'a> {
     is_shut: bool,
 }
 
-impl<'a> Drop for Spoken<'a> {
+impl<'a, R, T: Tether> Drop for Spoken<'a, R, T> {
     fn drop(self) {
         if self.session.is_under_way() {
             self.shared.turns().leave();
@@ -54,8 +56,12 @@ impl<'a> Drop for Spoken<'a> {
     }
 }
 
-impl<'a> Spoken<'a> {
-    pub(crate) fn new(alloc: Global, stream: TcpStream, shared: &'a Forgetting) -> Spoken<'a> {
+impl<'a, R, T: Tether> Spoken<'a, R, T> {
+    pub(crate) fn new(
+        alloc: Global,
+        stream: Outlet<'a, R, T>,
+        shared: &'a Forgetting,
+    ) -> Spoken<'a, R, T> {
         Spoken {
             stream,
             session: shared.session(alloc),
@@ -66,8 +72,10 @@ impl<'a> Spoken<'a> {
             is_shut: false,
         }
     }
+}
 
-    /// Receives what the session asks next. What it says is sent before that.
+impl<R: Wait, T: Tether> Spoken<'_, R, T> {
+    /// Receives what the session passes on next. What it says is sent before that.
     pub(crate) fn receive(&mut self, buffer: &mut [u8]) -> Received
         ensures length { length buffer.new ≡ length buffer.old }
         ensures bound { counted result ≤ length buffer.new }
@@ -82,6 +90,13 @@ impl<'a> Spoken<'a> {
             }
         }
         Received::Later
+    }
+
+    /// What the session asks next of the service.
+    pub(crate) fn next_request(&mut self) -> Option<Request>
+        ensures { IfSome result (λ request. request ≢ Request.Quit) }
+    {
+        self.session.next_request()
     }
 
     /// Hears what the service tells.
@@ -121,7 +136,7 @@ impl<'a> Spoken<'a> {
 
     /// Whether the session may have more to ask.
     pub(crate) fn has_come(&self) -> bool {
-        if !self.session.asks().is_empty() {
+        if self.session.has_requests() || !self.session.asks().is_empty() {
             return true;
         }
         let waits = if self.stalls {
@@ -162,7 +177,7 @@ impl<'a> Spoken<'a> {
             self.session.asked(count);
             return Some(Received::Count(count));
         }
-        if self.is_unread() {
+        if self.session.has_requests() || self.is_unread() {
             return Some(Received::Later);
         }
         match self.session.next() {
@@ -295,7 +310,7 @@ impl<'a> Spoken<'a> {
         let _ = self.send();
         if !self.is_shut && self.session.says().is_empty() {
             self.is_shut = true;
-            let _ = self.stream.shutdown(Shutdown::Write);
+            self.stream.shut();
         }
     }
 

@@ -8,7 +8,7 @@ use Rattle.lz_serve.proofs.Meetings.{some_mapped}
 pub calls-init : goal.calls-init
 calls-init g c =
     let from = c.self.inside in
-    let is = c.self.view_is ∙ c.see_time-tries.ensures in
+    let is = c.self.view_is ∙ c.turn_round-tries.ensures in
     record {
       given = ap (λ (p : Passes). p.given) is;
       ends = subst (λ (p : Passes). p.ends ≡ true → (from.ends ≡ true) × All (AnswersOneOf p.calls) from.calls.items) is (λ over. (over, each_its_own from.calls.items));

@@ -1,4 +1,4 @@
-use Rattle.lz_serve.proofs.client.Client.read.Goals as goal
+use Rattle.lz_serve.proofs.client.Client.receive.Goals as goal
 use Rattle.std.proofs.Common.{refl, ap, sym, ◌∙◌}
 use mathlib.Core.Bool.{true≢false}
 use Rattle.lz_serve.{specs.{Clients.{passes_of, seen_by}, Conversations.{Talk}, Exchanges.{requests_in, taken}, Lines.{AreBefore}}, proofs.HeldUp.{held_more}}
