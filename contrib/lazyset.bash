@@ -16,7 +16,7 @@ _lazyset_words() {
     renew | grow) options="--format --help" formats="2 3 4" ;;
     copy) options="--format --replace --help" formats="2 3 4" ;;
     run) options="--buckets --no-lock --help" ;;
-    serve) options="--connections --loops --resp --lines --text --secret --forget --epochs --numbers --sessions --idle --buckets --socket --control --socket-mode --until-eof --standby --rewrite --no-lock --help" ;;
+    serve) options="--connections --loops --resp --lines --text --secret --forget --epochs --numbers --sessions --idle --buckets --socket --control --socket-mode --until-eof --standby --rewrite --lease --no-lock --help" ;;
     stop) options="--within --help" ;;
     check) options="--of --keys --help" ;;
     rehearse) options="--buckets --format --help" ;;
@@ -24,7 +24,7 @@ _lazyset_words() {
     esac
     case "${COMP_WORDS[COMP_CWORD - 1]},$word" in
     --format,*) mapfile -t COMPREPLY < <(compgen -W "$formats" -- "$word") ;;
-    --buckets,* | --connections,* | --loops,* | --sessions,* | --idle,* | --forget,* | --epochs,* | --within,*) COMPREPLY=() ;;
+    --buckets,* | --connections,* | --loops,* | --sessions,* | --idle,* | --forget,* | --epochs,* | --lease,* | --within,*) COMPREPLY=() ;;
     *,-*) mapfile -t COMPREPLY < <(compgen -W "$options" -- "$word") ;;
     *) mapfile -t COMPREPLY < <(compgen -f -- "$word") ;;
     esac

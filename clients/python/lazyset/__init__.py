@@ -53,7 +53,7 @@ from .pool import Pool
 from .resp import RespKeys
 from .texts import key_of, mark_of
 
-__version__ = "1.20"
+__version__ = "1.21"
 
 __all__ = [
     "CONNECT_TIMEOUT",

@@ -148,6 +148,11 @@ impl Guests {
         if let Some(stream) = &self.clearing
             && let Some(cleared) = log.clearings().outcome()
         {
+            let cleared = if log.may_tell() {
+                cleared
+            } else {
+                Cleared::Stopped(0)
+            };
             Answer::Cleared(cleared).tell(stream);
             self.clearing = None;
         }

@@ -10,6 +10,7 @@ use crate::level::Level;
 use crate::lines::Lines;
 use crate::long_lists::LongLists;
 use crate::many::Many;
+use crate::moored::Moored;
 use crate::rate::Rate;
 use crate::ready::Ready;
 use crate::seldom::Seldom;
@@ -20,7 +21,7 @@ use crate::watched::Watched;
 use crate::way_out::WayOut;
 use lazyset_set_commands::{Heed, Status};
 use lz_disk::Cause;
-use lz_serve::{Clearings, Listener, Observer, close_listener};
+use lz_serve::{Clearings, Lease, Leased, Listener, Observer, close_listener};
 use lz_slot::Format;
 use std::fmt;
 use std::sync::atomic::{AtomicBool, AtomicUsize, Ordering};
@@ -28,9 +29,12 @@ use std::sync::{OnceLock, Wait};
 use std::time::{Clock, Duration};
 
 /// An observer by which a service is asked to end.
-pub trait Stoppable: Observer + Heed {
+pub trait Stoppable: Leased + Heed {
     /// The service is to end: no further command is begun.
     fn stop(&self);
+
+    /// Whether it may be told now what a client has changed: not once the lease is lost.
+    fn may_tell(&self) -> bool;
 
     /// It doesn't hear by this option whether it is to end: no thread can be made for that.
     fn deaf(&self, option: &str);
@@ -78,6 +82,8 @@ pub struct Log<'a, R: Eprint> {
     /// A loop has no thread.
     lacks_loop: AtomicBool,
     stops: AtomicBool,
+    /// By what something is sent to a client.
+    lease: Lease<Moored>,
     clearings: Clearings,
     /// How many marks its file has, where keys are forgotten. (What the loops share can't stand here: the kit's borrow checker takes no type of several
     /// lifetimes in a call whose signature names `'static`, and a secret has one.)
@@ -95,6 +101,7 @@ where
         watched: Option<Watched>,
         around: Surroundings,
         marks: Option<&'a AtomicUsize>,
+        lease: Lease<Moored>,
     ) -> Log<'a, R> {
         let format = watched
             .as_ref()
@@ -122,6 +129,7 @@ where
             was_changed: AtomicBool::new(false),
             lacks_loop: AtomicBool::new(false),
             stops: AtomicBool::new(false),
+            lease,
             clearings: Clearings::new(),
             marks,
         };
@@ -153,7 +161,7 @@ where
         let sessions = self.sessions.load(Ordering::SeqCst);
         let members = self.members();
         let slots = Many::new(self.gauge.slots(), "slot", "slots");
-        let is_asked = self.stops() && !self.lacks_loop.load(Ordering::SeqCst);
+        let is_asked = self.stops() && !self.has_failed();
         let how = if is_asked { "stopped" } else { "ended" };
         self.say(
             Level::Notice,
@@ -161,11 +169,31 @@ where
         );
     }
 
-    /// The status of the service, where that is this one but for what the log knows: one that lacks a loop has failed.
+    /// The status of the service, where that is this one but for what the log knows: one that lacks a loop, or has lost its lease, has failed.
     pub fn status(&self, status: Status) -> Status {
         match status {
-            Status::Done if self.lacks_loop.load(Ordering::SeqCst) => Status::Failed,
+            Status::Done if self.has_failed() => Status::Failed,
             status => status,
+        }
+    }
+
+    // Whether it lacks a loop, or has lost its lease.
+    fn has_failed(&self) -> bool {
+        self.lacks_loop.load(Ordering::SeqCst) || self.lease.is_lost()
+    }
+
+    // Where the lease is lost the service is to end, which is said once.
+    fn see_lease(&self) {
+        if self.lease.is_lost()
+            && let Some(loss) = self.lease.take_loss(self.rt)
+        {
+            self.begin_end();
+            self.say(
+                Level::Error,
+                format_args!(
+                    "the lease is lost: {loss}: nothing is answered until the file is opened again"
+                ),
+            );
         }
     }
 
@@ -291,6 +319,10 @@ where
         if self.begin_end() {
             self.say(Level::Notice, "asked to stop");
         }
+    }
+
+    fn may_tell(&self) -> bool {
+        self.lease.leave(self.rt).is_some()
     }
 
     fn deaf(&self, option: &str) {

@@ -31,6 +31,7 @@ mod long_lists;
 mod making;
 mod many;
 mod moment;
+mod moored;
 mod new_files;
 mod over_disk;
 mod rate;

@@ -13,6 +13,7 @@ use crate::files::shown;
 use crate::handed::{handed, is_of_six};
 use crate::lines::Lines;
 use crate::log::{Log, Stoppable, Surroundings};
+use crate::moored::lease_of;
 use crate::ready::Ready;
 use crate::texts::wanted_by;
 use crate::wanted::Answer;
@@ -28,7 +29,7 @@ use std::net::{Net, TcpListener, TcpStream};
 use std::os::unix::net::UnixStream;
 use std::rt::{Env, Files};
 use std::sync::Wait;
-use std::sync::atomic::{AtomicBool, Ordering};
+use std::sync::atomic::{AtomicBool, AtomicUsize, Ordering};
 use std::thread::{JoinHandle, Threads};
 use std::time::Clock;
 use std::{io, thread};
@@ -122,6 +123,10 @@ where
         Ok(control) => control,
         Err(status) => return Ok(status),
     };
+    let lease = match lease_of(rt, &disk, service.lease) {
+        Ok(lease) => lease,
+        Err(error) => return Ok(refuse_unleased(rt, service, &error)),
+    };
     let Service { file, options, .. } = service;
     let wanted = wanted_by(options.loops, service.as_numbers, service.adopts);
     let watched = File::open(rt, file).ok().and_then(Watched::new);
@@ -129,16 +134,7 @@ where
     let place = at.place(rt);
     let disk = shown(rt, file, disk, bytes_read(rt, file, &wanted));
     let socket = socket_of(rt, &place);
-    let marks = match options.loops {
-        Some(
-            Loops {
-                forgetting: Some(shared),
-                ..
-            },
-        ) => Some(shared.marks()),
-        _ => None,
-    };
-    let log = Log::new(rt, file, watched, around, marks);
+    let log = Log::new(rt, file, watched, around, marks_of(options.loops), lease);
     let Ended {
         status,
         disk,
@@ -179,6 +175,24 @@ where
         Some(control) => Ok(Some(control)),
         None => control_of(rt, service),
     }
+}
+
+// How many marks the file has, where keys are forgotten.
+fn marks_of(loops: Option<Loops>) -> Option<&'static AtomicUsize> {
+    Some(loops?.forgetting?.marks())
+}
+
+// Says that the lease can't be had. It doesn't serve without.
+fn refuse_unleased<R>(rt: &R, service: Service<'_>, error: &io::Error) -> Status
+where
+    R: Files<File = File> + Eprint,
+{
+    let file = service.file;
+    let _ = eprintln!(rt;
+        "lazyset: serve {file}: --lease: no second descriptor of the file: {error}"
+    );
+    take_away_sockets(rt, service.control, None);
+    Status::Failed
 }
 
 // How many bytes of the file are read before it is served: all, and where it matters what the keys are all once more.
@@ -265,6 +279,7 @@ where
     R: Threads + Wait + Clock + AllocGlobal + Sync,
     W: Write + Drop,
     O: Stoppable + Sync,
+    O::Tether: Send + Sync,
     D: Disk + Send + Drop,
     T: Telling,
     requires options { IsServable (T.told options.now) }

@@ -212,7 +212,7 @@ fn words_of_numbers(request: Request<'_>) -> &'static str {
             "some of its keys are outside room 0, so it is no older file of texts: serve it without --text"
         }
         _ => {
-            "its keys are numbers: serve it without --text; an older file of texts is marked by --text=adopt"
+            "its keys are numbers (serve it without --text), or are forgotten (serve it with --forget, as before); an older file of texts is marked by --text=adopt"
         }
     }
 }

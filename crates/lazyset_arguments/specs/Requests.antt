@@ -55,6 +55,20 @@ TellsPeriod found None = first_value found (codes "forget") ≡ None
 TellsPeriod found (Some period) =
     (is_some (first_value found (codes "forget")) ≡ true) × Tells found (codes "forget") period.seconds × TellsEpochs found period.epochs
 
+-- a lease may be of so many milliseconds
+abbrev pub IsLease : ℕ → Type 0
+IsLease millis = (100 ≤ millis) × (millis ≤ 60_000)
+
+-- of so many is its lease by it; without --lease there is none
+abbrev pub TellsLease : Found → Option ℕ → Type 0
+TellsLease found None = first_value found (codes "lease") ≡ None
+TellsLease found (Some millis) = (is_some (first_value found (codes "lease")) ≡ true) × Tells found (codes "lease") millis
+
+-- a service that it asks for has such a lease
+abbrev pub IsToldLease : Found → Request → Type 0
+IsToldLease found (Serve service) = TellsLease found service.lease
+IsToldLease found request = Unit {0}
+
 -- a service that it asks for keeps texts for so long
 abbrev pub IsToldPeriod : Found → Request → Type 0
 IsToldPeriod found (Serve service) = TellsPeriod found service.forgets
@@ -72,6 +86,7 @@ IsWithin (Serve service) =
     ArePasses options.passes options.loops × ((1 ≤ options.buckets) × (options.buckets ≤ most_buckets)) × IfSome options.loops (AreWithin options.passes)
     × IfSome service.mode (λ m. m ≤ last_mode) × IfSome service.forgets (λ period. IsPeriod period × SpeakTexts options.loops)
     × (service.stands_by ≡ true → is_some service.control ≡ true) × (service.rewrites ≡ true → service.stands_by ≡ true)
+    × IfSome service.lease (λ millis. IsLease millis × (is_some options.loops ≡ true))
 IsWithin (Rehearse slots buckets format) =
     ((1 ≤ slots) × (slots ≤ most_rehearsed)) × (1 ≤ buckets) × (buckets ≤ most_buckets_of format)
 IsWithin request = Unit {0}

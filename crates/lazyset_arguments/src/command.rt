@@ -7,12 +7,12 @@ use clap::{Arg, ArgAction, Command, value_parser};
 use std::alloc::{AllocError, Global};
 
 // The program's version, and the kit that proved and built it, as `rt version` names it.
-const VERSION: &str = "1.20, logic dac8208d650f15bf";
+const VERSION: &str = "1.21, logic dac8208d650f15bf";
 
 /// The same version's numbers.
 pub const MAJOR: usize = 1;
 
-pub const MINOR: usize = 20;
+pub const MINOR: usize = 21;
 
 /// The command line that the program understands where this is given.
 pub fn command_line<'a>(alloc: Global, given: Given) -> Result<Command<'a>, AllocError> {

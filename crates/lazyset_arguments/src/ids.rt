@@ -39,6 +39,9 @@ pub const FORGET_ID: &str = "forget";
 
 pub const EPOCHS_ID: &str = "epochs";
 
+/// The option by which it holds on to its file, as a lease.
+pub const LEASE_ID: &str = "lease";
+
 /// The option by which it waits for a file that another process has.
 pub const STANDBY_ID: &str = "standby";
 

@@ -4,6 +4,7 @@
 mod command;
 mod given;
 mod ids;
+mod lease;
 mod misfit;
 mod period;
 mod refusal;

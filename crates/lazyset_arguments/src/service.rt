@@ -3,12 +3,13 @@ ghost use Rattle.std.specs.Prelude.{◌≡◌, ◌≤◌, IfSome, true};
 ghost use Rattle.lz_slot.specs.Limits.{most_buckets};
 ghost use Rattle.lz_serve.specs.Options.{most_connections};
 ghost use Rattle.clap.specs.Words.{found_of};
-ghost use Rattle.lazyset_arguments.specs.Requests.{ArePasses, AreWithin, IsToldPeriod, IsWithin, SpeakTexts};
+ghost use Rattle.lazyset_arguments.specs.Requests.{ArePasses, AreWithin, IsToldLease, IsToldPeriod, IsWithin, SpeakTexts};
 
 use crate::ids::{
     ADOPT, CONNECTIONS_ID, CONTROL_ID, FORGET_ID, LINES_ID, NUMBERS_ID, PASSES_ID, RESP_ID,
     REWRITE_ID, SECRET_ID, SOCKET_ID, SOCKET_MODE_ID, STANDBY_ID, TEXT_ID,
 };
+use crate::lease::named_lease;
 use crate::period::{Period, named_period};
 use crate::request::Request;
 use crate::values::{named_mode, number, number_within, text};
@@ -68,6 +69,8 @@ pub struct Service<'a> {
     pub stands_by: bool,
     /// It writes the file anew before it opens it. It has waited for the file then.
     pub rewrites: bool,
+    /// For so many milliseconds from the start of a sync it may answer. Its options have loops then.
+    pub lease: Option<u64>,
     /// It goes on where the file can't be locked.
     pub no_lock: bool,
     /// Its keys are taken for numbers, whatever the file says.
@@ -99,6 +102,7 @@ pub(crate) enum StrayMode<'a> {
 pub(crate) fn serve<'a>(words: &ArgMatches<'a>) -> Option<Request<'a>>
     ensures within { IfSome result IsWithin }
     ensures period { IfSome result (IsToldPeriod (found_of words.now)) }
+    ensures lease { IfSome result (IsToldLease (found_of words.now)) }
 {
     let options = serve_options(words)?;
     let mode = named_mode(words, SOCKET_MODE_ID)?;
@@ -107,6 +111,10 @@ pub(crate) fn serve<'a>(words: &ArgMatches<'a>) -> Option<Request<'a>>
     }
     let forgets = named_period(words)?;
     if forgets.is_some() && !speak_texts(options.loops) {
+        return None;
+    }
+    let lease = named_lease(words)?;
+    if lease.is_some() && options.loops.is_none() {
         return None;
     }
     let control = text(words, CONTROL_ID);
@@ -125,6 +133,7 @@ pub(crate) fn serve<'a>(words: &ArgMatches<'a>) -> Option<Request<'a>>
         until_eof: words.get_flag("until-eof"),
         stands_by,
         rewrites,
+        lease,
         no_lock: words.get_flag("no-lock"),
         as_numbers: words.get_flag(NUMBERS_ID),
         adopts: words.get_str(TEXT_ID) == Some(ADOPT),

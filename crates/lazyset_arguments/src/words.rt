@@ -1,8 +1,9 @@
 //! The words of the commands, as a table.
 use crate::ids::{
-    ADOPT, CONNECTIONS_ID, CONTROL_ID, EPOCHS_ID, FORGET_ID, LINES_ID, NUMBERS_ID, PASSES_ID,
-    RESP_ID, REWRITE_ID, SECRET_ID, SOCKET_ID, SOCKET_MODE_ID, STANDBY_ID, TEXT_ID,
+    ADOPT, CONNECTIONS_ID, CONTROL_ID, EPOCHS_ID, FORGET_ID, LEASE_ID, LINES_ID, NUMBERS_ID,
+    PASSES_ID, RESP_ID, REWRITE_ID, SECRET_ID, SOCKET_ID, SOCKET_MODE_ID, STANDBY_ID, TEXT_ID,
 };
+use crate::lease::{LEAST_LEASE, MOST_LEASE};
 use crate::period::{FEWEST_EPOCHS, MOST_EPOCHS, MOST_SECONDS};
 use crate::word::{Beside, Form, Word};
 use lz_serve::{MOST_CONNECTIONS, MOST_THREADS};
@@ -335,6 +336,15 @@ pub(crate) const REWRITE: Word = Word {
     default: None,
     beside: Beside::Needs(STANDBY_ID),
     help: "Writes the file anew before it opens it, so that the copies of a replicated volume agree. In format 4 it does so in place, and else by a new file that takes its name",
+};
+
+pub(crate) const LEASE: Word = Word {
+    id: LEASE_ID,
+    value_name: Some("MS"),
+    form: Form::Within(LEAST_LEASE as i64, MOST_LEASE as i64),
+    default: None,
+    beside: Beside::Serving(Some(CONNECTIONS_ID), &[]),
+    help: "Answers nothing unless a sync of the file that began less than MS milliseconds ago has succeeded, 100 to 60000: it makes one first. Where one fails or takes as long the service ends. For a file that another machine may take over",
 };
 
 pub(crate) const NO_LOCK: Word = Word {

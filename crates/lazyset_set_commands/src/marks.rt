@@ -15,7 +15,7 @@ use crate::running::run_on;
 use crate::serving::{Place, serve_on};
 use lazyset_file_commands::{Status, TEXTS_MARK, refuse, tell};
 use lz_disk::{DeviceFault, Disk};
-use lz_serve::{Observer, ServeOptions};
+use lz_serve::{Leased, ServeOptions};
 use lz_slot::Key;
 use lz_vault::{OpenFault, read_members};
 use std::alloc::{AllocError, Global};
@@ -79,7 +79,8 @@ where
     R: Net<Listener = TcpListener, Stream = TcpStream>,
     R: Threads + Wait + Clock + AllocGlobal + Sync,
     W: Write + Drop,
-    O: Observer + Heed + Sync,
+    O: Leased + Heed + Sync,
+    O::Tether: Send + Sync,
     D: Disk + Send,
     requires options { IsServable options }
     requires medium { MayOpen (D.device disk) }

@@ -14,7 +14,7 @@ use crate::sorting::AllProcessors;
 use lazyset_file_commands::{Status, refuse, send_line, tell};
 use lz_disk::Disk;
 use lz_proto::{SessionFault, send};
-use lz_serve::{Listener, Observer, ServeOptions, Served, Serving, serve, serve_loops};
+use lz_serve::{Leased, Listener, ServeOptions, Served, Serving, serve, serve_loops};
 use lz_set::{Blank, Named, NoGate, Pass, Set};
 use lz_vault::Refused;
 use std::io;
@@ -56,7 +56,8 @@ where
     R: Net<Listener = TcpListener, Stream = TcpStream>,
     R: Threads + Wait + Clock + AllocGlobal + Sync,
     W: Write + Drop,
-    O: Observer + Heed + Sync,
+    O: Leased + Heed + Sync,
+    O::Tether: Send + Sync,
     D: Disk + Send,
     requires options { IsServable options }
     requires medium { MayOpen (D.device disk) }
@@ -96,7 +97,8 @@ where
     R: Net<Listener = TcpListener, Stream = TcpStream>,
     R: Threads + Wait + Clock + AllocGlobal + Sync,
     W: Write + Drop,
-    O: Observer + Heed + Sync,
+    O: Leased + Heed + Sync,
+    O::Tether: Send + Sync,
     D: Disk + Send,
     N: Named + Send + Sync,
     requires { MayBeNamed D.device N.board N.first N.format blank }
@@ -139,7 +141,8 @@ fn serve_passes<R, O, D, N>(
 ) -> (Status, D)
 where
     R: Net + Threads + Wait + Clock + AllocGlobal + Sync,
-    O: Observer + Sync,
+    O: Leased + Sync,
+    O::Tether: Send + Sync,
     D: Disk + Send,
     N: Named + Send + Sync,
     requires may_call { All (MayCall N.board) passes.items }
@@ -170,7 +173,8 @@ fn serve_set<R, O, D, N>(
 ) -> Served
 where
     R: Net + Threads + Wait + Clock + AllocGlobal + Sync,
-    O: Observer + Sync,
+    O: Leased + Sync,
+    O::Tether: Send + Sync,
     D: Disk + Send,
     N: Named + Send + Sync,
     requires may_call { All (MayCall N.board) passes.items }

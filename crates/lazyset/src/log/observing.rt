@@ -3,13 +3,14 @@ use crate::identity::process;
 use crate::level::Level;
 use crate::log::{Log, Stoppable};
 use crate::many::Many;
+use crate::moored::Moored;
 use crate::shape::Shape;
 use crate::watched::Watched;
 use lazyset_arguments::{MAJOR, MINOR};
 use lazyset_set_commands::format_number;
 use lz_proto::Reply;
 use lz_resp::{Cleared, Figures};
-use lz_serve::{Clearings, Lack, Listener, Observer, Serving, Verb, close_listener};
+use lz_serve::{Clearings, Lack, Lease, Leased, Listener, Observer, Serving, Verb, close_listener};
 use std::io;
 use std::sync::Wait;
 use std::sync::atomic::Ordering;
@@ -191,6 +192,18 @@ where
     }
 
     fn stops(&self) -> bool {
+        self.see_lease();
         self.stops.load(Ordering::SeqCst)
+    }
+}
+
+impl<'a, R> Leased for Log<'a, R>
+where
+    R: Eprint + Clock + Wait + AllocGlobal,
+{
+    type Tether = Moored;
+
+    fn lease(&self) -> &Lease<Moored> {
+        &self.lease
     }
 }
