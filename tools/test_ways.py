@@ -52,7 +52,7 @@ class Ways(unittest.TestCase):
 
     def test_a_function_with_another_name(self) -> None:
         self.change("crates/lz_resp/src/reading.rt", "read_bulk(", "read_string(")
-        self.assert_differs("frame 23, read_bulk (lz_resp/src/reading.rt), isn't there", 1)
+        self.assert_differs("frame 24, read_bulk (lz_resp/src/reading.rt), isn't there", 1)
 
     def test_a_call_of_another_function(self) -> None:
         self.change("crates/lz_yard/src/plays.rt", "$parts.play_write_key(", "$parts.play_link(")
@@ -60,7 +60,7 @@ class Ways(unittest.TestCase):
 
     def test_a_function_of_another_type(self) -> None:
         self.change("crates/lz_serve/src/reader.rt", "impl FrameReader {", "impl PieceReader {")
-        self.assert_differs("frame 11, FrameReader::feed (lz_serve/src/reader.rt), isn't there", 1)
+        self.assert_differs("frame 12, FrameReader::feed (lz_serve/src/reader.rt), isn't there", 1)
 
     def test_another_stop_on_the_page(self) -> None:
         self.change("docs/ARCHITECTURE.md", "| 6 | `play_joined` |", "| 6 | `play_alone` |")

@@ -74,7 +74,7 @@ NOT_RUN: Dict[str, Dict[str, str]] = {
         "gluster volume start keys": VOLUME,
         "mount -t glusterfs -o direct-io-mode=enable,backup-volfile-servers=two:three one:/keys /var/lib/private/lazyset/keys": VOLUME,
         "lazyset make /var/lib/private/lazyset/keys/set 1100000 --format 4": ROOT,
-        "lazyset serve /var/lib/private/lazyset/keys/set 7000 64 --connections 1000 --resp --standby --rewrite --control /run/lazyset/control": ROOT,
+        "lazyset serve /var/lib/private/lazyset/keys/set 7000 64 --connections 1000 --resp --standby --rewrite --lease 1000 --control /run/lazyset/control": ROOT,
     },
 }
 

@@ -2,6 +2,7 @@
 
 from __future__ import annotations
 
+import contextlib
 import os
 import random
 import socket
@@ -14,7 +15,7 @@ from typing import IO, Callable, List, Sequence, Tuple, Union
 from trials.chosen import serving
 from trials.frames import by_frames
 from trials.guests import send_and_reset
-from trials.plain_frames import array
+from trials.plain_frames import PONG, array
 from trials.program import Ended, Program, Service
 from trials.remembered import CLAIM, HAS, LEFT, OF_MARKS, REMOVE, SLACK, Call, Caller, Load, Period, expect_judged
 from trials.report import Wrong, expect
@@ -36,6 +37,9 @@ SEVERAL, MEMBERS = 3, 100
 # How many lives a file has, when each is killed, and the pauses after them by turns: the last of these are longer than a key is remembered.
 LIVES, SOONEST, LATEST = 6, 0.2, 0.9
 PAUSES = (0.0, 0.3, 1.1, 2.3, 4.2)
+
+# How many places a service has that all clients hold.
+PLACES = 4
 
 # For how many seconds keys are removed too, and how often one client claims and removes a key of its own.
 REMOVING, OWN = 7.0, 120
@@ -300,11 +304,15 @@ def try_leavers(program: Program, folder: str) -> None:
 
 
 def try_full(program: Program, folder: str) -> None:
-    """A file without a free slot refuses a claim, and takes it once older keys are swept."""
+    """A file without a free slot refuses a claim, and takes it once older keys are swept, though clients hold all places and others wait for one."""
     period, file = Period(1), os.path.join(folder, "f")
     program.make(file, 40, 4)
-    with forgetting(program, file, period) as service:
+    with forgetting(program, file, period, "--connections", str(PLACES)) as service, contextlib.ExitStack() as others:
         caller = Caller(service.port)
+        caller.connection.sendall(array(b"PING"))
+        expect(caller.stream.readline(), PONG, "the reply to the first client")
+        for _ in range(2 * PLACES):
+            others.enter_context(socket.create_connection(("127.0.0.1", service.port)))
         claims = [array(b"SETNX", key, b"1") for key in keys_of(60)]
         caller.connection.sendall(b"".join(claims))
         told = [caller.stream.readline() for _ in claims]

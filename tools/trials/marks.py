@@ -23,7 +23,10 @@ TEXT, ADOPT, NUMBERS = (*by_frames(4), "--text"), (*by_frames(4), "--text=adopt"
 PLAIN = tuple(by_frames(4))
 
 IS_TEXT = "its keys are texts: serve it with --text, or with --numbers to take them for numbers"
-IS_NUMBERS = "its keys are numbers: serve it without --text; an older file of texts is marked by --text=adopt"
+IS_NUMBERS = (
+    "its keys are numbers (serve it without --text), or are forgotten (serve it with --forget, as before); "
+    "an older file of texts is marked by --text=adopt"
+)
 IS_ELSEWHERE = "some of its keys are outside room 0, so it is no older file of texts: serve it without --text"
 IS_OLD = "a file of format 1 has no room for the mark of texts: renew it, then serve it with --text=adopt"
 IS_FULL = "no slot is free for the mark of texts: grow the file first"

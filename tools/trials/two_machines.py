@@ -43,6 +43,9 @@ AT_ONCE = 500
 # How long a service is loaded before it is gone, and how long a client waits between an answer and its next addition.
 LOADED, PAUSE = 1.5, 0.002
 
+# The lease of each service, in milliseconds, as the page has it.
+LEASE = 1000
+
 # For how many seconds a machine that was cut off reaches the volume again before its service goes on: its mount has connected anew by then.
 REACHED = 6
 
@@ -83,6 +86,25 @@ class Adder(threading.Thread):
                 self.may_add.wait()
 
 
+class Looker(threading.Thread):
+    """A client that looks up all the time, until that isn't answered, and when it was told so."""
+
+    def __init__(self, path: str) -> None:
+        super().__init__(daemon=True)
+        self.told_at: List[float] = []
+        self.socket = socket.socket(socket.AF_UNIX)
+        self.socket.settimeout(2 * SERVES_WITHIN)
+        self.socket.connect(path)
+
+    def run(self) -> None:
+        with self.socket, self.socket.makefile("rb") as replies, contextlib.suppress(OSError):
+            self.socket.sendall(b"has 1\n")
+            while replies.readline() in (b"yes\n", b"no\n"):
+                self.told_at.append(time.monotonic())
+                time.sleep(PAUSE)
+                self.socket.sendall(b"has 1\n")
+
+
 class Service:
     """A service of a machine, which stands by where another one has the file. Its sockets and its log are the machine's own."""
 
@@ -90,8 +112,9 @@ class Service:
         self.machine, self.file = machine, file_of(machine)
         self.socket, self.control, self._log = (os.path.join(machine.folder, name) for name in ("socket", "control", "log"))
         words = ["serve", self.file, "-", "64", "--connections", "64", "--socket", self.socket, "--standby", "--control", self.control]
-        if "--rewrite" in program.run("serve", "--help").text:
-            words.append("--rewrite")
+        text = program.run("serve", "--help").text
+        self.has_lease = "--lease" in text
+        words += [word for word in ("--rewrite", f"--lease={LEASE}") if word.partition("=")[0] in text]
         with open(self._log, "w", encoding="utf-8") as log:
             self.process = subprocess.Popen(
                 [*machine.inside, program.path, *words], stdin=subprocess.DEVNULL, stdout=subprocess.PIPE, stderr=log, text=True, start_new_session=True
@@ -263,8 +286,9 @@ class Pair:
         may_add = threading.Event()
         may_add.set()
         adders = [Adder(old.socket, self.keys, may_add) for _ in range(CLIENTS)]
-        for adder in adders:
-            adder.start()
+        looker = Looker(old.socket)
+        for client in (looker, *adders):
+            client.start()
         time.sleep(LOADED)
         if kind == "idle":
             may_add.clear()
@@ -274,11 +298,14 @@ class Pair:
         self.volume.come_back(old, kind)
         may_add.set()
         status = old.ended()
-        for adder in adders:
-            adder.join(SERVES_WITHIN)
+        for client in (looker, *adders):
+            client.join(SERVES_WITHIN)
         self.serving = new
         expect(status, -signal.SIGKILL if kind == "killed" else 1, f"the status of the old service ({kind})")
         self._judge([it for adder in adders for it in adder.answers], served, kind)
+        if old.has_lease:
+            expect([it - served for it in looker.told_at if it > served], [], f"lookups by the old service after the new one served ({kind})")
+            expect(len(looker.told_at) > 0, True, "that lookups were answered")
         return served - began
 
     def _judge(self, answers: Sequence[Answer], served: float, kind: str) -> None:
