@@ -1,0 +1,2 @@
+pub mod PutKeys
+pub mod RaisableTexts
