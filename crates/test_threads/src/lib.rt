@@ -1,4 +1,4 @@
-//! Threads that share a set or a board, sessions of the service, and what passes see of one another's calls. It has nothing but tests.
+//! Threads that share a set or a board, sessions and leases of the service, and what passes see of one another's calls. It has nothing but tests.
 #![tactic(auto)]
 
 #[cfg(test)]
@@ -13,6 +13,8 @@ mod drills;
 mod gates;
 #[cfg(test)]
 mod glancing;
+#[cfg(test)]
+mod leases;
 #[cfg(test)]
 mod listing;
 #[cfg(test)]
