@@ -1,9 +1,16 @@
--- Worked exchanges that ask the service itself.
+-- Exchanges that ask the service itself: what they come to, and worked ones.
 use Rattle.std.{proofs.Common.{◌≡◌, ℕ, Bool, true, false, List, [], ◌∷◌, if◌then◌else◌, refl, codes}, specs.Fmt.{digits}}
 use Rattle.lz_proto.specs.declared.{reply.Reply.TheVariants.{Yes}, end.End.{End, TheVariants.{Done, Quit}}}
-use Rattle.lz_resp.{specs.{declared.query.Query.TheVariants.{Size, Shutdown}, Commands.{error}}, proofs.QueryRows.{seen}}
+use Rattle.lz_resp.{specs.{declared.{query.Query.{Query, TheVariants.{Size, Info, Clear, Shutdown}}, figures.Figures.{Figures}}, Queries.{ends_service}, Commands.{error}}, proofs.QueryRows.{seen}}
 use Rattle.lz_board.specs.declared.pass.Pass.{Pass}
 use Rattle.lz_serve.{specs.{Conversations.{IsTold}, Exchanges.{tells}}, proofs.ConversationRows.{any, gets}}
+
+-- only a service that may be ended is
+pub stoppable : (query : Query) (f : Figures) → ends_service query f ≡ true → f.stoppable ≡ true
+stoppable Size f ends = cc
+stoppable (Info sections) f ends = cc
+stoppable (Clear room) f ends = cc
+stoppable Shutdown f ends = ends
 
 size : IsTold any 1 [] (tells Size) [] (codes ":3\r\n") Done
 unfolding digits

@@ -180,8 +180,9 @@ pub trait Observer: Drop {
     /// The clearings of the service.
     fn clearings(&self) -> &Clearings;
 
-    /// A client has asked for the end of the service, which by its figures may be had.
-    fn shut_down(&self);
+    /// A client has asked for the end of the service, which by these figures may be had.
+    fn shut_down(&self, figures: &Figures)
+        requires { figures.now.stoppable ≡ true };
 
     /// A session has found that the device failed, or that no sync is left: nothing more is answered until the file is opened
     /// again. Told once.

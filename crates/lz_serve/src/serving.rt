@@ -393,8 +393,6 @@ fn farewell_turn<S: Stream>(crowd: &Crowd<S>) -> Duration {
 
 // Whether it is no later than a farewell's time after this.
 fn is_within<R: Clock>(rt: &R, began: Duration) -> bool {
-    match rt.monotonic() {
-        Ok(now) => now.saturating_sub(began) < Duration::from_millis(FAREWELL_MS),
-        Err(_) => false,
-    }
+    let now = rt.monotonic().unwrap_or(Duration::MAX);
+    now.saturating_sub(began) < Duration::from_millis(FAREWELL_MS)
 }

@@ -86,7 +86,7 @@ impl Observer for Counts {
         &self.clearings
     }
 
-    fn shut_down(&self) {}
+    fn shut_down(&self, _figures: &Figures) {}
 
     fn halted(&self) {
         self.halted.set(self.halted.get().wrapping_add(1));

@@ -201,7 +201,7 @@ impl Observer for Deaf {
         &self.clearings
     }
 
-    fn shut_down(&self) {}
+    fn shut_down(&self, _figures: &Figures) {}
 
     fn halted(&self) {}
 

@@ -180,7 +180,7 @@ where
         &self.clearings
     }
 
-    fn shut_down(&self) {
+    fn shut_down(&self, _figures: &Figures) {
         self.stop();
     }
 

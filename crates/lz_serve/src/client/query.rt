@@ -16,6 +16,7 @@ impl<S: Stream> Client<S> {
 
     /// Tells the first exchange, if it asks the service itself, and says whether it did.
     #[inline(always)]
+    #[tactic(auto, using(crate::proofs::QueryRows::stoppable))]
     pub(super) fn tell_query<O: Observer>(&mut self, observer: &O) -> bool
         ensures lines { KeepsLines self.old self.new }
         ensures lost { self.old.lost ≡ true → self.new ≡ self.old }
@@ -33,7 +34,7 @@ impl<S: Stream> Client<S> {
             return false;
         };
         if query.ends_service(&figures) {
-            observer.shut_down();
+            observer.shut_down(&figures);
         }
         self.tell_figures(&figures)
     }

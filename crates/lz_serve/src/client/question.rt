@@ -56,7 +56,7 @@ impl Question {
     }
 
     /// A request is put to a pass that is of no connection.
-    pub fn of_none(request: Request, pass: &Pass) -> Question
+    pub(crate) fn of_none(request: Request, pass: &Pass) -> Question
         requires { request ≢ Request.Quit }
         ensures { result ≡ record { connection = 0; line = 0; request = request; before = pass.now; earlier = false } }
     {
