@@ -39,7 +39,8 @@ pub(crate) fn before(room: u8, age: u8) -> u8
 
 /// The room of the epoch after the one of this room.
 pub(crate) fn after(room: u8) -> u8
-    ensures { result < 14 }
+    ensures room { room < 14 → result ≡ (room + 1) % 14 }
+    ensures range { result < 14 }
 {
     (room % EPOCH_ROOMS + 1) % EPOCH_ROOMS
 }
