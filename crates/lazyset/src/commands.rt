@@ -11,7 +11,7 @@ use crate::growing::grow;
 use crate::heard::Heard;
 use crate::held::is_held;
 use crate::new_files::{make, make_keys, renew};
-use crate::over_disk::run_over;
+use crate::over_disk::{Opened, run_over};
 use crate::source::Source;
 use crate::starting::serve_file;
 use crate::told::Told;
@@ -130,7 +130,8 @@ where
         buckets,
         most_buckets: header.map_or(buckets, |header| header.format.most_buckets()),
     };
-    let (status, disk) = run_over(rt, &mut rt.reader(), writer, &told, file, disk, buckets);
+    let opened = Opened { path: file, disk };
+    let (status, disk) = run_over(rt, &mut rt.reader(), writer, &told, opened, buckets);
     say_cause(rt, file, disk.cause());
     Ok(status)
 }

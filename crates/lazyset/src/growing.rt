@@ -8,7 +8,7 @@ use crate::beside::{Name, Replaced, create_beside};
 use crate::fault::Fault;
 use crate::files::{header_on, say_cause};
 use crate::formats::{format_for, kept_format};
-use crate::over_disk::grow_over;
+use crate::over_disk::{Opened, grow_over};
 use lazyset_arguments::New;
 use lazyset_set_commands::{Status, format_number};
 use lz_disk::{Disk, FileDisk};
@@ -75,7 +75,8 @@ where
         slots,
         format,
     };
-    let (status, old, new) = grow_over(rt, writer, file, disk, made, new, &mut name);
+    let old = Opened { path: file, disk };
+    let (status, old, new) = grow_over(rt, writer, old, made, new, &mut name);
     say_cause(rt, file, old.cause());
     say_cause(rt, beside.as_str(), new.cause());
     name.end();

@@ -25,11 +25,18 @@ use lazyset_set_commands::{
     Heed, Lines, Shelf, Standing, Status, copy_on, grow_on, make_keys_on, make_on, renew_on, run_on,
 };
 use lz_disk::Disk;
+use lz_slot::Header;
 use std::fs::File;
 use std::io::{Read, Write};
 use std::rt::Files;
 use std::sync::Wait;
 use std::time::Clock;
+
+/// A file that was opened.
+pub struct Opened<'a, D> {
+    pub path: &'a str,
+    pub disk: D,
+}
 
 /// Makes the file on its disk, and hands the disk back.
 pub fn make_over<R, W, D>(rt: &R, writer: &mut W, new: New<'_>, disk: D) -> (Status, D)
@@ -63,8 +70,11 @@ where
     ensures { IsTrue (D.device disk).honest → LeavesListed new.entry.format (named_by new.entry.format lines.entry) new.entry.slots (I.remaining reader.old) (D.device disk) (D.device result.1) }
 {
     let mut disk = shown(rt, new.file, disk, bytes_of(new.slots));
-    let (slots, format) = (new.slots, new.format);
-    let status = make_keys_on(rt.alloc(), reader, writer, &mut disk, slots, format, lines);
+    let header = Header {
+        format: new.format,
+        slots: new.slots,
+    };
+    let status = make_keys_on(rt.alloc(), reader, writer, &mut disk, header, lines);
     (status, disk.end())
 }
 
@@ -88,8 +98,11 @@ where
         → LeavesCopy new.entry.format new.entry.slots (record { input = I.remaining reader.old; before = A.contents asker.old; after = A.contents asker.new }) (D.device disk) (D.device result.1) }
 {
     let mut disk = shown(rt, new.file, disk, bytes_of(new.slots));
-    let (slots, format) = (new.slots, new.format);
-    let status = copy_on(rt.alloc(), reader, asker, writer, &mut disk, slots, format);
+    let header = Header {
+        format: new.format,
+        slots: new.slots,
+    };
+    let status = copy_on(rt.alloc(), reader, asker, writer, &mut disk, header);
     (status, disk.end())
 }
 
@@ -139,12 +152,11 @@ fn bytes_rewritten<R: Files<File = File>>(rt: &R, path: &str) -> Option<u64> {
     Some(length.saturating_mul(2))
 }
 
-/// Grows the file on the disk of this path into another one on its disk, which takes the name that the shelf has, and hands both disks back.
+/// Grows this file into another one on its disk, which takes the name that the shelf has, and hands both disks back.
 pub fn grow_over<R, W, O, N, P>(
     rt: &R,
     writer: &mut W,
-    old_path: &str,
-    old: O,
+    old: Opened<'_, O>,
     made: New<'_>,
     new: N,
     shelf: &mut P,
@@ -157,24 +169,27 @@ where
     P: Shelf,
     requires rooms { last_room_of made.format ≡ last_room }
     requires stands { P.stands shelf.old ≡ Standing.Old }
-    ensures { IsTrue (O.device old).honest → IsTrue (N.device new).honest → (n : ℕ) (S : Keys) → Holds (O.device old).medium.seen n S
-        → (t : List ℕ) → MayBeLeft (O.device old) (O.device result.1) (N.device result.2) (P.stands shelf.new) t → IsLeftOrHolds (O.device old) made.entry.format made.entry.slots S t }
+    ensures { IsTrue (O.device old.entry.disk).honest → IsTrue (N.device new).honest → (n : ℕ) (S : Keys) → Holds (O.device old.entry.disk).medium.seen n S
+        → (t : List ℕ) → MayBeLeft (O.device old.entry.disk) (O.device result.1) (N.device result.2) (P.stands shelf.new) t → IsLeftOrHolds (O.device old.entry.disk) made.entry.format made.entry.slots S t }
 {
-    let mut old = shown(rt, old_path, old, None);
+    let Opened { path, disk } = old;
+    let mut old = shown(rt, path, disk, None);
     let mut new = shown(rt, made.file, new, bytes_of(made.slots));
-    let (slots, format) = (made.slots, made.format);
-    let status = grow_on(rt.alloc(), writer, &mut old, &mut new, shelf, format, slots);
+    let header = Header {
+        format: made.format,
+        slots: made.slots,
+    };
+    let status = grow_on(rt.alloc(), writer, &mut old, &mut new, shelf, header);
     (status, old.end(), new.end())
 }
 
-/// Serves a session over the disk of this path, and hands the disk back.
+/// Serves a session over the disk of this file, and hands the disk back.
 pub fn run_over<R, I, W, H, D>(
     rt: &R,
     reader: &mut I,
     writer: &mut W,
     heed: &H,
-    path: &str,
-    disk: D,
+    file: Opened<'_, D>,
     buckets: usize,
 ) -> (Status, D)
 where
@@ -184,11 +199,12 @@ where
     H: Heed,
     D: Disk,
     requires buckets { (1 ≤ buckets) × (buckets ≤ most_buckets) }
-    requires medium { MayOpen (D.device disk) }
-    ensures { (N : ℕ) (S : Keys) → IsTrue (D.device disk).honest → Holds (D.device disk).medium.seen N S
-        → SessionOfSet (PassMayAnswer (format_of (D.device disk).medium.seen) N) N S result.0 (I.remaining reader.old) (I.remaining reader.new) (W.contents writer.old) (W.contents writer.new) (D.device disk) (D.device result.1)
-        ⊎ FailedOpen result.0 (W.contents writer.old) (W.contents writer.new) (D.device disk) (D.device result.1) }
+    requires medium { MayOpen (D.device file.disk) }
+    ensures { (N : ℕ) (S : Keys) → IsTrue (D.device file.entry.disk).honest → Holds (D.device file.entry.disk).medium.seen N S
+        → SessionOfSet (PassMayAnswer (format_of (D.device file.entry.disk).medium.seen) N) N S result.0 (I.remaining reader.old) (I.remaining reader.new) (W.contents writer.old) (W.contents writer.new) (D.device file.entry.disk) (D.device result.1)
+        ⊎ FailedOpen result.0 (W.contents writer.old) (W.contents writer.new) (D.device file.entry.disk) (D.device result.1) }
 {
+    let Opened { path, disk } = file;
     let disk = shown(rt, path, disk, None);
     let (status, disk) = run_on(rt, reader, writer, heed, disk, buckets);
     (status, disk.end())

@@ -46,25 +46,13 @@ where
     match answer {
         Ok(slots) => {
             say_anew(rt, file, slots, lines);
-            Ok(Held { disk, old: None })
+            return Ok(Held { disk, old: None });
         }
-        Err(RewriteFault::Device) => Err(Ok(refuse_failed(rt, writer, file, &disk, lines))),
-        Err(RewriteFault::Format) => replace(rt, writer, file, disk, lines),
+        Err(RewriteFault::Device) => {
+            return Err(Ok(refuse_failed(rt, writer, file, &disk, lines)));
+        }
+        Err(RewriteFault::Format) => {}
     }
-}
-
-// Puts a new file in the place of this one.
-fn replace<R, W>(
-    rt: &R,
-    writer: &mut W,
-    file: &str,
-    disk: FileDisk,
-    lines: Lines,
-) -> Result<Held, Result<Status, Fault>>
-where
-    R: Files<File = File> + Eprint + Clock + AllocGlobal,
-    W: Write + Drop,
-{
     let mut disk = disk;
     let Some(header) = header_on(&mut disk) else {
         if disk.cause().is_none() {

@@ -135,22 +135,21 @@ where
     let disk = shown(rt, file, disk, bytes_read(rt, file, &wanted));
     let socket = socket_of(rt, &place);
     let log = Log::new(rt, file, watched, around, marks_of(options.loops), lease);
+    let terms = Terms {
+        options: &options,
+        place,
+        wanted,
+    };
+    let signals = EndSignals {
+        control: control.as_ref(),
+        until_eof: service.until_eof,
+    };
     let Ended {
         status,
         disk,
         waiting,
         writer: _,
-    } = serve_until(
-        rt,
-        writer,
-        &log,
-        disk,
-        &options,
-        place,
-        wanted,
-        control.as_ref(),
-        service.until_eof,
-    );
+    } = serve_until(rt, writer, &log, disk, terms, signals);
     let disk = disk.end();
     log.say_cause(disk.cause());
     take_away_sockets(rt, service.control, socket);
@@ -253,6 +252,21 @@ impl Telling for ServeOptions {
     }
 }
 
+/// How a set is served, where, and for what its keys are taken.
+pub struct Terms<'a, T> {
+    pub options: &'a T,
+    pub place: Place<'a>,
+    pub wanted: Wanted,
+}
+
+/// By what a service hears whether it is to end.
+pub struct EndSignals<'a> {
+    /// The socket on which it is asked to, where it has one.
+    pub control: Option<&'a Control>,
+    /// It is to end when standard input does.
+    pub until_eof: bool,
+}
+
 /// What a service leaves.
 pub struct Ended<D, W> {
     pub status: Status,
@@ -268,11 +282,8 @@ pub fn serve_until<R, W, O, D, T>(
     writer: W,
     log: &O,
     disk: D,
-    options: &T,
-    place: Place<'_>,
-    wanted: Wanted,
-    control: Option<&Control>,
-    until_eof: bool,
+    terms: Terms<'_, T>,
+    signals: EndSignals<'_>,
 ) -> Ended<D, W>
 where
     R: Net<Listener = TcpListener, Stream = TcpStream>,
@@ -282,10 +293,16 @@ where
     O::Tether: Send + Sync,
     D: Disk + Send + Drop,
     T: Telling,
-    requires options { IsServable (T.told options.now) }
+    requires options { IsServable (T.told terms.options.now) }
     requires medium { MayOpen (D.device disk) }
-    ensures ran { KeptService D.device wanted (T.told options.now).buckets (T.told options.now).passes (option_map (λ p. p.now) place.entry.path) result.status (W.contents writer) (W.contents result.writer) disk result.disk }
+    ensures ran { KeptService D.device terms.entry.wanted (T.told terms.entry.options.now).buckets (T.told terms.entry.options.now).passes (option_map (λ p. p.now) terms.entry.place.path) result.status (W.contents writer) (W.contents result.writer) disk result.disk }
 {
+    let Terms {
+        options,
+        place,
+        wanted,
+    } = terms;
+    let EndSignals { control, until_eof } = signals;
     // The closure holds a `Vec`: of one that holds an `Option<&str>`, as the place does, and none, the kit can't state the contract.
     let nobody = Vec::new(rt.alloc());
     let is_over = &AtomicBool::new(false);

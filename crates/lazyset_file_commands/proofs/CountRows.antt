@@ -11,7 +11,7 @@ abbrev good : Format → ℕ → ℕ → ℕ → List ℕ
 good F slots members free = lines_of_counts F slots members free ++ (codes "good" ++ 10 ∷ [])
 
 -- a set has one size
-no_larger : (S : Keys) (n m : ℕ) → HasMembers S n → HasMembers S m → n ≤ m
+pub no_larger : (S : Keys) (n m : ℕ) → HasMembers S n → HasMembers S m → n ≤ m
 no_larger S n m one other =
     let within = length-le_from_is_member nat_eq_equiv one.keys other.keys one.distinct
     (λ q is. sym (members_among other.keys q) ∙ sym (other.all q) ∙ one.all q ∙ members_among one.keys q ∙ is) in

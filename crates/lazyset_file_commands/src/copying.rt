@@ -15,7 +15,7 @@ use crate::status::Status;
 use crate::telling::{NO_MEMORY, NO_READ, status_sent, tell};
 use lz_disk::Disk;
 use lz_scan_client::{ScanFault, Shape, ToldKeys, ask_shape, scan_rooms};
-use lz_slot::Format;
+use lz_slot::{Format, Header};
 use lz_vault::{MakeFault, make_with};
 use std::alloc::Global;
 use std::io::{Read, Write};
@@ -32,7 +32,7 @@ pub enum CopyFault {
     OfMaking(MakeFault),
 }
 
-/// Makes a file of this format with so many slots, of which the first hold the keys that a service tells to a scan of all its rooms, and
+/// Makes a file with this head, of whose slots the first hold the keys that a service tells to a scan of all its rooms, and
 /// says so: `copied M`, or why not, by the first of these: `refused 2` where no file has so many slots, before anything is asked;
 /// `noread` where the connection failed or ended, `noreply` where a reply is no page of keys; `refused 9 M S` where M keys or more have no room
 /// in S slots; and `refused N` with the fault of a making. Failed where a device failed or the connection did, or there was no
@@ -43,22 +43,21 @@ pub fn copy_on<R: Read, A: Write, W: Write + Drop, D: Disk>(
     asker: &mut A,
     writer: &mut W,
     disk: &mut D,
-    slots: u64,
-    format: Format,
+    header: Header,
 ) -> Status
-    requires rooms { last_room_of format ≡ last_room }
+    requires rooms { last_room_of header.format ≡ last_room }
     ensures told { (answer : Answer ℕ CopyFault)
-        × IsCopy format slots (record { input = R.remaining reader.old; before = A.contents asker.old; after = A.contents asker.new }) (D.device disk.old) (D.device disk.new) answer
+        × IsCopy header.format header.slots (record { input = R.remaining reader.old; before = A.contents asker.old; after = A.contents asker.new }) (D.device disk.old) (D.device disk.new) answer
         × IfErr answer (λ fault. IsToldFirst fault → disk.new ≡ disk.old)
         × Tells (W.contents writer.old) (W.contents writer.new) (copy_text answer) (copy_status answer) result }
-    ensures uncalled { IsBadCount format slots → (reader.new ≡ reader.old) × (asker.new ≡ asker.old) × (disk.new ≡ disk.old) }
-    ensures safe { IsTrue (D.device disk.old).honest → (MayBeMade (D.device disk.old).medium.seen slots → ⊥) → WritesNothing (D.device disk.old) (D.device disk.new) }
+    ensures uncalled { IsBadCount header.format header.slots → (reader.new ≡ reader.old) × (asker.new ≡ asker.old) × (disk.new ≡ disk.old) }
+    ensures safe { IsTrue (D.device disk.old).honest → (MayBeMade (D.device disk.old).medium.seen header.slots → ⊥) → WritesNothing (D.device disk.old) (D.device disk.new) }
     ensures any_moment { IsTrue (D.device disk.old).honest
-        → LeavesCopy format slots (record { input = R.remaining reader.old; before = A.contents asker.old; after = A.contents asker.new }) (D.device disk.old) (D.device disk.new) }
+        → LeavesCopy header.format header.slots (record { input = R.remaining reader.old; before = A.contents asker.old; after = A.contents asker.new }) (D.device disk.old) (D.device disk.new) }
     ensures faults { (D.device disk.old).faults ≤ (D.device disk.new).faults }
     ensures honest { (D.device disk.new).honest ≡ (D.device disk.old).honest }
 {
-    let answer = make_copy(alloc, reader, asker, disk, slots, format);
+    let answer = make_copy(alloc, reader, asker, disk, header.slots, header.format);
     tell_answer(writer, answer)
 }
 

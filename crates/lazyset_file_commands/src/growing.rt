@@ -20,7 +20,7 @@ use crate::status::Status;
 use crate::telling::status_sent;
 use lz_disk::{DeviceFault, Disk};
 use lz_proto::SessionFault;
-use lz_slot::Format;
+use lz_slot::{Format, Header};
 use lz_vault::{MakeFault, OpenFault, RenewFault, read_members, renew};
 use std::alloc::Global;
 use std::io::Write;
@@ -49,7 +49,7 @@ pub trait Shelf {
         ensures failed { OnErr result (stands self.new ≡ Standing.Either) };
 }
 
-/// Makes a new file of this format with so many slots that holds the members of the old one, reads both again, puts the new one in
+/// Makes a new file with this head that holds the members of the old one, reads both again, puts the new one in
 /// the old one's place, and says so: `grown M`, or else what `renew_on` would. Where the new file can't be read again, or isn't put,
 /// that is `refused new 3`. Failed where a device failed or there was no memory, and where the line could not be written.
 pub fn grow_on<W: Write + Drop, O: Disk, N: Disk, P: Shelf>(
@@ -58,30 +58,28 @@ pub fn grow_on<W: Write + Drop, O: Disk, N: Disk, P: Shelf>(
     old: &mut O,
     new: &mut N,
     shelf: &mut P,
-    format: Format,
-    slots: u64,
+    header: Header,
 ) -> Status
-    requires rooms { last_room_of format ≡ last_room }
+    requires rooms { last_room_of header.format ≡ last_room }
     requires stands { P.stands shelf.old ≡ Standing.Old }
     ensures told { (answer : Answer ℕ RenewFault)
-        × IsGrowth (O.device old.old) (O.device old.new) (N.device new.old) (N.device new.new) (new.new ≡ new.old) (P.stands shelf.new) format slots answer
+        × IsGrowth (O.device old.old) (O.device old.new) (N.device new.old) (N.device new.new) (new.new ≡ new.old) (P.stands shelf.new) header.format header.slots answer
         × Tells (W.contents writer.old) (W.contents writer.new) (growth_text answer) (renewal_status answer) result }
-    ensures uncalled { IsBadCount format slots → (old.new ≡ old.old) × (new.new ≡ new.old) × (shelf.new ≡ shelf.old) }
+    ensures uncalled { IsBadCount header.format header.slots → (old.new ≡ old.old) × (new.new ≡ new.old) × (shelf.new ≡ shelf.old) }
     ensures reads { OnlySyncs (O.device old.old) (O.device old.new) }
-    ensures safe { IsTrue (N.device new.old).honest → (MayBeMade (N.device new.old).medium.seen slots → ⊥) → WritesNothing (N.device new.old) (N.device new.new) }
+    ensures safe { IsTrue (N.device new.old).honest → (MayBeMade (N.device new.old).medium.seen header.slots → ⊥) → WritesNothing (N.device new.old) (N.device new.new) }
 
-    // A crash at any moment leaves under the name what it might have left of the old file before, or a file of its set, of this format
-    // with so many slots.
+    // A crash at any moment leaves under the name what it might have left of the old file before, or a file of its set with this head.
     ensures named { IsTrue (O.device old.old).honest → IsTrue (N.device new.old).honest → (n : ℕ) (S : Keys) → Holds (O.device old.old).medium.seen n S
-        → (t : List ℕ) → MayBeLeft (O.device old.old) (O.device old.new) (N.device new.new) (P.stands shelf.new) t → IsLeftOrHolds (O.device old.old) format slots S t }
+        → (t : List ℕ) → MayBeLeft (O.device old.old) (O.device old.new) (N.device new.new) (P.stands shelf.new) t → IsLeftOrHolds (O.device old.old) header.format header.slots S t }
 
     // And of the new file what it might have left before, or nothing that is made, or exactly the old one's members.
     ensures any_moment { IsTrue (O.device old.old).honest → IsTrue (N.device new.old).honest → (n : ℕ) (S : Keys) → Holds (O.device old.old).medium.seen n S
-        → LeavesOnly (N.device new.old) (N.device new.new) (λ t. IsImage (N.device new.old).medium t ⊎ IsUnmadeOrHolds format slots S t) }
+        → LeavesOnly (N.device new.old) (N.device new.new) (λ t. IsImage (N.device new.old).medium t ⊎ IsUnmadeOrHolds header.format header.slots S t) }
     ensures faults { (N.device new.old).faults ≤ (N.device new.new).faults }
     ensures honest { (N.device new.new).honest ≡ (N.device new.old).honest }
 {
-    let answer = grow(alloc, old, new, shelf, format, slots);
+    let answer = grow(alloc, old, new, shelf, header.format, header.slots);
     tell_answer(writer, &answer)
 }
 

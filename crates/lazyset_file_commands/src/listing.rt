@@ -13,7 +13,7 @@ use crate::refusal::{refuse_line, send_line, send_two};
 use crate::status::Status;
 use crate::telling::{NO_MEMORY, NO_READ, status_sent, tell};
 use lz_disk::Disk;
-use lz_slot::Format;
+use lz_slot::{Format, Header};
 use lz_vault::{MakeFault, make_with};
 use std::alloc::Global;
 use std::io::{Read, Write};
@@ -27,7 +27,7 @@ pub enum ListingFault {
     OfMaking(MakeFault),
 }
 
-/// Makes a file of this format with so many slots, of which the first hold the keys that the reader's lines name, after the mark of texts
+/// Makes a file with this head, of whose slots the first hold the keys that the reader's lines name, after the mark of texts
 /// where they are texts, and after that of their secret too where there is one. It says so: `made N`, or why not, by the first of these:
 /// `refused 2` where no file has so many slots, before anything is read; `line L` with the first line at fault where it names no key of
 /// the format or doesn't end, `twice L` where its key stands in a line above; `refused 9 M S` where M keys have no room in S slots; and
@@ -38,22 +38,21 @@ pub fn make_keys_on<R: Read, W: Write + Drop, D: Disk>(
     reader: &mut R,
     writer: &mut W,
     disk: &mut D,
-    slots: u64,
-    format: Format,
+    header: Header,
     lines: Lines<'_>,
 ) -> Status
-    requires { HasPlaceFor format lines }
-    ensures told { (answer : Answer (Unit {0}) ListingFault) × IsListing format (named_by format lines.entry) slots (R.remaining reader.old) (D.device disk.old) (D.device disk.new) answer
+    requires { HasPlaceFor header.format lines }
+    ensures told { (answer : Answer (Unit {0}) ListingFault) × IsListing header.format (named_by header.format lines.entry) header.slots (R.remaining reader.old) (D.device disk.old) (D.device disk.new) answer
         × IfErr answer (λ fault. IsToldFirst fault → disk.new ≡ disk.old)
-        × Tells (W.contents writer.old) (W.contents writer.new) (listing_text slots answer) (listing_status answer) result }
-    ensures uncalled { IsBadCount format slots → (reader.new ≡ reader.old) × (disk.new ≡ disk.old) }
-    ensures safe { IsTrue (D.device disk.old).honest → (MayBeMade (D.device disk.old).medium.seen slots → ⊥) → WritesNothing (D.device disk.old) (D.device disk.new) }
-    ensures any_moment { IsTrue (D.device disk.old).honest → LeavesListed format (named_by format lines.entry) slots (R.remaining reader.old) (D.device disk.old) (D.device disk.new) }
+        × Tells (W.contents writer.old) (W.contents writer.new) (listing_text header.slots answer) (listing_status answer) result }
+    ensures uncalled { IsBadCount header.format header.slots → (reader.new ≡ reader.old) × (disk.new ≡ disk.old) }
+    ensures safe { IsTrue (D.device disk.old).honest → (MayBeMade (D.device disk.old).medium.seen header.slots → ⊥) → WritesNothing (D.device disk.old) (D.device disk.new) }
+    ensures any_moment { IsTrue (D.device disk.old).honest → LeavesListed header.format (named_by header.format lines.entry) header.slots (R.remaining reader.old) (D.device disk.old) (D.device disk.new) }
     ensures faults { (D.device disk.old).faults ≤ (D.device disk.new).faults }
     ensures honest { (D.device disk.new).honest ≡ (D.device disk.old).honest }
 {
-    let answer = make_listed(alloc, reader, disk, slots, format, lines);
-    tell_answer(writer, slots, answer)
+    let answer = make_listed(alloc, reader, disk, header.slots, header.format, lines);
+    tell_answer(writer, header.slots, answer)
 }
 
 // Makes the file.

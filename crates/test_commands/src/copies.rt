@@ -2,7 +2,7 @@
 use crate::commands::disk_with;
 use lazyset_set_commands::copy_on;
 use lz_disk::MemoryDisk;
-use lz_slot::Format;
+use lz_slot::{Format, Header};
 use std::alloc::{AllocError, Global};
 use std::test::Fail;
 use test_support::{Narrow, Slow};
@@ -62,8 +62,10 @@ fn copy(alloc: Global, text: &[u8], step: usize, slots: u64) -> Result<Copied, A
         &mut asked,
         &mut printed,
         &mut disk,
-        slots,
-        Format::Three,
+        Header {
+            format: Format::Three,
+            slots,
+        },
     );
     Ok(Copied {
         code: status.code(),
@@ -156,8 +158,10 @@ fn a_request_that_fails_ends_a_copy(rt: HostRuntime) -> Result<(), Fail> {
             &mut asker,
             &mut printed,
             &mut disk,
-            4,
-            Format::Three,
+            Header {
+                format: Format::Three,
+                slots: 4,
+            },
         );
         let is_told = status.code() == 1 && printed.as_slice() == b"noread\n".as_slice();
         assert!(rt; is_told && disk.calls() == 0, "after {count} bytes");

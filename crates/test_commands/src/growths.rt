@@ -4,7 +4,7 @@ ghost use Rattle.std.specs.Prelude.{◌≡◌};
 use crate::commands::disk_with;
 use lazyset_set_commands::{Shelf, Shown, Standing, grow_on, survey_on};
 use lz_disk::{DeviceFault, Disk, MemoryDisk};
-use lz_slot::Format;
+use lz_slot::{Format, Header};
 use std::alloc::{AllocError, Global};
 use std::test::Fail;
 use test_support::{ENDS, FAILINGS, Failing, set_failing};
@@ -78,8 +78,10 @@ fn grow(alloc: Global, old: MemoryDisk, new: MemoryDisk, fails: bool, slots: u64
         &mut old,
         &mut new,
         &mut name,
-        Format::Two,
-        slots,
+        Header {
+            format: Format::Two,
+            slots,
+        },
     );
     Grown {
         code: status.code(),
@@ -265,8 +267,10 @@ fn a_new_file_that_reads_otherwise_than_it_was_written_is_not_put(
         &mut old,
         &mut new,
         &mut name,
-        Format::Two,
-        4,
+        Header {
+            format: Format::Two,
+            slots: 4,
+        },
     );
     assert_eq!(rt; status.code(), 1);
     assert_eq!(rt; printed.as_slice(), b"refused new 3\n".as_slice());

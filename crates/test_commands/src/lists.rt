@@ -2,7 +2,7 @@
 use crate::commands::{Ran, disk_with};
 use lazyset_set_commands::{Lines, Shown, make_keys_on, survey_on};
 use lz_disk::MemoryDisk;
-use lz_slot::Format;
+use lz_slot::{Format, Header};
 use std::alloc::{AllocError, Global};
 use std::test::Fail;
 use test_support::{ENDS, FAILINGS, Narrow, Slow, set_failing};
@@ -28,8 +28,7 @@ fn list(alloc: Global, disk: MemoryDisk, list: &[u8], slots: u64, format: Format
         &mut reader,
         &mut printed,
         &mut disk,
-        slots,
-        format,
+        Header { format, slots },
         Lines::Keys,
     );
     Ran {
@@ -103,8 +102,10 @@ fn a_failed_read_ends_a_list(rt: HostRuntime) -> Result<(), Fail> {
                 &mut reader,
                 &mut output,
                 &mut disk,
-                3,
-                Format::Three,
+                Header {
+                    format: Format::Three,
+                    slots: 3,
+                },
                 Lines::Keys,
             );
             let is_told = status.code() == 1 && output.as_slice() == b"noread\n".as_slice();
@@ -126,8 +127,10 @@ fn a_failed_write_ends_a_list(rt: HostRuntime) -> Result<(), Fail> {
             &mut reader,
             &mut writer,
             &mut disk,
-            3,
-            Format::Three,
+            Header {
+                format: Format::Three,
+                slots: 3,
+            },
             Lines::Keys,
         );
         let is_told = status.code() == u8::from(room < 7)

@@ -2,15 +2,15 @@
 use Rattle.lz_slot.specs.declared.command.Command.TheVariants as command
 use Rattle.lz_machine.specs.declared.event.Reply.TheVariants as given
 use Rattle.lz_set.specs.declared.fault.Fault.TheVariants as fault
-use Rattle.std.proofs.Common.{◌≡◌, inl, inr, ⊎_elim, ℕ, ◌≤◌, Bool, true, false, Some, Result, Ok, Err, refl, sym, ◌∙◌, subst, arith}
-use Rattle.std.{proofs.lemmas.Map.Made.{length-le_from_is_member}, specs.Cmp.{nat_eq_equiv}}
-use Rattle.lz_slot.{specs.{Sets.{Keys, Same, after, HasMembers}, declared.{command.Command.{Command}, format.Format.{Format}}}, proofs.Sets.{members_among}}
+use Rattle.std.proofs.Common.{◌≡◌, inl, inr, ⊎_elim, ℕ, Bool, true, false, Some, Result, Ok, Err, refl, sym, subst, arith}
+use Rattle.lz_slot.specs.{Sets.{Keys, Same, after, HasMembers}, declared.{command.Command.{Command}, format.Format.{Format}}}
 use Rattle.lz_machine.specs.declared.event.Reply.{Reply as Given}
 use Rattle.lz_proto.specs.declared.{request.Request.{Request, TheVariants.{Add, Remove, Has, Quit}}, reply.Reply.{Reply}}
 use Rattle.lz_proto.specs.declared.reply.Reply.TheVariants.{Yes, No, Full, Halted, Worn, OldFile}
 use Rattle.lz_set.specs.{declared.fault.Fault.{Fault}, Answers.{reply_of}}
 use Rattle.lz_serve.specs.Replies.{command_of, client_reply}
 use Rattle.lz_refinement.specs.{OneCaller.{HasRoom, IsPlainAnswer}, Sessions.{cuts_off}}
+use Rattle.lazyset_file_commands.proofs.CountRows.{no_larger}
 use Rattle.lazyset_set_commands.specs.PlainReplies.{PassAnswers, PassMayAnswer}
 
 -- the reply that tells an answer of the machine
@@ -36,15 +36,6 @@ shown_of (Err fault.Device) = refl
 -- sets with the same keys are one
 pub same_is : (S T : Keys) → Same S T → S ≡ T
 same_is S T same = λ i. λ k. same k i
-
--- a set has one size
-no_larger : (S : Keys) (n m : ℕ) → HasMembers S n → HasMembers S m → n ≤ m
-no_larger S n m one other =
-    let within = length-le_from_is_member nat_eq_equiv one.keys other.keys one.distinct
-    (λ q is. sym (members_among other.keys q) ∙ sym (other.all q) ∙ one.all q ∙ members_among one.keys q ∙ is) in
-    let a = one.count in
-    let b = other.count in
-    omega (arith, within, a, b)
 
 -- one with room has fewer members than slots
 room : (N : ℕ) (S : Keys) → HasRoom N S → HasMembers S N → ⊥
